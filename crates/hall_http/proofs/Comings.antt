@@ -1,85 +1,115 @@
 -- What was done of what the sockets said.
-use Rattle.std.proofs.Common.{◌≡◌, ◌∙◌, sym, ap, refl, arith, ℕ, ◌+◌, inr, [], ◌∷◌, ◌++◌, length, append_assoc, length-append}
+use Rattle.std.proofs.Common.{◌≡◌, ◌∙◌, sym, ap, subst, refl, arith, ℕ, ◌+◌, inr, [], ◌∷◌, ◌++◌, length, append_assoc, ◌≤◌, drop}
+use Rattle.std.proofs.Common.{length-append}
 use Rattle.std.specs.Prelude.{All}
-use Rattle.std.proofs.lemmas.List.{append-nil}
+use Rattle.std.proofs.lemmas.List.{append-nil, drop-append-le, drop_all}
 use Rattle.std.proofs.lemmas.List.Elements.{All-nil, All-push}
-use Rattle.hall_http.specs.Coming.{Nexts, IsStep, newcomer, newcomers, EndsBy, AreDone}
+use Rattle.hall_http.specs.Coming.{Nexts, Said, IsFreshPeer, IsStep, newcomer, since, AreCounted, EndsBy, AreDone}
+use Rattle.hall_http.specs.Peer.{Traffic}
 use Rattle.hall_http.specs.declared.server.Next.{Next}
 use Rattle.hall_http.specs.declared.server.Next.TheVariants as next
 use Rattle.hall_http.specs.declared.server.ServeAllEnd.{ServeAllEnd}
 use Rattle.hall_http.specs.declared.server.ServeAllEnd.TheVariants as end
 
-pub same_count : (many most : ℕ) → most ≡ many → most ≡ many + 0
-same_count many most same = omega (arith, same)
+pub same_count : (many : ℕ) → many + 0 ≡ many
+same_count many = omega arith
 
-module _ {P : Type 0} where
-  newcomers_more : (xs : Nexts P) (x : Next P) → newcomers (xs ++ x ∷ []) ≡ newcomers xs + newcomer x
-  newcomers_more [] x = omega arith
-  newcomers_more (y ∷ xs) x = let rest = newcomers_more xs x in omega (arith, rest)
+pub since_none : {P : Type 0} (before : Said P) → since before before ≡ []
+since_none before = drop_all (length before.nexts) before.nexts (omega arith)
+
+module _ {P : Type 0} (traffic : P → Traffic) where
+  counted_more : (few : ℕ) (xs : Nexts P) (many : ℕ) (x : Next P) → AreCounted traffic few xs many
+      → IsFreshPeer traffic many x → AreCounted traffic few (xs ++ x ∷ []) (many + newcomer x)
+  counted_more few [] many x same fresh =
+      (subst (λ (n : ℕ). IsFreshPeer traffic n x) same fresh, ap (λ (n : ℕ). n + newcomer x) same)
+  counted_more few (y ∷ xs) many x (first, rest) fresh =
+      (first, counted_more (few + newcomer y) xs many x rest fresh)
 
   -- so many things were done so far
-  pub record DoneSoFar (before after : Nexts P) (few many count : ℕ) : Type 0 where
+  pub record DoneSoFar (before after : Said P) (count : ℕ) : Type 0 where
     pub steps : Nexts P
-    pub said : after ≡ before ++ steps
+    pub said : after.nexts ≡ before.nexts ++ steps
     pub each : All IsStep steps
-    pub came : many ≡ few + newcomers steps
+    pub came : AreCounted traffic before.count steps after.count
     pub counted : length steps ≡ count
 
-  pub done_start : (before : Nexts P) (few : ℕ) → DoneSoFar before before few few 0
-  done_start before few = record {
+  pub done_start : (before : Said P) → DoneSoFar before before 0
+  done_start before = record {
     steps = [];
-    said = sym (append-nil before);
+    said = sym (append-nil before.nexts);
     each = All-nil IsStep;
-    came = omega arith;
+    came = refl;
     counted = refl;
   }
 
-  module _ (before after : Nexts P) (few many count : ℕ) (done : DoneSoFar before after few many count) where
+  -- one thing more was said
+  pub since_more : (before after : Said P) (count : ℕ) → DoneSoFar before after count → (x : Next P) (then : Said P)
+      → then.nexts ≡ after.nexts ++ x ∷ [] → since before then ≡ since before after ++ x ∷ []
+  since_more before after count done x then said =
+      let long : length before.nexts ≤ length after.nexts =
+      omega (arith, ap length done.said, length-append before.nexts done.steps) in
+      ap (drop (length before.nexts)) said ∙ drop-append-le (length before.nexts) after.nexts (x ∷ []) long
+
+  module _ (before after : Said P) (count : ℕ) (done : DoneSoFar before after count) (x : Next P) (then : Said P)
+      (fresh : IsFreshPeer traffic after.count x) (many : then.count ≡ after.count + newcomer x)
+      (said : then.nexts ≡ after.nexts ++ x ∷ []) where
+    abbrev steps : Nexts P
+    steps = done.steps ++ x ∷ []
+
+    more : then.nexts ≡ before.nexts ++ steps
+    more = said ∙ ap (λ (all : Nexts P). all ++ x ∷ []) done.said ∙ append_assoc before.nexts done.steps (x ∷ [])
+
+    came : AreCounted traffic before.count steps then.count
+    came =
+        subst (λ (n : ℕ). AreCounted traffic before.count steps n) (sym many)
+        (counted_more before.count done.steps after.count x done.came fresh)
+
     -- one step more
-    pub done_step : (x : Next P) (then : Nexts P) (most : ℕ) → IsStep x → then ≡ after ++ x ∷ [] → most ≡ many + newcomer x
-        → DoneSoFar before then few most (count + 1)
-    done_step x then most step said came = record {
-      steps = done.steps ++ x ∷ [];
-      said = said ∙ ap (λ (all : Nexts P). all ++ x ∷ []) done.said ∙ append_assoc before done.steps (x ∷ []);
+    pub done_step : IsStep x → DoneSoFar before then (count + 1)
+    done_step step = record {
+      steps = steps;
+      said = more;
       each = All-push IsStep done.steps x done.each step;
-      came = omega (arith, came, done.came, newcomers_more done.steps x);
+      came = came;
       counted = omega (arith, length-append done.steps (x ∷ []), done.counted);
     }
 
-    -- and a last thing, which is no step
-    pub done_last : (x : Next P) (then : Nexts P) (why : ServeAllEnd) → then ≡ after ++ x ∷ []
-        → EndsBy why done.steps (x ∷ []) → AreDone why before then few many
-    done_last x then why said ends = record {
+    -- and a last thing, which is no step and no newcomer
+    pub done_last : (why : ServeAllEnd) → newcomer x ≡ 0 → EndsBy why done.steps (x ∷ [])
+        → AreDone traffic why before then
+    done_last why none ends = record {
       steps = done.steps;
       last = x ∷ [];
       said = said ∙ ap (λ (all : Nexts P). all ++ x ∷ []) done.said;
       each = done.each;
-      came = done.came;
+      came = subst (λ (n : ℕ). AreCounted traffic before.count done.steps n) (omega (arith, many, none)) done.came;
       ended = ends;
     }
 
-    -- so many that none is done any more
-    pub done_all : count ≡ 18446744073709551615 → AreDone end.Refused before after few many
-    done_all all = record {
-      steps = done.steps;
-      last = [];
-      said = done.said ∙ sym (append-nil (before ++ done.steps));
-      each = done.each;
-      came = done.came;
-      ended = inr (refl, done.counted ∙ all);
-    }
+  -- so many that none is done any more
+  pub done_all : (before after : Said P) (count : ℕ) → DoneSoFar before after count → count ≡ 18446744073709551615
+      → AreDone traffic end.Refused before after
+  done_all before after count done all = record {
+    steps = done.steps;
+    last = [];
+    said = done.said ∙ sym (append-nil (before.nexts ++ done.steps));
+    each = done.each;
+    came = done.came;
+    ended = inr (refl, done.counted ∙ all);
+  }
 
-    -- the last was a turn
-    pub done_turn : (place : ℕ) (then : Nexts P) (most : ℕ) → then ≡ after ++ next.Turn place ∷ [] → most ≡ many
-        → AreDone end.Shut before then few most
-    done_turn place then most said came =
-        record {
-          steps = done.steps ++ next.Turn place ∷ [];
-          last = [];
-          said = said ∙ ap (λ (all : Nexts P). all ++ next.Turn place ∷ []) done.said
-              ∙ append_assoc before done.steps (next.Turn place ∷ [])
-              ∙ sym (append-nil (before ++ (done.steps ++ next.Turn place ∷ [])));
-          each = All-push IsStep done.steps (next.Turn place) done.each tt;
-          came = omega (arith, came, done.came, newcomers_more done.steps (next.Turn place));
-          ended = (refl, done.steps, place, refl);
-        }
+  -- the last was a turn
+  pub done_turn : (before after : Said P) (count : ℕ) → DoneSoFar before after count → (place : ℕ) (then : Said P)
+      → then.count ≡ after.count + 0 → then.nexts ≡ after.nexts ++ next.Turn place ∷ []
+      → AreDone traffic end.Shut before then
+  unfolding done_step
+  done_turn before after count done place then many said =
+      let all = done_step before after count done (next.Turn place) then tt many said tt in
+      record {
+        steps = all.steps;
+        last = [];
+        said = all.said ∙ sym (append-nil (before.nexts ++ all.steps));
+        each = all.each;
+        came = all.came;
+        ended = (refl, done.steps, place, refl);
+      }

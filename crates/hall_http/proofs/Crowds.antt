@@ -1,6 +1,7 @@
 -- What each step of the open connections keeps.
-use Rattle.std.proofs.Common.{◌≡◌, ◌≢◌, ◌⊎◌, ◌∙◌, sym, ap, subst, refl, arith, ℕ, ◌+◌, ◌<◌, ◌==◌, inl, inr, List, [], ◌∷◌, ◌++◌}
-use Rattle.std.proofs.Common.{length, take, drop, get_or, Option, Some, None, append_assoc, true, false}
+use Rattle.std.proofs.Common.{◌≡◌, ◌≢◌, ◌⊎◌, ◌∙◌, sym, ap, subst, refl, arith, ℕ, suc, ◌+◌, ◌<◌, ◌≤◌, ◌==◌, inl, inr}
+use Rattle.std.proofs.Common.{List, [], ◌∷◌, ◌++◌, length, take, drop, get_or, Option, Some, None, append_assoc}
+use Rattle.std.proofs.Common.{true, false}
 use Rattle.std.specs.Prelude.{Bool, All, slice_set}
 use Rattle.std.specs.Vec.{with_item}
 use Rattle.std.proofs.lemmas.Bool.{eqb-true, eqb-false}
@@ -8,31 +9,40 @@ use Rattle.std.proofs.lemmas.Option.{same_Some}
 use Rattle.std.proofs.lemmas.List.{append-nil, take-append-drop, set-get_or}
 use Rattle.std.proofs.lemmas.List.Elements.{All-nil, All-push, All-append}
 use Rattle.hall_http.specs.Served.{refusal}
-use Rattle.hall_http.specs.Connection.{Exchange, AreMoments, requests_of}
+use Rattle.hall_http.specs.Connection.{Exchange, AreMoments, IsOpen, requests_of}
+use Rattle.hall_http.specs.Peer.{Traffic}
 use Rattle.hall_http.specs.Resting.{RestingSession}
-use Rattle.hall_http.specs.Crowd.{AreKept, AreTold, IsAt, HasGone, Serves}
-use Rattle.hall_http.specs.Head.{HasNone}
+use Rattle.hall_http.specs.Crowd.{AreApart, AreKept, AreThose, AreTold, HasGone, IsAt, AreGone, IsPast, IsHandedOut}
+use Rattle.hall_http.specs.Crowd.{AnswersNoMore, AreOf, AreStill, ComesTo, HasAt, Past, Serves, number_past, traffic_past}
+use Rattle.hall_http.specs.Head.{HasNone, IsWhole}
 use Rattle.hall_http.specs.History.{History, Stands, IsReplying, IsRefusing, Ends}
-use Rattle.hall_http.specs.Turns.{Turn, exchanges_of, of, AreSent, IsRefusedAfter, HasEnded, IsTold, IsClient}
+use Rattle.hall_http.specs.Turns.{Turn, Service, exchanges_of, of, AreOpenButLast, AreSent, HasEnded, IsTold, IsClient}
+use Rattle.hall_http.specs.Turns.{IsRefusedAfter, IsRefusedRightly}
 use Rattle.hall_http.specs.Turns.{IsPlaceKept, IsPlaceTurned}
 use Rattle.http_server.specs.declared.log.Log.{Log}
+use Rattle.hall_http.specs.Reading.{at_first}
 use Rattle.hall_http.specs.declared.client.Client.{Client}
 use Rattle.hall_http.specs.declared.clients.Clients.{Clients}
+use Rattle.hall_http.specs.declared.peer.Closed.{Closed}
 use Rattle.hall_http.specs.declared.connection.Connection.{Connection}
 use Rattle.hall_http.specs.declared.connection.ServeEnd.TheVariants as end
 use Rattle.hall_http.specs.declared.connection.State.{State}
 use Rattle.hall_http.specs.declared.connection.State.TheVariants as state
 use Rattle.hall_http.proofs.Histories.{stands_at}
 use Rattle.hall_http.proofs.Rested.{no_session}
-use Rattle.hall_http.proofs.Numbers.{numbered, exchanges_numbered, of_none, own_more, others_same, known_more, read_at, where_is, is_there, is_still}
+use Rattle.hall_http.proofs.Numbers.{numbered, exchanges_numbered, of_none, own_more, others_same, known_more, read_at}
+use Rattle.hall_http.proofs.Numbers.{where_is, is_there, is_still}
+use Rattle.hall_http.proofs.SoFar.{handled_none, still_same}
 
--- what is told by a history, where these bytes were read off after its end
-abbrev Told : History → Connection → List ℕ → Type 0
-Told t k off =
-    AreSent t.exchanges t.went ⊎ (IsRefusedAfter t.exchanges t.went × HasNone (k.inbox ++ off))
+-- what is told by a history, where a read told that no more comes or none did, and these bytes were read off after its
+-- end
+abbrev Told : History → Connection → Bool → List ℕ → Type 0
+Told t k over off =
+    AreSent t.exchanges t.went
+    ⊎ (IsRefusedAfter t.exchanges t.went × IsRefusedRightly t.exchanges k.inbox over × HasNone (k.inbox ++ off))
 
-replying_told : (t : History) (k : Connection) (off : List ℕ) → IsReplying t k → Told t k off
-replying_told t k off r =
+replying_told : (t : History) (k : Connection) (over : Bool) (off : List ℕ) → IsReplying t k → Told t k over off
+replying_told t k over off r =
     inl (inr (
       r.before,
       r.last,
@@ -50,31 +60,74 @@ no_request t k off (goes_on, inl (some, unfinished, over)) (inl none) =
 no_request t k off (goes_on, inl (some, unfinished, over)) (inr more) = let clash = sym more ∙ over in absurd cc
 no_request t k off (goes_on, inr (never, more)) quiet = never off
 
-refusing_told : (t : History) (k : Connection) (off : List ℕ) → IsRefusing t k → Ends end.BadHead t k.inbox
-    → (off ≡ []) ⊎ (t.ended ≡ false) → Told t k off
-refusing_told t k off r why quiet =
-    inr (
-      (take k.sent refusal, drop k.sent refusal, sym (take-append-drop k.sent refusal), r.told),
-      no_request t k off why quiet,
-    )
+refused_rightly : (t : History) (k : Connection) (over : Bool) → Ends end.BadHead t k.inbox
+    → (t.ended ≡ true → over ≡ true) → IsRefusedRightly t.exchanges k.inbox over
+refused_rightly t k over (goes_on, inl (some, unfinished, ended)) at_end =
+    (goes_on, inr (some, unfinished, at_end ended))
+refused_rightly t k over (goes_on, inr (never, more)) at_end = (goes_on, inl never)
 
-told_by : (s : State) (t : History) (k : Connection) → Stands s t k → (off : List ℕ) → (off ≡ []) ⊎ (t.ended ≡ false)
-    → Told t k off
-told_by state.Looking t k free off quiet = inl (inl free.told)
-told_by state.Reading t k (free, unfinished, seldom) off quiet = inl (inl free.told)
-told_by (state.Writing None) t k (r, goes_on) off quiet = replying_told t k off r
-told_by (state.Writing (Some end.Closed)) t k (r, why) off quiet = replying_told t k off r
-told_by (state.Writing (Some end.Limit)) t k (r, why) off quiet = replying_told t k off r
-told_by (state.Writing (Some end.BadHead)) t k (r, why) off quiet = refusing_told t k off r why quiet
-told_by (state.Writing (Some end.Device)) t k (r, why) off quiet = absurd why
-told_by (state.Ended end.Closed) t k (told, why) off quiet = inl (inl told)
-told_by (state.Ended end.Limit) t k (told, why) off quiet = inl (inl told)
-told_by (state.Ended end.BadHead) t k (told, why) off quiet =
-    inr ((refusal, [], sym (append-nil refusal), told), no_request t k off why quiet)
-told_by (state.Ended end.Device) t k (told, why) off quiet = absurd why
+module _ (t : History) (k : Connection) (over : Bool) (at_end : t.ended ≡ true → over ≡ true) (off : List ℕ)
+    (quiet : (off ≡ []) ⊎ (t.ended ≡ false)) where
+  refusing_told : IsRefusedAfter t.exchanges t.went → Ends end.BadHead t k.inbox → Told t k over off
+  refusing_told refused why = inr (refused, refused_rightly t k over why at_end, no_request t k off why quiet)
 
-module _ {P : Type 0} (came went : P → List ℕ) where
-  still_none : (xs : List Exchange) (k : Client P) → (is : IsClient came went xs k)
+  told_by : (s : State) → Stands s t k → Told t k over off
+  told_by state.Looking free = inl (inl free.told)
+  told_by state.Reading (free, unfinished, seldom) = inl (inl free.told)
+  told_by (state.Writing None) (r, goes_on) = replying_told t k over off r
+  told_by (state.Writing (Some end.Closed)) (r, why) = replying_told t k over off r
+  told_by (state.Writing (Some end.Limit)) (r, why) = replying_told t k over off r
+  told_by (state.Writing (Some end.BadHead)) (r, why) =
+      refusing_told (take k.sent refusal, drop k.sent refusal, sym (take-append-drop k.sent refusal), r.told) why
+  told_by (state.Writing (Some end.Device)) (r, why) = absurd why
+  told_by (state.Ended end.Closed) (told, why) = inl (inl told)
+  told_by (state.Ended end.Limit) (told, why) = inl (inl told)
+  told_by (state.Ended end.BadHead) (told, why) = refusing_told (refusal, [], sym (append-nil refusal), told) why
+  told_by (state.Ended end.Device) (told, why) = absurd why
+
+replying_opened : (t : History) (k : Connection) → IsReplying t k → AreOpenButLast t.exchanges
+replying_opened t k r = inr (r.before, r.last, r.is_last.all, r.opened)
+
+-- nothing was answered after a request that closes the connection
+opened_by : (s : State) (t : History) (k : Connection) → Stands s t k → AreOpenButLast t.exchanges
+opened_by state.Looking t k free = inl free.goes_on.0
+opened_by state.Reading t k (free, unfinished, seldom) = inl free.goes_on.0
+opened_by (state.Writing None) t k (r, goes_on) = inl goes_on.0
+opened_by (state.Writing (Some end.Closed)) t k (r, why) = replying_opened t k r
+opened_by (state.Writing (Some end.Limit)) t k (r, why) = replying_opened t k r
+opened_by (state.Writing (Some end.BadHead)) t k (r, why) = inl why.0.0
+opened_by (state.Writing (Some end.Device)) t k (r, why) = absurd why
+opened_by (state.Ended end.Closed) t k (told, inl (goes_on, none, over)) = inl goes_on.0
+opened_by (state.Ended end.Closed) t k (told, inr ((before, last, is_last, opened, closing), more)) =
+    inr (before, last, is_last.all, opened)
+opened_by (state.Ended end.Limit) t k (told, why) = inl why.0
+opened_by (state.Ended end.BadHead) t k (told, why) = inl why.0.0
+opened_by (state.Ended end.Device) t k (told, why) = absurd why
+
+-- of one of which nothing came and to which nothing went
+told_none : (t : Traffic) → t.came ≡ [] → t.went ≡ [] → IsTold [] t
+told_none t none unsent = record {
+  rest = [];
+  spelled = none;
+  whole = All-nil (λ x. IsWhole x.request);
+  opened = inl (All-nil (λ x. IsOpen x.request));
+  told = inl (inl unsent);
+  few = omega arith;
+  pieces = 0;
+  unread = [];
+  off = [];
+  seldom = omega arith;
+  reading = at_first;
+  bounded = omega arith;
+  parts = refl;
+  quiet = inl refl;
+}
+
+module _ {P : Type 0} (traffic : P → Traffic) where
+  abbrev number : Client P → ℕ
+  number k = (traffic k.peer).number
+
+  still_none : (xs : List Exchange) (k : Client P) → (is : IsClient traffic xs k)
       → (is.off ≡ []) ⊎ (is.history.ended ≡ false)
   still_none xs k is =
       elim is.quiet [
@@ -82,7 +135,7 @@ module _ {P : Type 0} (came went : P → List ℕ) where
         | inr x ↦ inr x.2
       ]
 
-  has_ended : (xs : List Exchange) (k : Client P) → (is : IsClient came went xs k)
+  has_ended : (xs : List Exchange) (k : Client P) → (is : IsClient traffic xs k)
       → (is.off ≡ []) ⊎ HasEnded is.history.exchanges is.history.pieces k.connection.inbox
   has_ended xs k is =
       elim is.quiet [
@@ -97,16 +150,21 @@ module _ {P : Type 0} (came went : P → List ℕ) where
         )
       ]
 
-  pub client_told : (xs : List Exchange) (k : Client P) → IsClient came went xs k → IsTold xs (came k.peer) (went k.peer)
+  pub client_told : (xs : List Exchange) (k : Client P) → IsClient traffic xs k → IsTold xs (traffic k.peer)
   client_told xs k is =
-      let told = told_by k.connection.state is.history k.connection is.has.stands is.off (still_none xs k is) in
-      rw (is.heard, is.sent, sym is.answered)
+      let told =
+      told_by is.history k.connection ((traffic k.peer).over) is.at_end is.off (still_none xs k is) k.connection.state
+      is.has.stands in
+      let spelled =
+      is.heard ∙ ap (λ s. s ++ is.off) is.has.came
+      ∙ append_assoc (requests_of is.history.exchanges) k.connection.inbox is.off in
+      subst (λ (xs : List Exchange). IsTold xs (traffic k.peer)) is.answered
       (record {
         rest = k.connection.inbox ++ is.off;
-        spelled = ap (λ s. s ++ is.off) is.has.came
-            ∙ append_assoc (requests_of is.history.exchanges) k.connection.inbox is.off;
+        spelled = spelled;
         whole = is.has.whole;
-        told = told;
+        opened = opened_by k.connection.state is.history k.connection is.has.stands;
+        told = rw is.sent told;
         few = is.has.few;
         pieces = is.history.pieces;
         unread = k.connection.inbox;
@@ -118,348 +176,486 @@ module _ {P : Type 0} (came went : P → List ℕ) where
         quiet = has_ended xs k is;
       })
 
-  pub kept_told : (turns : List Turn) (s : Clients P) → AreKept came went turns s → AreTold came went turns s
-  kept_told turns s kept = record {
-    numbered = kept.numbered;
-    here = λ place k at. client_told (of k.number turns) k (kept.here place k at);
-    gone = kept.gone;
-    away = kept.away;
-  }
+  -- ---- lists of those that have gone
+  has_gone_more : (n : ℕ) (gone : List (Past P)) (one : Past P) → HasGone traffic n gone
+      → HasGone traffic n (gone ++ one ∷ [])
+  has_gone_more n gone one (front, it, rest, is, equal) = (
+    front,
+    it,
+    rest ++ one ∷ [],
+    ap (λ (all : List (Past P)). all ++ one ∷ []) is ∙ append_assoc front (it ∷ rest) (one ∷ []),
+    equal,
+  )
+
+  apart_more : (gone : List (Past P)) (one : Past P) → AreApart traffic gone
+      → All (λ other. number_past traffic other ≢ number_past traffic one) gone → AreApart traffic (gone ++ one ∷ [])
+  apart_more [] one apart others =
+      (All-nil (λ (other : Past P). number_past traffic other ≢ number_past traffic one), tt)
+  apart_more (it ∷ gone) one (first, rest) others = (
+    All-push (λ (other : Past P). number_past traffic other ≢ number_past traffic it) gone one first
+        (λ equal. others 0 it (omega arith) (sym equal)),
+    apart_more gone one rest (λ i d inside. others (suc i) d (omega arith)),
+  )
 
   -- none came yet
-  pub kept_none : (s : Clients P) → ((i : ℕ) → get_or s.places.items i None ≡ None) → s.count ≡ 0 → s.gone.items ≡ []
-      → s.away.items ≡ [] → AreKept came went [] s
-  kept_none s empty none unsaid unturned = record {
+  pub kept_none : (s : Clients P) → AreGone s → s.gone.items ≡ [] → (n : ℕ) → AreKept traffic n n [] s
+  kept_none s empty none n = record {
     numbered = record {
-      known = All-nil (λ turn. turn.0 < s.count);
+      order = omega arith;
+      known = All-nil (λ turn. IsHandedOut n n turn.0);
       counted = λ place k at. let clash = sym (empty place) ∙ at in absurd cc;
       apart = λ place other k l at there same. let clash = sym (empty place) ∙ at in absurd cc;
       left = λ place k at. let clash = sym (empty place) ∙ at in absurd cc;
-      past = rw unsaid (All-nil (λ (one : P × ℕ). one.1 < s.count));
-      found = λ number below. absurd (omega arith);
+      past = rw none (All-nil (λ (one : Past P). IsHandedOut n n (number_past traffic one)));
+      once = rw none tt;
+      found = λ number within. absurd (omega (arith, within.0, within.1));
     };
     here = λ place k at. let clash = sym (empty place) ∙ at in absurd cc;
-    gone = rw unsaid (All-nil (λ (one : P × ℕ). IsTold (of one.1 []) (came one.0) (went one.0)));
-    away = rw unturned (All-nil (λ (one : P × ℕ). (came one.0 ≡ []) × (went one.0 ≡ [])));
+    gone = rw none (All-nil (IsPast traffic []));
   }
 
   -- nothing changed
-  kept_same : (turns : List Turn) (s u : Clients P) → u.places.items ≡ s.places.items → u.count ≡ s.count
-      → u.gone.items ≡ s.gone.items → u.away.items ≡ s.away.items → AreKept came went turns s → AreKept came went turns u
-  kept_same turns s u items count gone away kept = record {
+  kept_same : (few many : ℕ) (turns : List Turn) (s u : Clients P) → u.places.items ≡ s.places.items
+      → u.gone.items ≡ s.gone.items → AreKept traffic few many turns s → AreKept traffic few many turns u
+  kept_same few many turns s u items gone kept = record {
     numbered = record {
-      known = rw count kept.numbered.known;
-      counted = λ place k at. rw count (kept.numbered.counted place k (rw items at at));
+      order = kept.numbered.order;
+      known = kept.numbered.known;
+      counted = λ place k at. kept.numbered.counted place k (rw items at at);
       apart = λ place other k l at there same.
           kept.numbered.apart place other k l (rw items at at) (rw items at there) same;
       left = λ place k at. rw gone (kept.numbered.left place k (rw items at at));
-      past = rw (gone, count) kept.numbered.past;
-      found = λ number below. rw (items, gone) (kept.numbered.found number (rw count at below));
+      past = rw gone kept.numbered.past;
+      once = rw gone kept.numbered.once;
+      found = λ number within. rw (items, gone) (kept.numbered.found number within);
     };
     here = λ place k at. kept.here place k (rw items at at);
     gone = rw gone kept.gone;
-    away = rw away kept.away;
   }
 
-  -- a newcomer was turned away
-  pub kept_away : (turns : List Turn) (s : Clients P) (away : Log P ℕ) (p : P) (n : ℕ) → came p ≡ [] → went p ≡ []
-      → away.items ≡ s.away.items ++ (p, n) ∷ [] → AreKept came went turns s → AreKept came went turns (record s { away = away })
-  kept_away turns s away p n none unsent items kept = record {
-    numbered = record {
-      known = kept.numbered.known;
-      counted = kept.numbered.counted;
-      apart = kept.numbered.apart;
-      left = kept.numbered.left;
-      past = kept.numbered.past;
-      found = kept.numbered.found;
-    };
-    here = kept.here;
-    gone = kept.gone;
-    away = rw items
-        (All-push (λ (one : P × ℕ). (came one.0 ≡ []) × (went one.0 ≡ [])) s.away.items (p, n) kept.away (none, unsent));
-  }
+  -- all have gone
+  module _ (few many : ℕ) (turns : List Turn) (s : Clients P) (kept : AreKept traffic few many turns s)
+      (empty : AreGone s) where
+    gone_of : (n : ℕ) → IsHandedOut few many n → HasGone traffic n s.gone.items
+    gone_of n within =
+        elim (kept.numbered.found n within) [
+          | inl x ↦ let clash = sym (empty x.0) ∙ x.2 in absurd cc
+          | inr gone ↦ gone
+        ]
 
-  module _ (turns : List Turn) (s : Clients P) (kept : AreKept came went turns s) (place : ℕ)
-      (inside : place < length s.places.items) where
-    -- a newcomer
-    module _ (k : Client P) (free : get_or s.places.items place None ≡ None) (number : k.number ≡ s.count)
-        (is : IsClient came went [] k) where
-      abbrev seated : Clients P
-      seated = record { places = with_item s.places place (Some k); count = s.count + 1; gone = s.gone; away = s.away }
+    pub kept_told : AreTold traffic turns s.gone.items
+    kept_told = record {
+      known = λ i d inside. gone_of (get_or turns i d).0 (kept.numbered.known i d inside);
+      apart = kept.numbered.once;
+      told = kept.gone;
+    }
 
-      seated_at : (other : ℕ) (w : Client P) → IsAt seated other w
-          → ((other ≡ place) × (w ≡ k)) ⊎ ((other ≢ place) × IsAt s other w)
-      seated_at other w at =
-          elim (where_is s.places.items place (Some k) inside other w at) [
-            | inl x ↦ inl (x.0, sym (same_Some k w x.1))
-            | inr x ↦ inr x
+    pub kept_those : AreThose traffic few many s.gone.items
+    kept_those = record { within = kept.numbered.past; found = gone_of }
+
+  module _ (few many : ℕ) (turns : List Turn) (s : Clients P) (kept : AreKept traffic few many turns s) where
+    within_more : (n : ℕ) → IsHandedOut few many n → IsHandedOut few (many + 1) n
+    within_more n within = (within.0, omega (arith, within.1))
+
+    -- of the next number none is here or has gone, and nothing was answered
+    unheard : of many turns ≡ []
+    unheard = of_none many turns (λ i d inside. (kept.numbered.known i d inside).1)
+
+    -- a newcomer was turned away
+    module _ (u : Clients P) (closed : Closed P) (place : Option ℕ) (next : (traffic closed.peer).number ≡ many)
+        (items : u.places.items ≡ s.places.items) (gone : u.gone.items ≡ s.gone.items ++ (closed, place) ∷ [])
+        (none : (traffic closed.peer).came ≡ []) (unsent : (traffic closed.peer).went ≡ []) where
+      away_found : (n : ℕ) (b : Bool) → (n == many) ≡ b → IsHandedOut few (many + 1) n
+          → ((other : ℕ) × (w : Client P) × IsAt u other w × (number w ≡ n)) ⊎ HasGone traffic n u.gone.items
+      away_found n true e within =
+          inr (s.gone.items, (closed, place), [], gone, next ∙ sym (eqb-true _ _ e))
+      away_found n false e within =
+          let other : n ≢ many = eqb-false _ _ e in
+          elim (kept.numbered.found n (within.0, omega (arith, other, within.1))) [
+            | inl x ↦ inl (x.0, x.1, rw items x.2, x.3)
+            | inr x ↦ inr (rw gone (has_gone_more n s.gone.items (closed, place) x))
           ]
 
-      seated_counted : (other : ℕ) (w : Client P)
-          → ((other ≡ place) × (w ≡ k)) ⊎ ((other ≢ place) × IsAt s other w) → w.number < s.count + 1
-      seated_counted other w (inl (here, same)) = omega (arith, number, ap (λ (k : Client P). k.number) same)
-      seated_counted other w (inr (there, at)) = omega (arith, kept.numbered.counted other w at)
+      away_past : IsPast traffic turns (closed, place)
+      away_past = (
+        subst (λ (xs : List Exchange). IsTold xs (traffic closed.peer))
+            (sym (ap (λ (n : ℕ). of n turns) next ∙ unheard))
+            (told_none (traffic closed.peer) none unsent),
+        λ away. (none, unsent),
+      )
 
-      seated_apart : (one two : ℕ) (v w : Client P)
-          → ((one ≡ place) × (v ≡ k)) ⊎ ((one ≢ place) × IsAt s one v)
-          → ((two ≡ place) × (w ≡ k)) ⊎ ((two ≢ place) × IsAt s two w) → v.number ≡ w.number → one ≡ two
-      seated_apart one two v w (inl (here, same)) (inl (too, also)) equal = here ∙ sym too
-      seated_apart one two v w (inl (here, same)) (inr (there, at)) equal =
-          absurd (omega (arith, number, ap (λ (k : Client P). k.number) same, equal, kept.numbered.counted two w at))
-      seated_apart one two v w (inr (there, at)) (inl (here, same)) equal =
-          absurd (omega (arith, number, ap (λ (k : Client P). k.number) same, equal, kept.numbered.counted one v at))
-      seated_apart one two v w (inr (there, at)) (inr (too, also)) equal = kept.numbered.apart one two v w at also equal
-
-      seated_left : (other : ℕ) (w : Client P) → ((other ≡ place) × (w ≡ k)) ⊎ ((other ≢ place) × IsAt s other w)
-          → All (λ one. one.1 ≢ w.number) s.gone.items
-      seated_left other w (inl (here, same)) = λ i d within equal.
-          let low = kept.numbered.past i d within in
-          let high : w.number ≡ s.count = ap (λ (k : Client P). k.number) same ∙ number in
-          absurd (omega (arith, low, high, equal))
-      seated_left other w (inr (there, at)) = kept.numbered.left other w at
-
-      seated_found : (n : ℕ) (b : Bool) → (n == s.count) ≡ b → n < s.count + 1
-          → ((other : ℕ) × (w : Client P) × IsAt seated other w × (w.number ≡ n)) ⊎ HasGone n s.gone.items
-      seated_found n true e below = inl (place, k, is_there s.places.items place (Some k) inside, number ∙ sym (eqb-true _ _ e))
-      seated_found n false e below =
-          let other : n ≢ s.count = eqb-false _ _ e in
-          elim (kept.numbered.found n (omega (arith, other, below))) [
-            | inl x ↦ inl (
-              x.0,
-              x.1,
-              is_still s.places.items place (Some k) inside x.0
-                  (λ same. let clash : Some x.1 ≡ None = sym x.2 ∙ rw same free in absurd cc) ∙ x.2,
-              x.3,
-            )
-            | inr x ↦ inr x
-          ]
-
-      seated_here : (other : ℕ) (w : Client P) → ((other ≡ place) × (w ≡ k)) ⊎ ((other ≢ place) × IsAt s other w)
-          → IsClient came went (of w.number turns) w
-      seated_here other w (inl (here, same)) =
-          let none : of k.number turns ≡ [] = rw number (of_none s.count turns kept.numbered.known) in
-          subst (λ (w : Client P). IsClient came went (of w.number turns) w) (sym same)
-          (subst (λ (xs : List Exchange). IsClient came went xs k) (sym none) is)
-      seated_here other w (inr (there, at)) = kept.here other w at
-
-      pub kept_seated : AreKept came went turns seated
-      kept_seated = record {
+      pub kept_away : AreKept traffic few (many + 1) turns u
+      kept_away = record {
         numbered = record {
-          known = λ i d within. let low = kept.numbered.known i d within in omega (arith, low);
-          counted = λ other w at. seated_counted other w (seated_at other w at);
+          order = omega (arith, kept.numbered.order);
+          known = λ i d inside. within_more (get_or turns i d).0 (kept.numbered.known i d inside);
+          counted = λ other w at. within_more (number w) (kept.numbered.counted other w (rw items at at));
           apart = λ one two v w at there equal.
-              seated_apart one two v w (seated_at one v at) (seated_at two w there) equal;
-          left = λ other w at. seated_left other w (seated_at other w at);
-          past = λ i d within. let low = kept.numbered.past i d within in omega (arith, low);
-          found = λ n below. seated_found n (n == s.count) refl below;
-        };
-        here = λ other w at. seated_here other w (seated_at other w at);
-        gone = kept.gone;
-        away = kept.away;
-      }
-
-    -- the connection at the place goes
-    module _ (k : Client P) (stood : IsAt s place k) (u : Clients P) (places : u.places.items ≡ slice_set s.places.items place None)
-        (count : u.count ≡ s.count) (gone : u.gone.items ≡ s.gone.items ++ (k.peer, k.number) ∷ [])
-        (away : u.away.items ≡ s.away.items) where
-      still_at : (other : ℕ) (w : Client P) → IsAt u other w → (other ≢ place) × IsAt s other w
-      still_at other w at =
-          elim (where_is s.places.items place None inside other w (rw (sym places) at)) [
-            | inl x ↦ let clash = x.1 in absurd cc
-            | inr x ↦ x
-          ]
-
-      was_at : (n other : ℕ) (w : Client P) (b : Bool) → (other == place) ≡ b → IsAt s other w → w.number ≡ n
-          → ((other : ℕ) × (w : Client P) × IsAt u other w × (w.number ≡ n)) ⊎ HasGone n u.gone.items
-      was_at n other w true e at equal =
-          let here : other ≡ place = eqb-true _ _ e in
-          let same : w ≡ k = same_Some w k (sym (rw here at at) ∙ stood) in
-          inr (s.gone.items, (k.peer, k.number), [], gone, sym (ap (λ (k : Client P). k.number) same) ∙ equal)
-      was_at n other w false e at equal =
-          inl (other, w, rw places (is_still s.places.items place None inside other (eqb-false _ _ e) ∙ at), equal)
-
-      gone_found : (n : ℕ)
-          → ((other : ℕ) × (w : Client P) × IsAt s other w × (w.number ≡ n)) ⊎ HasGone n s.gone.items
-          → ((other : ℕ) × (w : Client P) × IsAt u other w × (w.number ≡ n)) ⊎ HasGone n u.gone.items
-      gone_found n (inl (other, w, at, equal)) = was_at n other w (other == place) refl at equal
-      gone_found n (inr (front, one, rest, is, equal)) =
-          inr (
-            front,
-            one,
-            rest ++ (k.peer, k.number) ∷ [],
-            gone ∙ ap (λ (all : List (P × ℕ)). all ++ (k.peer, k.number) ∷ []) is
-                ∙ append_assoc front (one ∷ rest) ((k.peer, k.number) ∷ []),
-            equal,
-          )
-
-      pub kept_gone : AreKept came went turns u
-      kept_gone = record {
-        numbered = record {
-          known = λ i d within. rw count (kept.numbered.known i d within);
-          counted = λ other w at. rw count (kept.numbered.counted other w (still_at other w at).1);
-          apart = λ one two v w at there equal.
-              kept.numbered.apart one two v w (still_at one v at).1 (still_at two w there).1 equal;
+              kept.numbered.apart one two v w (rw items at at) (rw items at there) equal;
           left = λ other w at. rw gone
-              (All-push (λ (one : P × ℕ). one.1 ≢ w.number) s.gone.items (k.peer, k.number)
-              (kept.numbered.left other w (still_at other w at).1)
-              (λ equal. (still_at other w at).0 (kept.numbered.apart other place w k (still_at other w at).1 stood (sym equal))));
-          past = rw (gone, count)
-              (All-push (λ (one : P × ℕ). one.1 < s.count) s.gone.items (k.peer, k.number) kept.numbered.past
-              (kept.numbered.counted place k stood));
-          found = λ n below. gone_found n (kept.numbered.found n (rw count at below));
+              (All-push (λ (one : Past P). number_past traffic one ≢ number w) s.gone.items (closed, place)
+              (kept.numbered.left other w (rw items at at))
+              (λ equal.
+              let low = (kept.numbered.counted other w (rw items at at)).1 in
+              absurd (omega (arith, low, equal, next))));
+          past = rw gone
+              (All-push (λ (one : Past P). IsHandedOut few (many + 1) (number_past traffic one)) s.gone.items
+              (closed, place)
+              (λ i d inside.
+              within_more (number_past traffic (get_or s.gone.items i d)) (kept.numbered.past i d inside))
+              (omega (arith, kept.numbered.order, next), omega (arith, next)));
+          once = rw gone
+              (apart_more s.gone.items (closed, place) kept.numbered.once
+              (λ i d inside equal.
+              let low = (kept.numbered.past i d inside).1 in
+              absurd (omega (arith, low, equal, next))));
+          found = λ n within. away_found n (n == many) refl within;
         };
-        here = λ other w at. kept.here other w (still_at other w at).1;
-        gone = rw gone
-            (All-push (λ (one : P × ℕ). IsTold (of one.1 turns) (came one.0) (went one.0)) s.gone.items (k.peer, k.number) kept.gone
-            (client_told (of k.number turns) k (kept.here place k stood)));
-        away = rw away kept.away;
+        here = λ other w at. kept.here other w (rw items at at);
+        gone = rw gone (All-push (IsPast traffic turns) s.gone.items (closed, place) kept.gone away_past);
       }
 
-    -- the connection at the place goes one step
-    module _ (k l : Client P) (stood : IsAt s place k) (same_number : l.number ≡ k.number) (more : List Exchange)
-        (is : IsClient came went (of k.number turns ++ more) l) where
-      abbrev turned : Clients P
-      turned = record { places = with_item s.places place (Some l); count = s.count; gone = s.gone; away = s.away }
+    module _ (place : ℕ) (inside : place < length s.places.items) where
+      -- a newcomer
+      module _ (k : Client P) (free : get_or s.places.items place None ≡ None) (next : number k ≡ many)
+          (is : IsClient traffic [] k) where
+        abbrev seated : Clients P
+        seated = record { places = with_item s.places place (Some k); gone = s.gone }
 
-      abbrev all : List Turn
-      all = turns ++ numbered k.number more
+        seated_at : (other : ℕ) (w : Client P) → IsAt seated other w
+            → ((other ≡ place) × (w ≡ k)) ⊎ ((other ≢ place) × IsAt s other w)
+        seated_at other w at =
+            elim (where_is s.places.items place (Some k) inside other w at) [
+              | inl x ↦ inl (x.0, sym (same_Some k w x.1))
+              | inr x ↦ inr x
+            ]
 
-      turned_at : (other : ℕ) (w : Client P) → IsAt turned other w
-          → ((other ≡ place) × (w ≡ l)) ⊎ ((other ≢ place) × IsAt s other w)
-      turned_at other w at =
-          elim (where_is s.places.items place (Some l) inside other w at) [
-            | inl x ↦ inl (x.0, sym (same_Some l w x.1))
-            | inr x ↦ inr x
-          ]
+        seated_counted : (other : ℕ) (w : Client P)
+            → ((other ≡ place) × (w ≡ k)) ⊎ ((other ≢ place) × IsAt s other w) → IsHandedOut few (many + 1) (number w)
+        seated_counted other w (inl (here, same)) =
+            rw (same, next) (kept.numbered.order, omega arith)
+        seated_counted other w (inr (there, at)) = within_more (number w) (kept.numbered.counted other w at)
 
-      -- whose number it has, it stood at the same place
-      stood_at : (other : ℕ) (w : Client P) → IsAt turned other w
-          → (v : Client P) × IsAt s other v × (v.number ≡ w.number)
-      stood_at other w at =
-          elim (turned_at other w at) [
-            | inl x ↦ (k, rw x.0 stood, sym same_number ∙ sym (ap (λ (k : Client P). k.number) x.1))
-            | inr x ↦ (w, x.1, refl)
-          ]
+        seated_apart : (one two : ℕ) (v w : Client P)
+            → ((one ≡ place) × (v ≡ k)) ⊎ ((one ≢ place) × IsAt s one v)
+            → ((two ≡ place) × (w ≡ k)) ⊎ ((two ≢ place) × IsAt s two w) → number v ≡ number w → one ≡ two
+        seated_apart one two v w (inl (here, same)) (inl (too, also)) equal = here ∙ sym too
+        seated_apart one two v w (inl (here, same)) (inr (there, at)) equal =
+            absurd (omega (arith, next, ap number same, equal, (kept.numbered.counted two w at).1))
+        seated_apart one two v w (inr (there, at)) (inl (here, same)) equal =
+            absurd (omega (arith, next, ap number same, equal, (kept.numbered.counted one v at).1))
+        seated_apart one two v w (inr (there, at)) (inr (too, also)) equal =
+            kept.numbered.apart one two v w at also equal
 
-      turned_here : (other : ℕ) (w : Client P) → ((other ≡ place) × (w ≡ l)) ⊎ ((other ≢ place) × IsAt s other w)
-          → IsClient came went (of w.number all) w
-      turned_here other w (inl (here, same)) =
-          subst (λ (w : Client P). IsClient came went (of w.number all) w) (sym same)
-          (subst (λ (xs : List Exchange). IsClient came went xs l)
-          (sym (own_more k.number turns more) ∙ ap (λ (n : ℕ). of n all) (sym same_number)) is)
-      turned_here other w (inr (differs, at)) =
-          let number : k.number ≢ w.number = λ equal. differs (kept.numbered.apart other place w k at stood (sym equal)) in
-          subst (λ (xs : List Exchange). IsClient came went xs w) (sym (others_same w.number k.number turns more number))
-          (kept.here other w at)
+        seated_left : (other : ℕ) (w : Client P) → ((other ≡ place) × (w ≡ k)) ⊎ ((other ≢ place) × IsAt s other w)
+            → All (λ one. number_past traffic one ≢ number w) s.gone.items
+        seated_left other w (inl (here, same)) = λ i d within equal.
+            let low = (kept.numbered.past i d within).1 in
+            let high : number w ≡ many = ap number same ∙ next in
+            absurd (omega (arith, low, high, equal))
+        seated_left other w (inr (there, at)) = kept.numbered.left other w at
 
-      was_there : (n other : ℕ) (w : Client P) (b : Bool) → (other == place) ≡ b → IsAt s other w → w.number ≡ n
-          → ((other : ℕ) × (w : Client P) × IsAt turned other w × (w.number ≡ n)) ⊎ HasGone n s.gone.items
-      was_there n other w true e at equal =
-          let here : other ≡ place = eqb-true _ _ e in
-          let same : w ≡ k = same_Some w k (sym (rw here at at) ∙ stood) in
-          inl (
-            place,
-            l,
-            is_there s.places.items place (Some l) inside,
-            same_number ∙ sym (ap (λ (k : Client P). k.number) same) ∙ equal,
-          )
-      was_there n other w false e at equal =
-          inl (other, w, is_still s.places.items place (Some l) inside other (eqb-false _ _ e) ∙ at, equal)
+        seated_found : (n : ℕ) (b : Bool) → (n == many) ≡ b → IsHandedOut few (many + 1) n
+            → ((other : ℕ) × (w : Client P) × IsAt seated other w × (number w ≡ n)) ⊎ HasGone traffic n s.gone.items
+        seated_found n true e within =
+            inl (place, k, is_there s.places.items place (Some k) inside, next ∙ sym (eqb-true _ _ e))
+        seated_found n false e within =
+            let other : n ≢ many = eqb-false _ _ e in
+            elim (kept.numbered.found n (within.0, omega (arith, other, within.1))) [
+              | inl x ↦ inl (
+                x.0,
+                x.1,
+                is_still s.places.items place (Some k) inside x.0
+                    (λ same. let clash : Some x.1 ≡ None = sym x.2 ∙ rw same free in absurd cc) ∙ x.2,
+                x.3,
+              )
+              | inr x ↦ inr x
+            ]
 
-      turned_found : (n : ℕ)
-          → ((other : ℕ) × (w : Client P) × IsAt s other w × (w.number ≡ n)) ⊎ HasGone n s.gone.items
-          → ((other : ℕ) × (w : Client P) × IsAt turned other w × (w.number ≡ n)) ⊎ HasGone n s.gone.items
-      turned_found n (inl (other, w, at, equal)) = was_there n other w (other == place) refl at equal
-      turned_found n (inr past) = inr past
+        seated_here : (other : ℕ) (w : Client P) → ((other ≡ place) × (w ≡ k)) ⊎ ((other ≢ place) × IsAt s other w)
+            → IsClient traffic (of (number w) turns) w
+        seated_here other w (inl (here, same)) =
+            let none : of (number k) turns ≡ [] = ap (λ (n : ℕ). of n turns) next ∙ unheard in
+            subst (λ (w : Client P). IsClient traffic (of (number w) turns) w) (sym same)
+            (subst (λ (xs : List Exchange). IsClient traffic xs k) (sym none) is)
+        seated_here other w (inr (there, at)) = kept.here other w at
 
-      pub kept_turned : AreKept came went all turned
-      kept_turned = record {
-        numbered = record {
-          known = All-append (λ turn. turn.0 < s.count) turns (numbered k.number more) kept.numbered.known
-              (known_more k.number s.count more (kept.numbered.counted place k stood));
-          counted = λ other w at.
-              let (v, there, equal) = stood_at other w at in
-              omega (arith, equal, kept.numbered.counted other v there);
-          apart = λ one two v w at there equal.
-              let (a, at_a, same_a) = stood_at one v at in
-              let (b, at_b, same_b) = stood_at two w there in
-              kept.numbered.apart one two a b at_a at_b (same_a ∙ equal ∙ sym same_b);
-          left = λ other w at.
-              let (v, there, equal) = stood_at other w at in
-              subst (λ (n : ℕ). All (λ (one : P × ℕ). one.1 ≢ n) s.gone.items) equal (kept.numbered.left other v there);
-          past = kept.numbered.past;
-          found = λ n below. turned_found n (kept.numbered.found n below);
-        };
-        here = λ other w at. turned_here other w (turned_at other w at);
-        gone = λ i d within.
-            let one = get_or s.gone.items i d in
-            let number : k.number ≢ one.1 = λ equal. kept.numbered.left place k stood i d within (sym equal) in
-            subst (λ (xs : List Exchange). IsTold xs (came one.0) (went one.0))
-            (sym (others_same one.1 k.number turns more number)) (kept.gone i d within);
-        away = kept.away;
-      }
+        pub kept_seated : AreKept traffic few (many + 1) turns seated
+        kept_seated = record {
+          numbered = record {
+            order = omega (arith, kept.numbered.order);
+            known = λ i d within. within_more (get_or turns i d).0 (kept.numbered.known i d within);
+            counted = λ other w at. seated_counted other w (seated_at other w at);
+            apart = λ one two v w at there equal.
+                seated_apart one two v w (seated_at one v at) (seated_at two w there) equal;
+            left = λ other w at. seated_left other w (seated_at other w at);
+            past = λ i d within.
+                within_more (number_past traffic (get_or s.gone.items i d)) (kept.numbered.past i d within);
+            once = kept.numbered.once;
+            found = λ n within. seated_found n (n == many) refl within;
+          };
+          here = λ other w at. seated_here other w (seated_at other w at);
+          gone = kept.gone;
+        }
 
-      pub turned_exchanges : exchanges_of (numbered k.number more) ≡ more
-      turned_exchanges = exchanges_numbered k.number more
+      -- the connection at the place goes
+      module _ (k : Client P) (stood : IsAt s place k) (u : Clients P) (closed : Closed P) (had : Option ℕ)
+          (peer : closed.peer ≡ k.peer) (held : had ≢ None)
+          (places : u.places.items ≡ slice_set s.places.items place None)
+          (gone : u.gone.items ≡ s.gone.items ++ (closed, had) ∷ []) where
+        same_number : (traffic closed.peer).number ≡ number k
+        same_number = ap (λ (p : P). (traffic p).number) peer
 
-  -- nobody goes a step
-  pub serves_none : {H C : Type 0} (answers : H → Option ℕ → List ℕ → List ℕ → H → Type 0) (rests : H → H → Type 0)
-      (now_gives : C → Option ℕ → C → Type 0) (h : H) (c : C) (s : Clients P)
-      → Serves answers rests now_gives came went h c s h c s
-  serves_none answers rests now_gives h c s = λ turns kept. (
-    [],
-    no_session rests answers h,
-    refl,
-    subst (λ (all : List Turn). AreKept came went all s) (sym (append-nil turns)) kept,
-  )
+        still_at : (other : ℕ) (w : Client P) → IsAt u other w → (other ≢ place) × IsAt s other w
+        still_at other w at =
+            elim (where_is s.places.items place None inside other w (rw (sym places) at)) [
+              | inl x ↦ let clash = x.1 in absurd cc
+              | inr x ↦ x
+            ]
 
-  -- whoever stands at the place goes one step
-  module _ {H C : Type 0} (answers : H → Option ℕ → List ℕ → List ℕ → H → Type 0) (rests : H → H → Type 0)
-      (now_gives : C → Option ℕ → C → Type 0) (s : Clients P) (place : ℕ) (inside : place < length s.places.items)
-      (old new : Option (Client P)) (is : old ≡ get_or s.places.items place old) where
-    pub turn_place : (h i : H) (c d : C) → IsPlaceTurned answers rests now_gives came went h c old i d new
-        → Serves answers rests now_gives came went h c s i d (record s { places = with_item s.places place new })
-    turn_place h i c d (inl (none, still, same, stood)) = λ turns kept. (
-      [],
-      rw same (no_session rests answers h),
-      stood,
-      subst (λ (all : List Turn). AreKept came went all (record s { places = with_item s.places place new }))
-          (sym (append-nil turns)) (kept_same turns s (record s { places = with_item s.places place new }) items refl refl refl kept),
-    )
-      where
-        items : slice_set s.places.items place new ≡ s.places.items
-        items =
-            ap (λ (o : Option (Client P)). slice_set s.places.items place o)
-            (still ∙ sym (read_at s.places.items place old None inside is none))
-            ∙ set-get_or s.places.items place None
-    turn_place h i c d (inr (k, l, was, now, number, step)) = λ turns kept.
-        let at : IsAt s place k = read_at s.places.items place old (Some k) inside is was in
-        let (more, session, moments, client) = step (of k.number turns) (kept.here place k at) in
-        rw now (
-          numbered k.number more,
-          subst (λ (xs : List Exchange). RestingSession answers rests h xs i) (sym (exchanges_numbered k.number more)) session,
-          subst (λ (xs : List Exchange). AreMoments now_gives c xs d) (sym (exchanges_numbered k.number more)) moments,
-          kept_turned turns s kept place inside k l at number more client,
+        was_at : (n other : ℕ) (w : Client P) (b : Bool) → (other == place) ≡ b → IsAt s other w → number w ≡ n
+            → ((other : ℕ) × (w : Client P) × IsAt u other w × (number w ≡ n)) ⊎ HasGone traffic n u.gone.items
+        was_at n other w true e at equal =
+            let here : other ≡ place = eqb-true _ _ e in
+            let same : w ≡ k = same_Some w k (sym (rw here at at) ∙ stood) in
+            inr (s.gone.items, (closed, had), [], gone, same_number ∙ sym (ap number same) ∙ equal)
+        was_at n other w false e at equal =
+            inl (other, w, rw places (is_still s.places.items place None inside other (eqb-false _ _ e) ∙ at), equal)
+
+        gone_found : (n : ℕ)
+            → ((other : ℕ) × (w : Client P) × IsAt s other w × (number w ≡ n)) ⊎ HasGone traffic n s.gone.items
+            → ((other : ℕ) × (w : Client P) × IsAt u other w × (number w ≡ n)) ⊎ HasGone traffic n u.gone.items
+        gone_found n (inl (other, w, at, equal)) = was_at n other w (other == place) refl at equal
+        gone_found n (inr past) = inr (rw gone (has_gone_more n s.gone.items (closed, had) past))
+
+        gone_past : IsPast traffic turns (closed, had)
+        gone_past = (
+          subst (λ (p : P). IsTold (of (traffic p).number turns) (traffic p)) (sym peer)
+              (client_told (of (number k) turns) k (kept.here place k stood)),
+          λ none. absurd (held none),
         )
 
-  -- whoever stands at the place is answered nothing more
-  module _ (s : Clients P) (place : ℕ) (inside : place < length s.places.items)
-      (old new : Option (Client P)) (is : old ≡ get_or s.places.items place old) where
-    pub keep_place : IsPlaceKept came went old new → (turns : List Turn) → AreKept came went turns s
-        → AreKept came went turns (record s { places = with_item s.places place new })
-    keep_place (inl (none, still)) turns kept =
-        kept_same turns s (record s { places = with_item s.places place new }) items refl refl refl kept
-      where
-        items : slice_set s.places.items place new ≡ s.places.items
-        items =
-            ap (λ (o : Option (Client P)). slice_set s.places.items place o)
-            (still ∙ sym (read_at s.places.items place old None inside is none))
-            ∙ set-get_or s.places.items place None
-    keep_place (inr (k, l, was, now, number, keeps)) turns kept =
+        pub kept_gone : AreKept traffic few many turns u
+        kept_gone = record {
+          numbered = record {
+            order = kept.numbered.order;
+            known = kept.numbered.known;
+            counted = λ other w at. kept.numbered.counted other w (still_at other w at).1;
+            apart = λ one two v w at there equal.
+                kept.numbered.apart one two v w (still_at one v at).1 (still_at two w there).1 equal;
+            left = λ other w at. rw gone
+                (All-push (λ (one : Past P). number_past traffic one ≢ number w) s.gone.items (closed, had)
+                (kept.numbered.left other w (still_at other w at).1)
+                (λ equal. (still_at other w at).0
+                (kept.numbered.apart other place w k (still_at other w at).1 stood (sym equal ∙ same_number))));
+            past = rw gone
+                (All-push (λ (one : Past P). IsHandedOut few many (number_past traffic one)) s.gone.items (closed, had)
+                kept.numbered.past (rw same_number (kept.numbered.counted place k stood)));
+            once = rw gone
+                (apart_more s.gone.items (closed, had) kept.numbered.once
+                (λ i d within equal. kept.numbered.left place k stood i d within (equal ∙ same_number)));
+            found = λ n within. gone_found n (kept.numbered.found n within);
+          };
+          here = λ other w at. kept.here other w (still_at other w at).1;
+          gone = rw gone (All-push (IsPast traffic turns) s.gone.items (closed, had) kept.gone gone_past);
+        }
+
+      -- the connection at the place goes one step
+      module _ (k l : Client P) (stood : IsAt s place k) (same_number : number l ≡ number k) (more : List Exchange)
+          (is : IsClient traffic (of (number k) turns ++ more) l) where
+        abbrev turned : Clients P
+        turned = record { places = with_item s.places place (Some l); gone = s.gone }
+
+        abbrev all : List Turn
+        all = turns ++ numbered (number k) more
+
+        turned_at : (other : ℕ) (w : Client P) → IsAt turned other w
+            → ((other ≡ place) × (w ≡ l)) ⊎ ((other ≢ place) × IsAt s other w)
+        turned_at other w at =
+            elim (where_is s.places.items place (Some l) inside other w at) [
+              | inl x ↦ inl (x.0, sym (same_Some l w x.1))
+              | inr x ↦ inr x
+            ]
+
+        -- whose number it has, it stood at the same place
+        stood_at : (other : ℕ) (w : Client P) → IsAt turned other w
+            → (v : Client P) × IsAt s other v × (number v ≡ number w)
+        stood_at other w at =
+            elim (turned_at other w at) [
+              | inl x ↦ (k, rw x.0 stood, sym same_number ∙ sym (ap number x.1))
+              | inr x ↦ (w, x.1, refl)
+            ]
+
+        turned_here : (other : ℕ) (w : Client P) → ((other ≡ place) × (w ≡ l)) ⊎ ((other ≢ place) × IsAt s other w)
+            → IsClient traffic (of (number w) all) w
+        turned_here other w (inl (here, same)) =
+            subst (λ (w : Client P). IsClient traffic (of (number w) all) w) (sym same)
+            (subst (λ (xs : List Exchange). IsClient traffic xs l)
+            (sym (own_more (number k) turns more) ∙ ap (λ (n : ℕ). of n all) (sym same_number)) is)
+        turned_here other w (inr (differs, at)) =
+            let other_number : number k ≢ number w = λ equal.
+            differs (kept.numbered.apart other place w k at stood (sym equal)) in
+            subst (λ (xs : List Exchange). IsClient traffic xs w)
+            (sym (others_same (number w) (number k) turns more other_number))
+            (kept.here other w at)
+
+        was_there : (n other : ℕ) (w : Client P) (b : Bool) → (other == place) ≡ b → IsAt s other w → number w ≡ n
+            → ((other : ℕ) × (w : Client P) × IsAt turned other w × (number w ≡ n)) ⊎ HasGone traffic n s.gone.items
+        was_there n other w true e at equal =
+            let here : other ≡ place = eqb-true _ _ e in
+            let same : w ≡ k = same_Some w k (sym (rw here at at) ∙ stood) in
+            inl (place, l, is_there s.places.items place (Some l) inside, same_number ∙ sym (ap number same) ∙ equal)
+        was_there n other w false e at equal =
+            inl (other, w, is_still s.places.items place (Some l) inside other (eqb-false _ _ e) ∙ at, equal)
+
+        turned_found : (n : ℕ)
+            → ((other : ℕ) × (w : Client P) × IsAt s other w × (number w ≡ n)) ⊎ HasGone traffic n s.gone.items
+            → ((other : ℕ) × (w : Client P) × IsAt turned other w × (number w ≡ n)) ⊎ HasGone traffic n s.gone.items
+        turned_found n (inl (other, w, at, equal)) = was_there n other w (other == place) refl at equal
+        turned_found n (inr past) = inr past
+
+        turned_past : (one : Past P) → number_past traffic one ≢ number k → IsPast traffic turns one
+            → IsPast traffic all one
+        turned_past one other (told, away) = (
+          subst (λ (xs : List Exchange). IsTold xs (traffic_past traffic one))
+              (sym (others_same (number_past traffic one) (number k) turns more (λ equal. other (sym equal)))) told,
+          away,
+        )
+
+        pub kept_turned : AreKept traffic few many all turned
+        kept_turned = record {
+          numbered = record {
+            order = kept.numbered.order;
+            known = All-append (λ turn. IsHandedOut few many turn.0) turns (numbered (number k) more) kept.numbered.known
+                (known_more (IsHandedOut few many) (number k) more (kept.numbered.counted place k stood));
+            counted = λ other w at.
+                let (v, there, equal) = stood_at other w at in
+                subst (IsHandedOut few many) equal (kept.numbered.counted other v there);
+            apart = λ one two v w at there equal.
+                let (a, at_a, same_a) = stood_at one v at in
+                let (b, at_b, same_b) = stood_at two w there in
+                kept.numbered.apart one two a b at_a at_b (same_a ∙ equal ∙ sym same_b);
+            left = λ other w at.
+                let (v, there, equal) = stood_at other w at in
+                subst (λ (n : ℕ). All (λ (one : Past P). number_past traffic one ≢ n) s.gone.items) equal
+                (kept.numbered.left other v there);
+            past = kept.numbered.past;
+            once = kept.numbered.once;
+            found = λ n within. turned_found n (kept.numbered.found n within);
+          };
+          here = λ other w at. turned_here other w (turned_at other w at);
+          gone = λ i d within.
+              turned_past (get_or s.gone.items i d) (kept.numbered.left place k stood i d within)
+              (kept.gone i d within);
+        }
+
+  module _ (s : Clients P) (place : ℕ) (inside : place < length s.places.items) (old new : Option (Client P))
+      (is : old ≡ get_or s.places.items place old) where
+    abbrev after : Clients P
+    after = record { places = with_item s.places place new; gone = s.gone }
+
+    unchanged : old ≡ None → new ≡ None → slice_set s.places.items place new ≡ s.places.items
+    unchanged none still =
+        ap (λ (o : Option (Client P)). slice_set s.places.items place o)
+        (still ∙ sym (read_at s.places.items place old None inside is none))
+        ∙ set-get_or s.places.items place None
+
+    -- at the place there is nobody, or one that was there
+    still_place : (u : Clients P) → u.places.items ≡ slice_set s.places.items place new
+        → ((l : Client P) → new ≡ Some l → (k : Client P) × (old ≡ Some k) × (number k ≡ number l))
+        → AreStill traffic s u
+    still_place u items one other l at =
+        elim (where_is s.places.items place new inside other l (rw (sym items) at)) [
+          | inl x ↦
+              let (k, was, same) = one l x.1 in
+              (k, rw x.0 (read_at s.places.items place old (Some k) inside is was), same)
+          | inr x ↦ (l, x.1, refl)
+        ]
+
+    pub still_free : (u : Clients P) → u.places.items ≡ slice_set s.places.items place new → new ≡ None
+        → AreStill traffic s u
+    still_free u items none = still_place u items (λ l e. let clash = sym none ∙ e in absurd cc)
+
+    still_one : (k l : Client P) → old ≡ Some k → new ≡ Some l → number l ≡ number k → AreStill traffic s after
+    still_one k l was now same =
+        still_place after refl (λ w e. (k, was, sym same ∙ ap number (same_Some l w (sym now ∙ e))))
+
+    none_changed : old ≡ None → new ≡ None → (few many : ℕ) (turns : List Turn) → AreKept traffic few many turns s
+        → AreKept traffic few many turns after
+    none_changed none still few many turns kept =
+        kept_same few many turns s after (unchanged none still) refl kept
+
+    keep_one : IsPlaceKept traffic old new → (few many : ℕ) (turns : List Turn) → AreKept traffic few many turns s
+        → AreKept traffic few many turns after
+    keep_one (inl (none, still)) few many turns kept = none_changed none still few many turns kept
+    keep_one (inr (k, l, was, now, keeps)) few many turns kept =
         let at : IsAt s place k = read_at s.places.items place old (Some k) inside is was in
         let client =
-        subst (λ (xs : List Exchange). IsClient came went xs l) (sym (append-nil (of k.number turns)))
-        (keeps (of k.number turns) (kept.here place k at)) in
+        subst (λ (xs : List Exchange). IsClient traffic xs l) (sym (append-nil (of (number k) turns)))
+        (keeps.kept (of (number k) turns) (kept.here place k at)) in
         rw now
-        (subst (λ (all : List Turn). AreKept came went all (record s { places = with_item s.places place (Some l) }))
-        (append-nil turns) (kept_turned turns s kept place inside k l at number [] client))
+        (subst
+        (λ (all : List Turn).
+        AreKept traffic few many all (record { places = with_item s.places place (Some l); gone = s.gone }))
+        (append-nil turns) (kept_turned few many turns s kept place inside k l at keeps.number [] client))
+
+    kept_still : IsPlaceKept traffic old new → AreStill traffic s after
+    kept_still (inl (none, still)) = still_free after refl still
+    kept_still (inr (k, l, was, now, keeps)) = still_one k l was now keeps.number
+
+    -- whoever stands at the place is answered nothing more
+    pub keep_place : IsPlaceKept traffic old new → AnswersNoMore traffic s after
+    keep_place keeps = (kept_still keeps, keep_one keeps)
+
+    -- whoever stands at the place goes one step
+    pub turn_place : {H C : Type 0} (service : Service H C) (before at : H × C)
+        → IsPlaceTurned service traffic before old at new → Serves service traffic place before s at after
+    turn_place service before at (inl (none, still, same)) = (
+      still_free after refl still,
+      λ few many turns kept.
+          rw same
+          (handled_none service before
+          (λ more. AreOf traffic s place more × AreKept traffic few many (turns ++ more) after) (
+            inl refl,
+            subst (λ (all : List Turn). AreKept traffic few many all after) (sym (append-nil turns))
+                (none_changed none still few many turns kept),
+          )),
+    )
+    turn_place service before at (inr (k, l, was, now, step)) = (
+      still_one k l was now step.number,
+      λ few many turns kept.
+          let stood : IsAt s place k = read_at s.places.items place old (Some k) inside is was in
+          let (more, session, moments, client) = step.turned (of (number k) turns) (kept.here place k stood) in
+          record {
+            turns = numbered (number k) more;
+            session = subst (λ (xs : List Exchange). RestingSession service.answers service.rests before.0 xs at.0)
+                (sym (exchanges_numbered (number k) more)) session;
+            moments = subst (λ (xs : List Exchange). AreMoments service.now_gives before.1 xs at.1)
+                (sym (exchanges_numbered (number k) more)) moments;
+            holds = (
+              inr (number k, (k, stood, refl), known_more (λ (n : ℕ). n ≡ number k) (number k) more refl),
+              rw now (kept_turned few many turns s kept place inside k l stood step.number more client),
+            );
+          },
+    )
+
+  -- a newcomer is at the place
+  pub comes_seated : (s : Clients P) (place : ℕ) (inside : place < length s.places.items) (k : Client P) (peer : P)
+      → k.peer ≡ peer
+      → ComesTo traffic place peer s (record { places = with_item s.places place (Some k); gone = s.gone })
+  comes_seated s place inside k peer is other l at =
+      elim (where_is s.places.items place (Some k) inside other l at) [
+        | inl x ↦
+            inr (x.0, sym (ap number (same_Some k l x.1)) ∙ ap (λ (p : P). (traffic p).number) is)
+        | inr x ↦ inl (l, x.1, refl)
+      ]
+
+  -- nobody goes a step
+  pub serves_none : {H C : Type 0} (service : Service H C) (place : ℕ) (at : H × C) (s : Clients P)
+      → Serves service traffic place at s at s
+  serves_none service place at s = (
+    still_same traffic s,
+    λ few many turns kept.
+        handled_none service at (λ more. AreOf traffic s place more × AreKept traffic few many (turns ++ more) s)
+        (inl refl, subst (λ (all : List Turn). AreKept traffic few many all s) (sym (append-nil turns)) kept),
+  )

@@ -5,12 +5,12 @@ use Rattle.std.proofs.lemmas.List.{append-nil, take_all}
 use Rattle.std.proofs.KnownBytes.{Appends-nil, Appends-trans, Consumes-nil, Consumes-trans}
 use Rattle.std.specs.Io.KnownBytes.{Appends, Consumes, IsAtEnd}
 use Rattle.hall_grid.specs.Device.{MadeCalls, Rises}
-use Rattle.hall_http.specs.Answered.{answer_text}
+use Rattle.hall_http.specs.Outgoing.{outgoing_text}
 use Rattle.hall_http.specs.Connection.{Exchange, Session, AreMoments, replies_of}
 use Rattle.hall_http.specs.Device.{WritesPart, NoneFailed, ReadFailed, WriteFailed}
 use Rattle.hall_http.specs.Feeding.{IsFed}
 use Rattle.hall_http.specs.History.{History, nothing, then_heard, then_ended, then_answered, then_sent, reads_of, HasHistory, Stands, IsReplying, IsRefusing, Ends, told_at}
-use Rattle.hall_http.specs.Served.{IsHandled, Ended, IsNoRequest, refusal}
+use Rattle.hall_http.specs.Served.{Line, IsHandled, Ended, IsNoRequest, refusal}
 use Rattle.hall_http.specs.Steps.{pending, fresh, IsAfterSending, Looks}
 use Rattle.hall_http.specs.declared.connection.Connection.{Connection}
 use Rattle.hall_http.specs.declared.connection.ServeEnd.{ServeEnd}
@@ -43,6 +43,11 @@ rank (state.Ended e) = 0
 
 abbrev pub left_of : Connection → ℕ
 left_of k = 5 * ((1000 - k.requests) + (100001 - k.reads)) + rank k.state
+
+-- with this left to be read, so many reads made and failed, this written and so many writes failed
+abbrev line_at : Option (List ℕ) → ℕ → ℕ → Option (List ℕ) → ℕ → Line
+line_at left reads failed written broken =
+    record { left = left; reads = reads; failed = failed; written = written; broken = broken }
 
 module _ {H C : Type 0} (answers : H → Option ℕ → List ℕ → List ℕ → H → Type 0) (now_gives : C → Option ℕ → C → Type 0) where
   -- after some turns
@@ -179,10 +184,13 @@ module _ {H C : Type 0} (answers : H → Option ℕ → List ℕ → List ℕ �
 
     -- how it ends
     module _ (failed fails broke breaks : ℕ) where
+      abbrev old : Line
+      old = line_at stream asked failed wrote broke
+
       handled : (then last : Option (List ℕ)) (pieces reads later : ℕ) (e : ServeEnd) → t.pieces ≡ pieces
           → Consumes after then [] → MadeCalls reads asked later → reads ≤ 100000
-          → Ended e then wrote last t.exchanges k.inbox pieces reads failed fails broke breaks
-          → IsHandled answers now_gives stream then wrote last h c m n failed fails broke breaks asked later e
+          → Ended e old (line_at then later fails last breaks) t.exchanges k.inbox pieces reads
+          → IsHandled answers now_gives old (h, c) (line_at then later fails last breaks) (m, n) e
       handled then last pieces reads later e same none made seldom ended = record {
         exchanges = t.exchanges;
         unread = k.inbox;
@@ -210,7 +218,7 @@ module _ {H C : Type 0} (answers : H → Option ℕ → List ℕ → List ℕ �
       no_request (goes_on, inr (never, more)) = inr (never, open_reads t more)
 
       ended_by : (e : ServeEnd) → t.went ≡ told_at e t.exchanges → Ends e t k.inbox → NoneFailed failed fails broke breaks
-          → Ended e after wrote written t.exchanges k.inbox t.pieces (reads_of t) failed fails broke breaks
+          → Ended e old (line_at after asks fails written breaks) t.exchanges k.inbox t.pieces (reads_of t)
       ended_by end.Closed told (inl (goes_on, empty, over)) steady =
           (rw told at kept.replied, steady, inl (goes_on, empty, kept.at_end over, reads_more over))
       ended_by end.Closed told (inr (closes, more)) steady =
@@ -224,7 +232,7 @@ module _ {H C : Type 0} (answers : H → Option ℕ → List ℕ → List ℕ �
       ended_by end.Device told why steady = absurd why
 
       pub has_ended : (e : ServeEnd) → k.state ≡ state.Ended e → NoneFailed failed fails broke breaks
-          → IsHandled answers now_gives stream after wrote written h c m n failed fails broke breaks asked asks e
+          → IsHandled answers now_gives old (h, c) (line_at after asks fails written breaks) (m, n) e
       has_ended e at steady =
           let (told, why) = stands_at t k (state.Ended e) kept.has at in
           handled after written t.pieces (reads_of t) asks e refl (Consumes-nil after) kept.made kept.has.seldom
@@ -233,7 +241,7 @@ module _ {H C : Type 0} (answers : H → Option ℕ → List ℕ → List ℕ �
       -- a read failed
       pub read_failed : (then : Option (List ℕ)) (later : ℕ) → k.state ≡ state.Reading → Consumes after then []
           → Rises asks later → ReadFailed failed fails broke breaks
-          → IsHandled answers now_gives stream then wrote written h c m n failed fails broke breaks asked later
+          → IsHandled answers now_gives old (h, c) (line_at then later fails written breaks) (m, n)
           end.Device
       read_failed then later at none rise rose =
           let (free, unfinished, seldom) = stands_at t k state.Reading kept.has at in
@@ -244,11 +252,11 @@ module _ {H C : Type 0} (answers : H → Option ℕ → List ℕ → List ℕ �
       -- a write failed
       replying_failed : (then : Option (List ℕ)) → IsReplying t k → WritesPart written then (pending k)
           → WriteFailed failed fails broke breaks
-          → IsHandled answers now_gives stream after wrote then h c m n failed fails broke breaks asked asks end.Device
+          → IsHandled answers now_gives old (h, c) (line_at after asks fails then breaks) (m, n) end.Device
       replying_failed then r part rose =
           let told : t.went ≡ replies_of r.before =
           r.told ∙ none_taken k.sent (replies_of r.before) r.last.reply kept.unsent in
-          let text : pending k ≡ r.last.reply = all_left k.sent (answer_text k.reply) kept.unsent ∙ r.reply in
+          let text : pending k ≡ r.last.reply = all_left k.sent (outgoing_text k.reply) kept.unsent ∙ r.reply in
           handled after then t.pieces (reads_of t) asks end.Device refl (Consumes-nil after) kept.made kept.has.seldom
           (inr (inl (
             (r.before, r.last, written, r.is_last, r.opened, rw told at kept.replied, rw text at part),
@@ -258,11 +266,11 @@ module _ {H C : Type 0} (answers : H → Option ℕ → List ℕ → List ℕ �
 
       refusing_failed : (then : Option (List ℕ)) → IsRefusing t k → Ends end.BadHead t k.inbox
           → WritesPart written then (pending k) → WriteFailed failed fails broke breaks
-          → IsHandled answers now_gives stream after wrote then h c m n failed fails broke breaks asked asks end.Device
+          → IsHandled answers now_gives old (h, c) (line_at after asks fails then breaks) (m, n) end.Device
       refusing_failed then r (goes_on, why) part rose =
           let told : t.went ≡ replies_of t.exchanges =
           r.told ∙ none_taken k.sent (replies_of t.exchanges) refusal kept.unsent in
-          let text : pending k ≡ refusal = all_left k.sent (answer_text k.reply) kept.unsent ∙ r.reply in
+          let text : pending k ≡ refusal = all_left k.sent (outgoing_text k.reply) kept.unsent ∙ r.reply in
           handled after then t.pieces (reads_of t) asks end.Device refl (Consumes-nil after) kept.made kept.has.seldom
           (inr (inr (
             (written, goes_on, rw told at kept.replied, rw text at part),
@@ -272,7 +280,7 @@ module _ {H C : Type 0} (answers : H → Option ℕ → List ℕ → List ℕ �
 
       failed_at : (then : Option (List ℕ)) (ending : Option ServeEnd) → Stands (state.Writing ending) t k
           → WritesPart written then (pending k) → WriteFailed failed fails broke breaks
-          → IsHandled answers now_gives stream after wrote then h c m n failed fails broke breaks asked asks end.Device
+          → IsHandled answers now_gives old (h, c) (line_at after asks fails then breaks) (m, n) end.Device
       failed_at then None (r, goes_on) part rose = replying_failed then r part rose
       failed_at then (Some end.Closed) (r, why) part rose = replying_failed then r part rose
       failed_at then (Some end.Limit) (r, why) part rose = replying_failed then r part rose
@@ -281,6 +289,6 @@ module _ {H C : Type 0} (answers : H → Option ℕ → List ℕ → List ℕ �
 
       pub write_failed : (then : Option (List ℕ)) (ending : Option ServeEnd) → k.state ≡ state.Writing ending
           → WritesPart written then (pending k) → WriteFailed failed fails broke breaks
-          → IsHandled answers now_gives stream after wrote then h c m n failed fails broke breaks asked asks end.Device
+          → IsHandled answers now_gives old (h, c) (line_at after asks fails then breaks) (m, n) end.Device
       write_failed then ending at part rose =
           failed_at then ending (stands_at t k (state.Writing ending) kept.has at) part rose

@@ -7,20 +7,20 @@ use Rattle.std.proofs.lemmas.List.{append-nil, take-append-drop, take_all}
 use Rattle.std.proofs.Math.Seq.{take-add}
 use Rattle.std.proofs.lemmas.List.Concat.{flat_map-append}
 use Rattle.std.proofs.lemmas.List.Elements.{All-nil, All-push}
-use Rattle.hall_http.specs.Answered.{answer_text}
+use Rattle.hall_http.specs.Outgoing.{outgoing_text}
 use Rattle.hall_http.specs.Connection.{Exchange, requests_of, replies_of, AreOpen, IsOpen, IsClosing}
 use Rattle.hall_http.specs.Head.{IsWhole, IsUnfinished, IsUnfinishedBelow, NeverHas}
 use Rattle.hall_http.specs.History.{History, nothing, then_heard, then_ended, then_answered, then_sent, reads_of, HasHistory, Stands, IsFree, IsReplying, IsRefusing, IsSending, Ends, told_at}
 use Rattle.hall_http.specs.Reading.{at_first, after_read, after_answer}
 use Rattle.hall_http.specs.Served.{HaveRead, IsLastRequest, MayGoOn, refusal}
 use Rattle.hall_http.specs.Steps.{pending, fresh, IsAfterHearing, IsAfterEnd, IsAfterSending, Answers, Waits, Refuses, EndsAfter, after_reply}
-use Rattle.hall_http.specs.declared.answer.Answer.{Answer}
-use Rattle.hall_http.specs.declared.answer.Answer.TheVariants.{Refusal, Nothing}
 use Rattle.hall_http.specs.declared.connection.Connection.{Connection}
 use Rattle.hall_http.specs.declared.connection.ServeEnd.{ServeEnd}
 use Rattle.hall_http.specs.declared.connection.ServeEnd.TheVariants as end
 use Rattle.hall_http.specs.declared.connection.State.{State}
 use Rattle.hall_http.specs.declared.connection.State.TheVariants as state
+use Rattle.hall_http.specs.declared.outgoing.Outgoing.{Outgoing}
+use Rattle.hall_http.specs.declared.outgoing.Outgoing.TheVariants.{Refusal, Nothing}
 use Rattle.hall_http.proofs.Heads.{below_none, below_more}
 use Rattle.hall_http.proofs.Refusals.{refusal_text}
 
@@ -61,10 +61,10 @@ stands_at t k s h e = subst (λ (s : State). Stands s t k) e h.stands
 
 module _ (t : History) (k : Connection) (h : HasHistory t k) where
   -- no more bytes were heard, and no further request was answered
-  as_before : (over : Bool) (went : List ℕ) (least : ℕ) (reply : Answer) (sent reads : ℕ) (s : State)
+  as_before : (over : Bool) (went : List ℕ) (least : ℕ) (reply : Outgoing) (sent reads : ℕ) (s : State)
       → reads ≡ reads_of (record t { ended = over; went = went })
       → reads_of (record t { ended = over; went = went }) ≤ 100000 → IsUnfinishedBelow least k.inbox
-      → sent ≤ length (answer_text reply)
+      → sent ≤ length (outgoing_text reply)
       → Stands s (record t { ended = over; went = went })
       (record k { least = least; reply = reply; sent = sent; reads = reads; state = s })
       → HasHistory (record t { ended = over; went = went })
@@ -275,13 +275,13 @@ module _ (t : History) (k : Connection) (h : HasHistory t k) where
         opened = r.opened;
         reply = r.reply;
         told = ap (λ s. s ++ bytes) r.told
-            ∙ part_sent (replies_of r.before) (answer_text k.reply) r.last.reply k.sent count r.reply;
+            ∙ part_sent (replies_of r.before) (outgoing_text k.reply) r.last.reply k.sent count r.reply;
       }
 
       replied : count ≡ length (pending k) → after.went ≡ replies_of t.exchanges
       replied all =
           ap (λ s. s ++ bytes) r.told
-          ∙ all_sent (replies_of r.before) (answer_text k.reply) r.last.reply k.sent count r.reply all
+          ∙ all_sent (replies_of r.before) (outgoing_text k.reply) r.last.reply k.sent count r.reply all
           ∙ sym (ap replies_of r.is_last.all ∙ replies_more r.before r.last)
 
     module _ (r : IsRefusing t k) where
@@ -289,13 +289,13 @@ module _ (t : History) (k : Connection) (h : HasHistory t k) where
       refusing_on = record {
         reply = r.reply;
         told = ap (λ s. s ++ bytes) r.told
-            ∙ part_sent (replies_of t.exchanges) (answer_text k.reply) refusal k.sent count r.reply;
+            ∙ part_sent (replies_of t.exchanges) (outgoing_text k.reply) refusal k.sent count r.reply;
       }
 
       refused_whole : count ≡ length (pending k) → after.went ≡ replies_of t.exchanges ++ refusal
       refused_whole all =
           ap (λ s. s ++ bytes) r.told
-          ∙ all_sent (replies_of t.exchanges) (answer_text k.reply) refusal k.sent count r.reply all
+          ∙ all_sent (replies_of t.exchanges) (outgoing_text k.reply) refusal k.sent count r.reply all
 
     part_stands : (ending : Option ServeEnd) → Stands (state.Writing ending) t k
         → Stands (state.Writing ending) after (record k { sent = k.sent + count })
@@ -319,7 +319,7 @@ module _ (t : History) (k : Connection) (h : HasHistory t k) where
     sent ending l at (inl (part, is)) =
         subst (HasHistory after) (sym is)
         (as_before t.ended after.went k.least k.reply (k.sent + count) k.reads k.state h.reads h.seldom h.below
-        (omega (arith, part, h.inside, length-drop k.sent (answer_text k.reply)))
+        (omega (arith, part, h.inside, length-drop k.sent (outgoing_text k.reply)))
         (subst (λ (s : State). Stands s after (record k { sent = k.sent + count })) (sym at)
         (part_stands ending (stands_at t k (state.Writing ending) h at))))
     sent ending l at (inr (all, is)) =

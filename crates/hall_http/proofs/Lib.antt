@@ -1,11 +1,11 @@
 pub mod Bytes
 pub mod Digits
-pub mod Floats
 pub mod Heads
 pub mod Listed
 pub mod Notices
 pub mod Parts
 pub mod Patterns
+pub mod Tokens
 pub mod Texts
 pub mod Splits
 pub mod Headers
@@ -26,8 +26,8 @@ pub mod Rested
 pub mod Peers
 pub mod Gated
 pub mod Numbers
+pub mod SoFar
 pub mod Crowds
 pub mod Comings
-pub mod SoFar
 pub mod Serving
 pub mod Wire

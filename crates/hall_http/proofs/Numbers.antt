@@ -1,10 +1,10 @@
 -- The requests of one connection among those of all, and who stands at which place.
-use Rattle.std.proofs.Common.{◌≡◌, ◌≢◌, ◌⊎◌, ◌∙◌, sym, ap, refl, arith, ℕ, zero, suc, ◌<◌, ◌==◌, inl, inr, List, [], ◌∷◌, ◌++◌}
+use Rattle.std.proofs.Common.{◌≡◌, ◌≢◌, ◌⊎◌, ◌∙◌, sym, ap, refl, arith, ℕ, zero, suc, ◌+◌, ◌<◌, ◌≤◌, ◌==◌, inl, inr, List, [], ◌∷◌, ◌++◌}
 use Rattle.std.proofs.Common.{length, map, get_or, Option, Some, None, true, false}
 use Rattle.std.specs.Prelude.{Bool, All, slice_set, filter}
 use Rattle.std.specs.Option.{is_some}
 use Rattle.std.proofs.lemmas.Bool.{eqb-true, eqb-false}
-use Rattle.std.proofs.lemmas.List.{append-nil, get_or-set_same, get_or-set_other, map-append}
+use Rattle.std.proofs.lemmas.List.{append-nil, get_or-set_same, get_or-set_other, get_or_past, map-append}
 use Rattle.std.proofs.lemmas.List.Elements.{All-nil, All-cons, filter-append}
 use Rattle.hall_http.specs.Connection.{Exchange}
 use Rattle.hall_http.specs.Turns.{Turn, exchanges_of, of}
@@ -50,10 +50,10 @@ pub others_same : (m n : ℕ) (turns : List Turn) (more : List Exchange) → n �
 others_same m n turns more other =
     of_append m turns (numbered n more) ∙ ap (λ s. of m turns ++ s) (of_other m n more other) ∙ append-nil (of m turns)
 
-pub known_more : (n count : ℕ) (xs : List Exchange) → n < count → All (λ turn. turn.0 < count) (numbered n xs)
-known_more n count [] below = All-nil (λ turn. turn.0 < count)
-known_more n count (x ∷ xs) below =
-    All-cons (λ turn. turn.0 < count) (n, x) (numbered n xs) below (known_more n count xs below)
+pub known_more : (Holds : ℕ → Type 0) (n : ℕ) (xs : List Exchange) → Holds n → All (λ turn. Holds turn.0) (numbered n xs)
+known_more Holds n [] holds = All-nil (λ (turn : Turn). Holds turn.0)
+known_more Holds n (x ∷ xs) holds =
+    All-cons (λ (turn : Turn). Holds turn.0) (n, x) (numbered n xs) holds (known_more Holds n xs holds)
 
 -- within a list an element doesn't hang on what stands past its end
 pub element : {X : Type 0} (xs : List X) (i : ℕ) (d e : X) → i < length xs → get_or xs i d ≡ get_or xs i e
@@ -100,3 +100,31 @@ module _ {X : Type 0} (xs : List (Option X)) (place : ℕ) (v : Option X) (insid
 
   pub is_still : (other : ℕ) → other ≢ place → get_or (slice_set xs place v) other None ≡ get_or xs other None
   is_still other differs = get_or-set_other xs place other v None differs
+
+-- one place after another is freed: each is, or is one of those from a place on
+abbrev pub AreFreed : {X : Type 0} → List (Option X) → ℕ → Type 0
+AreFreed xs place = (i : ℕ) → (get_or xs i None ≡ None) ⊎ (place ≤ i)
+
+module _ {X : Type 0} (xs ys : List (Option X)) (place : ℕ) (inside : place < length xs)
+    (is : ys ≡ slice_set xs place None) (freed : AreFreed xs place) where
+  freed_by : (i : ℕ) (b : Bool) → (i == place) ≡ b → (get_or ys i None ≡ None) ⊎ (place + 1 ≤ i)
+  freed_by i true e =
+      let same : i ≡ place = eqb-true _ _ e in
+      inl (rw (is, same) (get_or-set_same xs place None None inside))
+  freed_by i false e =
+      let differs : i ≢ place = eqb-false _ _ e in
+      elim (freed i) [
+        | inl none ↦ inl (rw is (get_or-set_other xs place i None None differs ∙ none))
+        | inr later ↦ inr (omega (arith, differs, later))
+      ]
+
+  pub freed_more : AreFreed ys (place + 1)
+  freed_more i = freed_by i (i == place) refl
+
+pub all_freed : {X : Type 0} (xs : List (Option X)) (place : ℕ) → length xs ≤ place → AreFreed xs place
+    → (i : ℕ) → get_or xs i None ≡ None
+all_freed xs place long freed i =
+    elim (freed i) [
+      | inl none ↦ none
+      | inr later ↦ get_or_past xs i None (omega (arith, long, later))
+    ]

@@ -1,10 +1,10 @@
 -- A session over a store is a run of the hall over its requests.
-use Rattle.std.proofs.Common.{◌≡◌, ◌∙◌, ap, sym, subst, refl, ℕ, inl, inr, List, [], ◌∷◌, ◌++◌, Option, Some, None}
+use Rattle.std.proofs.Common.{◌≡◌, ◌∙◌, ◌⊎◌, ap, sym, subst, refl, ℕ, inl, inr, List, [], ◌∷◌, ◌++◌, Option, Some, None}
 use Rattle.std.specs.Prelude.{Ok}
 use Rattle.std.proofs.lemmas.List.Elements.{All-nil, All-cons, All-append}
 use Rattle.hall_policy.specs.World.{World}
 use Rattle.hall_policy.specs.declared.request.Request.{Request}
-use Rattle.hall_store.specs.Store.{Content, Leads, Over, WritesOnce}
+use Rattle.hall_store.specs.Store.{Content, IsSettled, Kept, Leads, Over, WritesOnce}
 use Rattle.hall_store.proofs.Knowing.{leads_same, leads_then}
 use Rattle.hall_desk.specs.Plans.{WritesIfAny}
 use Rattle.hall_desk.specs.Run.{IsTimed, Run}
@@ -15,10 +15,11 @@ use Rattle.hall_desk.proofs.StepsSane.{run_sane}
 use Rattle.hall_http.specs.Request.{RequestOf, AsksNothing}
 use Rattle.hall_http.specs.Answered.{AnswersOver, StopsAtBytes}
 use Rattle.hall_http.specs.Connection.{Exchange}
-use Rattle.hall_http.specs.Served.{IsHandled, IsServed}
+use Rattle.hall_http.specs.Served.{Line, IsHandled, IsServed}
 use Rattle.hall_http.specs.declared.connection.ServeEnd.{ServeEnd}
 use Rattle.hall_http.specs.Serving.{AnswersAt, IsAnswered, AreAnswered, IsNotMade, AreMade, IsRunOver, RunsOver}
-use Rattle.hall_http.specs.Laws.{RunsCompose}
+use Rattle.hall_http.specs.Serving.{IsLeftOver, LeavesRunOver}
+use Rattle.hall_http.specs.Laws.{FirstPartsLast, RunsCompose}
 
 -- the exchanges, one after another, over worlds
 abbrev Answering : World → List Exchange → World → Type 0
@@ -64,7 +65,7 @@ before_run world x (Some t) next xs last at (inr (inr unavailable, same)) run =
 before_run world x None next xs last at (unavailable, same) run =
     not_made world next x xs last same (inr unavailable) run
 
-run_over : (world : World) (xs : List Exchange) (last : World) → Answering world xs last → IsRunOver world xs last
+pub run_over : (world : World) (xs : List Exchange) (last : World) → Answering world xs last → IsRunOver world xs last
 run_over world [] last same = record { requests = []; replies = []; timed = All-nil IsTimed; run = same; made = (refl, refl) }
 run_over world (x ∷ xs) last (next, step, rest) =
     before_run world x x.moment next xs last refl step (run_over next xs last rest)
@@ -96,15 +97,16 @@ module _ {H : Type 0} (content : H → Content) where
   pub answered_at : (old : H) (moment : ℕ) (request reply : List ℕ) (new : H) → Leads (content old) (content new)
       → WritesOnce (content old) (content new)
       → ((asked : Request) → RequestOf request (Ok asked) → WritesIfAny (content old) moment asked (content new))
-      → StopsAtBytes (content old) moment request reply (content new)
+      → StopsAtBytes (content old) moment request reply (content new) → IsSettled (content new)
       → ((content new).honest → AnswersOver (content old) moment request reply (content new))
       → (AsksNothing request → new ≡ old) → IsAnswered content old (Some moment) request reply new
-  answered_at old moment request reply new leads once quiet stops answers untouched = record {
+  answered_at old moment request reply new leads once quiet stops settled answers untouched = record {
     leads = leads;
     once = once;
     quiet = λ t asked at reads.
         subst (λ (m : ℕ). WritesIfAny (content old) m asked (content new)) (one_moment moment t at) (quiet asked reads);
     stops = stops;
+    settled = settled;
     answers = answers;
     untouched = λ quiet. elim quiet [ inl nothing ↦ untouched nothing | inr none ↦ absurd cc ];
   }
@@ -129,6 +131,123 @@ module _ {H : Type 0} (content : H → Content) where
   session_runs h xs i session honest =
       onward_runs (content h) xs (content i) (onward h xs i (content h).world session (λ s. refl) honest)
 
+-- a request that is answered before others, and what a stop leaves after these
+one_before : (world : World) (x : Exchange) (next : World) (xs : List Exchange) (left : World)
+    → AnswersAt world x.moment x.request x.reply next → IsLeftOver next xs left → IsLeftOver world (x ∷ xs) left
+one_before world x next xs left at (inl run) = inl (before_run world x x.moment next xs left refl at run)
+one_before world x next xs left at (inr with) = inr (record {
+  before = x ∷ with.before;
+  one = with.one;
+  after = with.after;
+  all = ap (λ ys. x ∷ ys) with.all;
+  refused = with.refused;
+  between = with.between;
+  run = before_run world x x.moment next with.before with.between refl at with.run;
+  made = with.made;
+  answered = with.answered;
+  stays = with.stays;
+})
+
+-- What a stop leaves of a store after these requests: what it could leave before them, which they leave; or the store
+-- served before them, and they leave it of its world.
+abbrev pub Leaves : Content → List Exchange → World → Type 0
+Leaves old xs left = (old.may_leave left × IsRunOver left xs left) ⊎ (old.serves × IsLeftOver old.world xs left)
+
+-- where it was settled before them, they leave it of its world
+pub leaves_over : (old : Content) (xs : List Exchange) (left : World) → IsSettled old → old.honest → old.serves
+    → Leaves old xs left → IsLeftOver old.world xs left
+leaves_over old xs left settled honest serves (inl (may, run)) =
+    inl (subst (λ (w : World). IsRunOver w xs left) (settled honest serves left may) run)
+leaves_over old xs left settled honest serves (inr (was, run)) = run
+
+-- a store that was only read before them
+pub leaves_read : (old new : Content) (xs : List Exchange) (left : World) → Kept old new → new.honest → Leaves new xs left
+    → Leaves old xs left
+leaves_read old new xs left kept honest (inl (may, run)) = inl (kept.stops honest left may, run)
+leaves_read old new xs left kept honest (inr (serves, run)) =
+    inr (kept.serves honest serves, subst (λ (w : World). IsLeftOver w xs left) (kept.world honest serves) run)
+
+module _ {H : Type 0} (content : H → Content) where
+  -- a request that is answered before them
+  module _ (h m : H) (x : Exchange) (says : IsAnswered content h x.moment x.request x.reply m)
+      (honest : (content m).honest) (xs : List Exchange) (left : World) where
+    abbrev here : Content
+    here = content h
+
+    abbrev there : Content
+    there = content m
+
+    abbrev Answered : Type 0
+    Answered = Over (λ before after. AnswersAt before x.moment x.request x.reply after) here there
+
+    served : Answered → there.serves → IsLeftOver there.world xs left → Leaves here (x ∷ xs) left
+    served (inl (always, same)) serves run = inr (
+      says.leads.serves honest serves,
+      one_before here.world x there.world xs left
+          (subst (λ (w : World). AnswersAt here.world x.moment x.request x.reply w) (sym (same serves)) (always here.world)) run,
+    )
+    served (inr (was, now, step)) serves run = inr (was, one_before here.world x there.world xs left step run)
+
+    stayed : Answered → here.may_leave left → there.may_leave left → IsRunOver left xs left → Leaves here (x ∷ xs) left
+    stayed (inl (always, same)) before may run = inl (before, before_run left x x.moment left xs left refl (always left) run)
+    stayed (inr (was, serves, step)) before may run = inr (
+      was,
+      inl (before_run here.world x x.moment left xs left refl
+          (subst (λ (w : World). AnswersAt here.world x.moment x.request x.reply w) (sym (says.settled honest serves left may)) step)
+          run),
+    )
+
+    pub leaves_one : Leaves there xs left → Leaves here (x ∷ xs) left
+    leaves_one (inr (serves, run)) = served (says.answers honest) serves run
+    leaves_one (inl (may, run)) = elim (says.stops honest left may) [
+      | inl before ↦ stayed (says.answers honest) before may run
+      | inr (was, (made, which, step)) ↦ inr (
+        was,
+        elim which [
+          | inl same ↦
+              inl (before_run here.world x x.moment left xs left refl
+              (subst (λ (reply : List ℕ). AnswersAt here.world x.moment x.request reply left) same step) run)
+          | inr refused ↦ inr (record {
+            before = [];
+            one = x;
+            after = xs;
+            all = refl;
+            refused = refused;
+            between = here.world;
+            run = run_over here.world [] here.world refl;
+            made = made;
+            answered = step;
+            stays = run;
+          })
+        ],
+      )
+    ]
+
+  session_leaves : (h : H) (xs : List Exchange) (i : H) → AreAnswered content h xs i → (content i).honest → (left : World)
+      → (content i).may_leave left → Leaves (content h) xs left
+  session_leaves h [] i same honest left may =
+      inl (subst (λ (i : H). (content i).may_leave left) same may, run_over left [] left refl)
+  session_leaves h (x ∷ xs) i (m, says, rest) honest left may =
+      leaves_one h m x says ((session_leads content m xs i rest).honest honest) xs left
+      (session_leaves m xs i rest honest left may)
+
+  pub session_stops : (h : H) (xs : List Exchange) (i : H) → IsSettled (content h) → AreAnswered content h xs i
+      → LeavesRunOver (content h) xs (content i)
+  session_stops h xs i settled session honest serves left may =
+      leaves_over (content h) xs left settled ((session_leads content h xs i session).honest honest) serves
+      (session_leaves h xs i session honest left may)
+
+  session_parts : (h : H) (xs ys : List Exchange) (i : H) → AreAnswered content h (xs ++ ys) i
+      → (m : H) × AreAnswered content h xs m × AreAnswered content m ys i
+  session_parts h [] ys i session = (h, refl, session)
+  session_parts h (x ∷ xs) ys i (m, says, rest) =
+      let (n, first, second) = session_parts m xs ys i rest in (n, (m, says, first), second)
+
+  pub first_parts_last : FirstPartsLast content (AreAnswered content)
+  first_parts_last old xs ys new settled session =
+      let (mid, first, second) = session_parts old xs ys new session in
+      (mid, first, second, session_stops old xs mid settled first)
+
 -- what was answered keeps a sane world sane
 pub runs_sane : (old : Content) (xs : List Exchange) (new : Content) → (new.honest → RunsOver old xs new)
     → SaneThen Sane old new
@@ -145,6 +264,7 @@ module _ {D H : Type 0} (kept : D → H) (content : H → Content) where
     once = says.once;
     quiet = says.quiet;
     stops = says.stops;
+    settled = says.settled;
     answers = says.answers;
     untouched = λ nothing. ap kept (says.untouched nothing);
   }
@@ -156,13 +276,11 @@ module _ {D H : Type 0} (kept : D → H) (content : H → Content) where
       (kept m, answered_kept h m x says, session_kept m xs i rest)
 
 module _ {D H C : Type 0} (kept : D → H) (content : H → Content) (now_gives : C → Option ℕ → C → Type 0)
-    (stream after wrote written : Option (List ℕ)) (h : D) (c : C) (i : D) (d : C) (failed fails broke breaks asked asks : ℕ)
-    (e : ServeEnd) where
-  pub handled_served :
-      IsHandled (IsAnswered (λ h. content (kept h))) now_gives stream after wrote written h c i d failed
-      fails broke breaks asked asks e
-      → IsServed content now_gives stream after wrote written (kept h) c (kept i) d failed fails broke breaks asked asks e
-  handled_served handled = let over : D → Content = λ h. content (kept h) in record {
+    (old : Line) (h : D) (c : C) (new : Line) (i : D) (d : C) (e : ServeEnd) where
+  pub handled_served : IsSettled (content (kept h))
+      → IsHandled (IsAnswered (λ h. content (kept h))) now_gives old (h, c) new (i, d) e
+      → IsServed content now_gives old (kept h, c) new (kept i, d) e
+  handled_served settled handled = let over : D → Content = λ h. content (kept h) in record {
     exchanges = handled.exchanges;
     unread = handled.unread;
     answered = session_kept kept content h handled.exchanges i handled.session;
@@ -170,6 +288,7 @@ module _ {D H C : Type 0} (kept : D → H) (content : H → Content) (now_gives 
     moments = handled.moments;
     leads = session_leads over h handled.exchanges i handled.session;
     run = session_runs over h handled.exchanges i handled.session;
+    stops = session_stops over h handled.exchanges i settled handled.session;
     pieces = handled.pieces;
     reads = handled.reads;
     few = handled.few;
@@ -182,14 +301,12 @@ module _ {D H C : Type 0} (kept : D → H) (content : H → Content) (now_gives 
   }
 
 module _ {H C : Type 0} (content : H → Content) (now_gives : C → Option ℕ → C → Type 0)
-    (stream after wrote written : Option (List ℕ)) (h : H) (c : C) (i : H) (d : C) (failed fails broke breaks asked asks : ℕ)
-  where
-    pub handled_sane : (e : ServeEnd)
-        → IsHandled (IsAnswered content) now_gives stream after wrote written h c i d failed fails broke breaks asked asks e
-        → SaneThen Sane (content h) (content i)
-    handled_sane e handled =
-        runs_sane (content h) handled.exchanges (content i)
-        (session_runs content h handled.exchanges i handled.session)
+    (old : Line) (h : H) (c : C) (new : Line) (i : H) (d : C) where
+  pub handled_sane : (e : ServeEnd) → IsHandled (IsAnswered content) now_gives old (h, c) new (i, d) e
+      → SaneThen Sane (content h) (content i)
+  handled_sane e handled =
+      runs_sane (content h) handled.exchanges (content i)
+      (session_runs content h handled.exchanges i handled.session)
 
 -- a run, and a run from where it ended
 run_then : (old mid new : World) (requests more : List (ℕ × Request)) (replies others : List Reply)

@@ -1,20 +1,30 @@
 -- Connections that were served by a desk.
-use Rattle.std.proofs.Common.{◌≡◌, ◌≢◌, ◌∙◌, ap, refl, sym, subst, inl, inr, ℕ, List, [], ◌∷◌, Option, true}
+use Rattle.std.proofs.Common.{◌≡◌, ◌≢◌, ◌∙◌, ap, refl, sym, subst, inl, inr, ℕ, List, [], ◌∷◌, ◌++◌, Option, true, false}
 use Rattle.std.specs.Prelude.{Bool}
 use Rattle.hall_policy.specs.World.{World}
-use Rattle.hall_store.specs.Store.{Content, Kept, Leads}
+use Rattle.hall_store.specs.Store.{Content, IsSettled, Kept, Leads}
 use Rattle.hall_store.proofs.Knowing.{kept_leads, kept_same, kept_then, leads_then}
 use Rattle.hall_desk.specs.Sane.{Sane}
 use Rattle.hall_desk.specs.Desk.{SaneThen}
 use Rattle.hall_http.specs.Connection.{Exchange, Session}
-use Rattle.hall_http.specs.Crowd.{AreHandled, AreServed}
+use Rattle.hall_http.specs.Coming.{Said, since, stays_open}
+use Rattle.hall_http.specs.Crowd.{AreAtTurns, AreHandled, AreKept, AreKeptAtTurns, AreServed, AreThose, EndUnavailable, AreGone, AnswersNoMore}
+use Rattle.hall_http.specs.Peer.{Traffic}
 use Rattle.hall_http.specs.Resting.{AreRests, RestingSession, after_rests, still}
-use Rattle.hall_http.specs.Serving.{AreAnsweredWhileOpen, GoesOn, IsAnswered, RunsOver}
+use Rattle.hall_http.specs.Laws.{FirstPartsLast}
+use Rattle.hall_http.specs.Serving.{AreAnsweredWhileOpen, GoesOn, IsAnswered, LeavesRunOver, RunsOver}
 use Rattle.hall_http.specs.Steps.{gated}
-use Rattle.hall_http.specs.Turns.{exchanges_of}
+use Rattle.hall_http.specs.Turns.{exchanges_of, service_of}
 use Rattle.hall_http.specs.declared.clients.Clients.{Clients}
+use Rattle.hall_http.specs.declared.server.ServeAllEnd.{ServeAllEnd}
+use Rattle.hall_http.proofs.Crowds.{kept_told, kept_those}
 use Rattle.hall_http.proofs.Rested.{still_on}
-use Rattle.hall_http.proofs.Runs.{Onward, answered_kept, further, onward_runs, runs_sane}
+use Rattle.hall_http.proofs.Runs.{Leaves, Onward, answered_kept, further, leaves_one, leaves_over, leaves_read, onward_runs, run_over, runs_sane}
+
+-- where both parts together are empty, so is the first
+no_first : (xs ys : List Exchange) → xs ++ ys ≡ [] → xs ≡ []
+no_first [] ys none = refl
+no_first (x ∷ xs) ys none = absurd cc
 
 -- over what is answered and only read, a run of the hall
 module _ {H : Type 0} (content : H → Content) where
@@ -38,6 +48,32 @@ module _ {H : Type 0} (content : H → Content) where
       → RunsOver (content h) xs (content i)
   open_runs h xs i answered honest =
       onward_runs (content h) xs (content i) (open_onward h xs i (content h).world answered (λ s. refl) honest)
+
+  open_leaves : (h : H) (xs : List Exchange) (i : H) → AreAnsweredWhileOpen content h xs i → (content i).honest
+      → (left : World) → (content i).may_leave left → Leaves (content h) xs left
+  open_leaves h [] i kept honest left may = inl (kept.stops honest left may, run_over left [] left refl)
+  open_leaves h (x ∷ xs) i (read, after, kept, says, goes, rest) honest left may =
+      let later = (open_leads after xs i rest).honest honest in
+      leaves_read (content h) (content read) (x ∷ xs) left kept (says.leads.honest later)
+      (leaves_one content read after x says later xs left (open_leaves after xs i rest honest left may))
+
+  pub open_stops : (h : H) (xs : List Exchange) (i : H) → IsSettled (content h) → AreAnsweredWhileOpen content h xs i
+      → LeavesRunOver (content h) xs (content i)
+  open_stops h xs i settled answered honest serves left may =
+      leaves_over (content h) xs left settled ((open_leads h xs i answered).honest honest) serves
+      (open_leaves h xs i answered honest left may)
+
+  open_parts : (h : H) (xs ys : List Exchange) (i : H) → AreAnsweredWhileOpen content h (xs ++ ys) i
+      → (m : H) × AreAnsweredWhileOpen content h xs m × AreAnsweredWhileOpen content m ys i
+  open_parts h [] ys i answered = (h, kept_same (content h), answered)
+  open_parts h (x ∷ xs) ys i (read, after, kept, says, goes, rest) =
+      let (n, first, second) = open_parts after xs ys i rest in
+      (n, (read, after, kept, says, (λ some. goes (λ none. some (no_first xs ys none))), first), second)
+
+  pub open_parts_last : FirstPartsLast content (AreAnsweredWhileOpen content)
+  open_parts_last old xs ys new settled answered =
+      let (mid, first, second) = open_parts old xs ys new answered in
+      (mid, first, second, open_stops old xs mid settled first)
 
 module _ {D H : Type 0} (kept : D → H) (content : H → Content) where
   abbrev over : D → Content
@@ -69,6 +105,20 @@ module _ {D H : Type 0} (kept : D → H) (content : H → Content) where
   went_on m [] n same some = absurd (some refl)
   went_on m (x ∷ xs) n (p, (q, (left, rests), says), more) some = sym (still_on reads m left q rests) ∙ says.0
 
+  -- where the responder doesn't go on, the last reply is 503
+  pub ended_unavailable : (h : D × Bool) (xs : List Exchange) (i : D × Bool)
+      → RestingSession answers (still reads) h xs i → h.1 ≡ true → i.1 ≡ false → EndUnavailable xs
+  ended_unavailable h [] i (n, same, (left, rests)) opened shut =
+      let stays : i.1 ≡ true = still_on reads n left i rests ∙ ap (λ (z : D × Bool). z.1) same ∙ opened in
+      let clash = sym stays ∙ shut in
+      absurd cc
+  ended_unavailable h (x ∷ []) i (n, (m, (read, rested, says), same), (left, rests)) opened shut =
+      ([], x, refl, says.3 (sym (still_on reads n left i rests ∙ ap (λ (z : D × Bool). z.1) same) ∙ shut))
+  ended_unavailable h (x ∷ y ∷ xs) i (n, (m, first, more), after) opened shut =
+      let (front, last, is, unavailable) =
+      ended_unavailable m (y ∷ xs) i (n, more, after) (went_on m (y ∷ xs) n more (λ e. absurd cc)) shut in
+      (x ∷ front, last, ap (λ (ys : List Exchange). x ∷ ys) is, unavailable)
+
   pub while_open : (h : D × Bool) (xs : List Exchange) (i : D × Bool) → RestingSession answers (still reads) h xs i
       → AreAnsweredWhileOpen content (kept h.0) xs (kept i.0)
   while_open h [] i (n, same, (left, rests)) =
@@ -82,24 +132,44 @@ module _ {D H : Type 0} (kept : D → H) (content : H → Content) where
     while_open m xs i (n, more, after),
   )
 
+-- what was true of the requests so far is true of them once all have gone
 module _ {D H C P : Type 0} (kept : D → H) (content : H → Content) (now_gives : C → Option ℕ → C → Type 0)
-    (came went : P → List ℕ) (h : D) (c : C) (i : D) (d : C) (s : Clients P) (on : Bool)
-    (handled : AreHandled (answers kept content) (still (reads kept content)) now_gives came went (h, true) c (i, on) d s) where
+    (traffic : P → Traffic) (old new : Said P) (h : D) (c : C) (i : D) (d : C) (why : ServeAllEnd) (s u : Clients P)
+    (handled : AreHandled
+    (service_of (IsAnswered (over kept content)) (GoesOn (over kept content)) (reads kept content) now_gives)
+    (λ turns. AreKeptAtTurns traffic old new turns s) ((h, true), c) ((i, stays_open why), d))
+    (keeps : AnswersNoMore traffic s u) (empty : AreGone u) where
   abbrev xs : List Exchange
   xs = exchanges_of handled.turns
 
   answered : AreAnsweredWhileOpen content (kept h) xs (kept i)
-  answered = while_open kept content (h, true) xs (i, on) handled.session
+  answered = while_open kept content (h, true) xs (i, stays_open why) handled.session
 
-  pub crowd_served : AreServed content now_gives came went (kept h) c (kept i) d s
-  crowd_served = record {
+  after : AreKept traffic old.count new.count handled.turns u
+  after = keeps.1 old.count new.count handled.turns handled.holds.0
+
+  pub crowd_served : IsSettled (content (kept h))
+      → AreServed content now_gives traffic why (kept h, c) (kept i, d) u.gone.items
+  crowd_served settled = record {
     turns = handled.turns;
     answered = answered;
     moments = handled.moments;
     leads = open_leads content (kept h) xs (kept i) answered;
     run = open_runs content (kept h) xs (kept i) answered;
-    told = handled.told;
+    stops = open_stops content (kept h) xs (kept i) settled answered;
+    shut = λ is.
+        ended_unavailable kept content (h, true) xs (i, stays_open why) handled.session refl (ap stays_open is);
+    told = kept_told traffic old.count new.count handled.turns u after empty;
   }
+
+  pub crowd_turned : IsSettled (content (kept h))
+      → (all : AreServed content now_gives traffic why (kept h, c) (kept i, d) u.gone.items)
+      × AreAtTurns traffic (since old new) all.turns
+  unfolding crowd_served
+  crowd_turned settled = (crowd_served settled, handled.holds.1)
+
+  pub crowd_those : AreThose traffic old.count new.count u.gone.items
+  crowd_those = kept_those traffic old.count new.count handled.turns u after empty
 
   pub crowd_sane : SaneThen Sane (content (kept h)) (content (kept i))
   crowd_sane = runs_sane (content (kept h)) xs (content (kept i)) (open_runs content (kept h) xs (kept i) answered)

@@ -16,7 +16,7 @@ use Rattle.hall_desk.specs.Without.{without, replies_where, replies_to, has_key,
 use Rattle.hall_desk.specs.Exchanged.{swapped, exchanged_request, exchanged_list, exchanged_replies}
 use Rattle.hall_desk.specs.declared.reply.Reply.{Reply}
 use Rattle.hall_desk.specs.declared.reply.Reply.TheVariants as reply
-use Rattle.hall_desk.proofs.OthersAlike.{not_own}
+use Rattle.hall_desk.proofs.OthersSteps.{not_own}
 use Rattle.hall_desk.proofs.OthersRun.{others_hidden_in_runs}
 use Rattle.hall_desk.proofs.SealedRun.{sealed_runs}
 use Rattle.hall_desk.proofs.StepsSane.{run_sane}

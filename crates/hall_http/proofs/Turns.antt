@@ -8,7 +8,7 @@ use Rattle.std.proofs.lemmas.List.Elements.{All-nil, All-push}
 use Rattle.std.proofs.KnownBytes.{Appends-nil, Appends-trans, Consumes-nil, Consumes-trans}
 use Rattle.std.specs.Io.KnownBytes.{Appends, Consumes}
 use Rattle.hall_grid.specs.Device.{MadeCalls, Rises}
-use Rattle.hall_store.specs.Store.{Content}
+use Rattle.hall_store.specs.Store.{Content, IsSettled}
 use Rattle.hall_store.proofs.Knowing.{leads_same}
 use Rattle.hall_http.specs.declared.fault.ReplayFault.{ReplayFault}
 use Rattle.hall_http.specs.declared.fault.ReplayFault.TheVariants as fault
@@ -23,7 +23,7 @@ use Rattle.hall_http.specs.Replay.{IsReplayed, Ended, HaveReadRecords}
 use Rattle.hall_http.proofs.Readings.{one_call_more, session_more}
 use Rattle.hall_http.specs.Inbox.{ReadsMore}
 use Rattle.hall_http.proofs.Histories.{not_nil}
-use Rattle.hall_http.proofs.Runs.{session_leads, session_runs}
+use Rattle.hall_http.proofs.Runs.{session_leads, session_runs, session_stops}
 
 records_more : (xs : List AnsweredRecord) (x : AnsweredRecord) → records_of (xs ++ x ∷ []) ≡ records_of xs ++ record_bytes x.asked
 records_more xs x =
@@ -54,6 +54,7 @@ never_nil h =
 pub record Kept {H : Type 0} (content : H → Content) (stream after wrote written : Option (List ℕ)) (old new : H)
     (inbox : List ℕ) (reads asked asks : ℕ) : Type 0 where
   pub done : List AnsweredRecord
+  pub settled : IsSettled (content old)
   pub session : AreAnswered content old (exchanges_of done) new
   pub whole : All (λ x. IsRecord x.asked) done
   pub consumed : Consumes stream after (records_of done ++ inbox)
@@ -63,11 +64,12 @@ pub record Kept {H : Type 0} (content : H → Content) (stream after wrote writt
   pub bounded : length inbox ≤ 81920
 
 module _ {H : Type 0} (content : H → Content) where
-  pub kept_start : (stream wrote : Option (List ℕ)) (store : H) (asked : ℕ)
+  pub kept_start : (stream wrote : Option (List ℕ)) (store : H) (asked : ℕ) → IsSettled (content store)
       → Kept content stream stream wrote wrote store store [] 0 asked asked
-  kept_start stream wrote store asked =
+  kept_start stream wrote store asked settled =
       record {
         done = [];
+        settled = settled;
         session = refl;
         whole = All-nil (λ x. IsRecord x.asked);
         consumed = Consumes-nil stream;
@@ -87,6 +89,7 @@ module _ {H : Type 0} (content : H → Content) where
         sym (append_assoc (records_of kept.done) inbox piece) in
         record {
           done = kept.done;
+          settled = kept.settled;
           session = kept.session;
           whole = kept.whole;
           consumed = rw all (Consumes-trans stream after then (records_of kept.done ++ inbox) piece kept.consumed more);
@@ -134,6 +137,7 @@ module _ {H : Type 0} (content : H → Content) where
           → Kept content stream after wrote then old next (drop end inbox) reads asked asks
       kept_answered then sent = record {
         done = all;
+        settled = kept.settled;
         session = longer;
         whole = whole_all;
         consumed = rw same_bytes kept.consumed;
@@ -158,6 +162,7 @@ module _ {H : Type 0} (content : H → Content) where
         whole = whole_all;
         leads = session_leads content old (exchanges_of all) next longer;
         run = session_runs content old (exchanges_of all) next longer;
+        stops = session_stops content old (exchanges_of all) next kept.settled longer;
         seldom = seldom;
         made = kept.made;
         reading = after_it;
@@ -188,6 +193,7 @@ module _ {H : Type 0} (content : H → Content) where
         whole = kept.whole;
         leads = session_leads content old (exchanges_of kept.done) new kept.session;
         run = session_runs content old (exchanges_of kept.done) new kept.session;
+        stops = session_stops content old (exchanges_of kept.done) new kept.settled kept.session;
         seldom = seldom;
         made = made;
         reading = kept.reading;
@@ -241,9 +247,9 @@ module _ {H : Type 0} (content : H → Content) where
 
   -- nothing was read for want of memory
   pub unbegun : {U : Type 0} (stream wrote : Option (List ℕ)) (store : H) (failed broke asked : ℕ)
-      → IsReplayed {U = U} content stream stream wrote wrote store store failed failed broke broke asked asked
+      → IsSettled (content store) → IsReplayed {U = U} content stream stream wrote wrote store store failed failed broke broke asked asked
       (Err fault.Memory)
-  unbegun stream wrote store failed broke asked = record {
+  unbegun stream wrote store failed broke asked settled = record {
     records = [];
     unread = [];
     pieces = 0;
@@ -252,6 +258,7 @@ module _ {H : Type 0} (content : H → Content) where
     whole = All-nil (λ x. IsRecord x.asked);
     leads = leads_same (content store);
     run = session_runs content store [] store refl;
+    stops = session_stops content store [] store settled refl;
     seldom = omega arith;
     made = inl (omega arith);
     reading = at_first;

@@ -1,5 +1,5 @@
 -- The answer to the bytes of one request: a step of the hall, or why none was made.
-use Rattle.std.specs.Prelude.{◌≡◌, ◌⊎◌, ℕ, List, [], Ok, Err, codes, string_bytes}
+use Rattle.std.specs.Prelude.{◌≡◌, ◌⊎◌, ◌++◌, ℕ, List, Ok, Err, codes, string_bytes}
 use Rattle.hall_policy.specs.World.{World}
 use Rattle.hall_policy.specs.declared.request.Request.{Request}
 use Rattle.hall_store.specs.Store.{Content, LeavesOneOf, Over}
@@ -9,20 +9,21 @@ use Rattle.hall_desk.specs.declared.reply.Reply.{Reply}
 use Rattle.hall_desk.specs.declared.reply.Reply.TheVariants.{Unavailable as NotServed}
 use Rattle.hall_http.specs.declared.form.FormFault.{FormFault}
 use Rattle.hall_http.specs.declared.answer.Answer.{Answer}
-use Rattle.hall_http.specs.declared.answer.Answer.TheVariants.{Text, Unavailable, Shut, Refusal, Nothing}
+use Rattle.hall_http.specs.declared.answer.Answer.TheVariants.{Text, Unavailable, Shut}
 use Rattle.hall_http.specs.Request.{RequestOf}
 use Rattle.hall_http.specs.Reply.{BytesOf, FaultBytesOf}
+
+-- the reply 503: its head, and its body
+abbrev pub unavailable_text : List ℕ
+unavailable_text =
+    codes "HTTP/1.1 503 Service Unavailable\r\nContent-Type: application/json\r\nContent-Length: 16\r\n\r\n"
+    ++ codes "{\"fault\":\"hall\"}"
 
 -- the bytes of an answer
 abbrev pub answer_text : Answer → List ℕ
 answer_text (Text text) = string_bytes text
-answer_text Unavailable =
-    codes "HTTP/1.1 503 Service Unavailable\r\nContent-Type: application/json\r\nContent-Length: 16\r\n\r\n{\"fault\":\"hall\"}"
-answer_text Shut =
-    codes "HTTP/1.1 503 Service Unavailable\r\nContent-Type: application/json\r\nContent-Length: 16\r\n\r\n{\"fault\":\"hall\"}"
-answer_text Refusal =
-    codes "HTTP/1.1 400 Bad Request\r\nContent-Type: application/json\r\nContent-Length: 13\r\n\r\n{\"form\":\"F7\"}"
-answer_text Nothing = []
+answer_text Unavailable = unavailable_text
+answer_text Shut = unavailable_text
 
 -- the text is the reply 503
 pub record IsUnavailable (text : List ℕ) : Type 0 where
@@ -48,11 +49,11 @@ pub record IsRefused (bytes text : List ℕ) : Type 0 where
   pub reads : RequestOf bytes (Err found)
   pub written : FaultBytesOf found text
 
--- the text names the fault, or for want of memory is 503
+-- the text names the fault, or is 503, out of memory
 abbrev pub AnswersFault : FormFault → List ℕ → Type 0
 AnswersFault found text = FaultBytesOf found text ⊎ BytesOf NotServed text
 
--- the bytes are answered: by a step of the hall; or by the fault of their form, or for want of memory by 503,
+-- the bytes are answered: by a step of the hall; or by the fault of their form, or by 503, out of memory,
 -- and the world stays
 abbrev pub Answers : World → ℕ → List ℕ → List ℕ → World → Type 0
 Answers world moment bytes text after =
@@ -77,8 +78,8 @@ abbrev pub AnswersRequestOver : Content → ℕ → Request → List ℕ → Con
 AnswersRequestOver old moment request text new =
     Over (λ before after. AnswersRequest before moment request text after) old new
 
--- What a stop leaves of a store whose request is answered so: what a stop before it could leave, or the world after a step
--- with these bytes of a reply, or with others where this was 503.
+-- What a stop leaves of a store whose request is answered so: what a stop before it could leave, or the world after a
+-- step with these bytes of a reply, or with others where this was 503.
 abbrev pub StopsAt : Content → ℕ → Request → List ℕ → Content → Type 0
 StopsAt old moment request text new =
     LeavesOneOf (λ before left.

@@ -1,6 +1,7 @@
 -- What the sockets said was to be done next, and why no more was.
-use Rattle.std.specs.Prelude.{◌≡◌, ◌⊎◌, ◌+◌, ℕ, List, [], ◌∷◌, ◌++◌, length, map, All}
+use Rattle.std.specs.Prelude.{◌≡◌, ◌⊎◌, ◌+◌, ℕ, Bool, true, false, List, [], ◌∷◌, ◌++◌, length, drop, map, All}
 use Rattle.http_server.specs.declared.log.Log.{Log}
+use Rattle.hall_http.specs.Peer.{Traffic}
 use Rattle.hall_http.specs.declared.server.Next.{Next}
 use Rattle.hall_http.specs.declared.server.Next.TheVariants as next
 use Rattle.hall_http.specs.declared.server.ServeAllEnd.{ServeAllEnd}
@@ -14,10 +15,21 @@ Nexts P = List (Next P)
 abbrev pub logged : {P B : Type 0} → Log (Next P) B → Nexts P
 logged log = map (λ one. one.0) log.items
 
--- of a newcomer nothing was read, and it was sent nothing
-abbrev pub IsFreshPeer : {P : Type 0} → (P → List ℕ) → (P → List ℕ) → Next P → Type 0
-IsFreshPeer came went (next.Newcomer place peer) = (came peer ≡ []) × (went peer ≡ [])
-IsFreshPeer came went _ = Unit {0}
+-- all that the sockets said was to be done, and how many newcomers they have handed out
+pub record Said (P : Type 0) : Type 0 where
+  pub nexts : Nexts P
+  pub count : ℕ
+
+-- what they said in the meantime
+abbrev pub since : {P : Type 0} → Said P → Said P → Nexts P
+since before after = drop (length before.nexts) after.nexts
+
+-- a newcomer has this number, nothing was read of it, not even that no more comes, and it was sent nothing
+abbrev pub IsFreshPeer : {P : Type 0} → (P → Traffic) → ℕ → Next P → Type 0
+IsFreshPeer traffic number (next.Newcomer place peer) =
+    ((traffic peer).number ≡ number) × ((traffic peer).came ≡ []) × ((traffic peer).went ≡ [])
+    × ((traffic peer).over ≡ false)
+IsFreshPeer traffic number _ = Unit {0}
 
 -- a newcomer comes, one has its turn, or one goes; and more may follow
 abbrev pub IsStep : {P : Type 0} → Next P → Type 0
@@ -30,10 +42,11 @@ abbrev pub newcomer : {P : Type 0} → Next P → ℕ
 newcomer (next.Newcomer place peer) = 1
 newcomer _ = 0
 
--- how many of these are newcomers
-abbrev pub newcomers : {P : Type 0} → Nexts P → ℕ
-newcomers [] = 0
-newcomers (one ∷ rest) = newcomer one + newcomers rest
+-- the newcomers among these have, in order, the numbers from the first on that are less than the last
+abbrev pub AreCounted : {P : Type 0} → (P → Traffic) → ℕ → Nexts P → ℕ → Type 0
+AreCounted traffic few [] many = many ≡ few
+AreCounted traffic few (one ∷ rest) many =
+    IsFreshPeer traffic few one × AreCounted traffic (few + newcomer one) rest many
 
 -- why no more was done after these steps. `Served`: the sockets said that all have gone. `Refused`: they said that
 -- none can come in, or 2^64 - 1 things were done. `Shut`: the last was a turn.
@@ -42,12 +55,17 @@ EndsBy end.Served steps last = last ≡ next.End ∷ []
 EndsBy end.Refused steps last = (last ≡ next.Refused ∷ []) ⊎ ((last ≡ []) × (length steps ≡ 18446744073709551615))
 EndsBy {P} end.Shut steps last = (last ≡ []) × (front : Nexts P) × (place : ℕ) × (steps ≡ front ++ next.Turn place ∷ [])
 
--- The sockets said these things, each of which was done, and then perhaps a last one, and none after it. As many came
--- in as there are newcomers among them.
-pub record AreDone {P : Type 0} (end : ServeAllEnd) (before after : Nexts P) (few many : ℕ) : Type 0 where
+-- others may be answered still
+abbrev pub stays_open : ServeAllEnd → Bool
+stays_open end.Shut = false
+stays_open _ = true
+
+-- The sockets said these things, and then perhaps a last one, and none after it. The newcomers among them have the
+-- numbers that follow on those of the newcomers before, in order.
+pub record AreDone {P : Type 0} (traffic : P → Traffic) (end : ServeAllEnd) (before after : Said P) : Type 0 where
   pub steps : Nexts P
   pub last : Nexts P
-  pub said : after ≡ before ++ steps ++ last
+  pub said : after.nexts ≡ before.nexts ++ steps ++ last
   pub each : All IsStep steps
-  pub came : many ≡ few + newcomers steps
+  pub came : AreCounted traffic before.count steps after.count
   pub ended : EndsBy end steps last

@@ -1,90 +1,200 @@
 -- All connections that came, and what each was told.
-use Rattle.std.specs.Prelude.{◌≡◌, ◌≢◌, ◌<◌, ◌+◌, ◌⊎◌, ℕ, List, [], ◌∷◌, ◌++◌, length, All, Option, Some, None}
+use Rattle.std.specs.Prelude.{◌≡◌, ◌≢◌, ◌<◌, ◌≤◌, ◌+◌, ◌⊎◌, ⊤, ℕ, List, [], ◌∷◌, ◌++◌, All, Option, Some, None}
 use Rattle.std.proofs.Common.{get_or}
-use Rattle.hall_http.specs.Turns.{Turn, exchanges_of, of, IsTold, IsClient}
-use Rattle.hall_http.specs.Coming.{Nexts, AreDone}
+use Rattle.hall_http.specs.Answered.{IsUnavailable}
+use Rattle.hall_http.specs.Peer.{Traffic}
+use Rattle.hall_http.specs.Turns.{Turn, Service, exchanges_of, of, IsTold, IsClient}
+use Rattle.hall_http.specs.Coming.{Nexts, Said, AreDone, since}
+use Rattle.hall_http.specs.declared.server.Next.TheVariants as next
+use Rattle.hall_http.specs.declared.server.Next.{Next}
 use Rattle.hall_http.specs.declared.server.ServeAllEnd.{ServeAllEnd}
-use Rattle.hall_http.specs.declared.server.ServeAllEnd.TheVariants.{Served}
+use Rattle.hall_http.specs.declared.server.ServeAllEnd.TheVariants as end
 use Rattle.hall_store.specs.Store.{Content, Leads}
-use Rattle.hall_http.specs.Connection.{AreMoments}
+use Rattle.hall_http.specs.Connection.{Exchange, AreMoments}
 use Rattle.hall_http.specs.Resting.{RestingSession}
-use Rattle.hall_http.specs.Serving.{AreAnsweredWhileOpen, RunsOver}
+use Rattle.hall_http.specs.Serving.{AreAnsweredWhileOpen, LeavesRunOver, RunsOver}
 use Rattle.hall_http.specs.declared.client.Client.{Client}
 use Rattle.hall_http.specs.declared.clients.Clients.{Clients}
+use Rattle.hall_http.specs.declared.peer.Closed.{Closed}
 
 -- the connection at a place
 abbrev pub IsAt : {P : Type 0} → Clients P → ℕ → Client P → Type 0
 IsAt s place k = get_or s.places.items place None ≡ Some k
 
--- how many newcomers came in: each was given a place, or was turned away
-abbrev pub came_in : {P : Type 0} → Clients P → ℕ
-came_in s = s.count + length s.away.items
+-- all have gone: none is at any place
+abbrev pub AreGone : {P : Type 0} → Clients P → Type 0
+AreGone s = (place : ℕ) → get_or s.places.items place None ≡ None
 
--- one of the connections that have gone had this number
-abbrev pub HasGone : {P : Type 0} → ℕ → List (P × ℕ) → Type 0
-HasGone {P} number gone =
-    (front : List (P × ℕ)) × (one : P × ℕ) × (rest : List (P × ℕ)) × (gone ≡ front ++ one ∷ rest) × (one.1 ≡ number)
+-- a connection that has gone, and the place that it had; one that was turned away had none
+abbrev pub Past : Type 0 → Type 0
+Past P = Closed P × Option ℕ
 
--- each connection that came has a number of its own, below their count, and is here or has gone; and each request that
--- was answered is of one of them
-pub record AreNumbered {P : Type 0} (turns : List Turn) (s : Clients P) : Type 0 where
-  pub known : All (λ turn. turn.0 < s.count) turns
-  pub counted : (place : ℕ) (k : Client P) → IsAt s place k → k.number < s.count
-  pub apart : (place other : ℕ) (k l : Client P) → IsAt s place k → IsAt s other l → k.number ≡ l.number → place ≡ other
-  pub left : (place : ℕ) (k : Client P) → IsAt s place k → All (λ one. one.1 ≢ k.number) s.gone.items
-  pub past : All (λ one. one.1 < s.count) s.gone.items
-  pub found : (number : ℕ) → number < s.count
-      → ((place : ℕ) × (k : Client P) × IsAt s place k × (k.number ≡ number)) ⊎ HasGone number s.gone.items
+-- all that came of it and went to it until it was closed
+abbrev pub traffic_past : {P : Type 0} → (P → Traffic) → Past P → Traffic
+traffic_past traffic one = traffic one.0.peer
 
--- of each connection what came spells its requests among these, and what it was sent is a first part of their
--- replies; and a newcomer that was turned away was sent nothing
-pub record AreTold {P : Type 0} (came went : P → List ℕ) (turns : List Turn) (s : Clients P) : Type 0 where
-  pub numbered : AreNumbered turns s
-  pub here : (place : ℕ) (k : Client P) → IsAt s place k → IsTold (of k.number turns) (came k.peer) (went k.peer)
-  pub gone : All (λ one. IsTold (of one.1 turns) (came one.0) (went one.0)) s.gone.items
-  pub away : All (λ one. (came one.0 ≡ []) × (went one.0 ≡ [])) s.away.items
+-- its number among all that the sockets handed out
+abbrev pub number_past : {P : Type 0} → (P → Traffic) → Past P → ℕ
+number_past traffic one = (traffic_past traffic one).number
 
--- the same, and each that is here stands as its history says
-pub record AreKept {P : Type 0} (came went : P → List ℕ) (turns : List Turn) (s : Clients P) : Type 0 where
-  pub numbered : AreNumbered turns s
-  pub here : (place : ℕ) (k : Client P) → IsAt s place k → IsClient came went (of k.number turns) k
-  pub gone : All (λ one. IsTold (of one.1 turns) (came one.0) (went one.0)) s.gone.items
-  pub away : All (λ one. (came one.0 ≡ []) × (went one.0 ≡ [])) s.away.items
+-- one of the connections that have gone has this number
+abbrev pub HasGone : {P : Type 0} → (P → Traffic) → ℕ → List (Past P) → Type 0
+HasGone {P} traffic number gone =
+    (front : List (Past P)) × (one : Past P) × (rest : List (Past P)) × (gone ≡ front ++ one ∷ rest)
+    × (number_past traffic one ≡ number)
 
--- some more requests of theirs were answered, one after another
-abbrev pub Serves : {H C P : Type 0} → (H → Option ℕ → List ℕ → List ℕ → H → Type 0) → (H → H → Type 0)
-    → (C → Option ℕ → C → Type 0)
-    → (P → List ℕ) → (P → List ℕ) → H → C → Clients P → H → C → Clients P → Type 0
-Serves answers rests now_gives came went h c s i d u =
-    (turns : List Turn) → AreKept came went turns s
-    → (more : List Turn) × RestingSession answers rests h (exchanges_of more) i
-    × AreMoments now_gives c (exchanges_of more) d
-    × AreKept came went (turns ++ more) u
+-- the number is one of those that were handed out, from the first on and below the last
+abbrev pub IsHandedOut : ℕ → ℕ → ℕ → Type 0
+IsHandedOut few many number = (few ≤ number) × (number < many)
 
--- requests were answered one after another by a responder, at the clock's moments, and each connection was told so
-pub record AreHandled {H C P : Type 0} (answers : H → Option ℕ → List ℕ → List ℕ → H → Type 0)
-    (rests : H → H → Type 0) (now_gives : C → Option ℕ → C → Type 0) (came went : P → List ℕ) (h : H) (c : C) (i : H)
-    (d : C) (s : Clients P) : Type 0 where
+-- no two of them have the same number
+abbrev pub AreApart : {P : Type 0} → (P → Traffic) → List (Past P) → Type 0
+AreApart traffic [] = ⊤
+AreApart traffic (one ∷ rest) =
+    All (λ other. number_past traffic other ≢ number_past traffic one) rest × AreApart traffic rest
+
+-- What came of it spells its requests among these, and what it was sent is a first part of their replies. Of one that
+-- was turned away nothing came, and it was sent nothing.
+abbrev pub IsPast : {P : Type 0} → (P → Traffic) → List Turn → Past P → Type 0
+IsPast traffic turns one =
+    IsTold (of (number_past traffic one) turns) (traffic_past traffic one)
+    × (one.1 ≡ None → ((traffic_past traffic one).came ≡ []) × ((traffic_past traffic one).went ≡ []))
+
+-- each of the connections with these numbers is here or has gone, and none twice; and each request that was answered
+-- is of one of them
+pub record AreNumbered {P : Type 0} (traffic : P → Traffic) (few many : ℕ) (turns : List Turn) (s : Clients P) :
+    Type 0 where
+  pub order : few ≤ many
+  pub known : All (λ turn. IsHandedOut few many turn.0) turns
+  pub counted : (place : ℕ) (k : Client P) → IsAt s place k → IsHandedOut few many (traffic k.peer).number
+  pub apart : (place other : ℕ) (k l : Client P) → IsAt s place k → IsAt s other l
+      → (traffic k.peer).number ≡ (traffic l.peer).number → place ≡ other
+  pub left : (place : ℕ) (k : Client P) → IsAt s place k
+      → All (λ one. number_past traffic one ≢ (traffic k.peer).number) s.gone.items
+  pub past : All (λ one. IsHandedOut few many (number_past traffic one)) s.gone.items
+  pub once : AreApart traffic s.gone.items
+  pub found : (number : ℕ) → IsHandedOut few many number
+      → ((place : ℕ) × (k : Client P) × IsAt s place k × ((traffic k.peer).number ≡ number))
+      ⊎ HasGone traffic number s.gone.items
+
+-- of those that are here each stands as its history says, and those that have gone were told so
+pub record AreKept {P : Type 0} (traffic : P → Traffic) (few many : ℕ) (turns : List Turn) (s : Clients P) :
+    Type 0 where
+  pub numbered : AreNumbered traffic few many turns s
+  pub here : (place : ℕ) (k : Client P) → IsAt s place k → IsClient traffic (of (traffic k.peer).number turns) k
+  pub gone : All (IsPast traffic turns) s.gone.items
+
+-- some numbers, and some requests that were answered, are those of these connections
+abbrev pub AreSomeKept : {P : Type 0} → (P → Traffic) → Clients P → Type 0
+AreSomeKept traffic s = (few many : ℕ) × (turns : List Turn) × AreKept traffic few many turns s
+
+-- a connection of this number is at the place
+abbrev pub HasAt : {P : Type 0} → (P → Traffic) → Clients P → ℕ → ℕ → Type 0
+HasAt {P} traffic s place number = (k : Client P) × IsAt s place k × ((traffic k.peer).number ≡ number)
+
+-- whoever is at a place was there before, of the same number
+abbrev pub AreStill : {P : Type 0} → (P → Traffic) → Clients P → Clients P → Type 0
+AreStill {P} traffic s u =
+    (place : ℕ) (l : Client P) → IsAt u place l → HasAt traffic s place (traffic l.peer).number
+
+-- whatever they were answered, they were answered no more, and each that is here is at its place
+abbrev pub AnswersNoMore : {P : Type 0} → (P → Traffic) → Clients P → Clients P → Type 0
+AnswersNoMore traffic s u =
+    AreStill traffic s u
+    × ((few many : ℕ) (turns : List Turn) → AreKept traffic few many turns s → AreKept traffic few many turns u)
+
+-- whoever is at a place was there before, or is the newcomer, at its place
+abbrev pub ComesTo : {P : Type 0} → (P → Traffic) → ℕ → P → Clients P → Clients P → Type 0
+ComesTo {P} traffic place peer s u =
+    (other : ℕ) (l : Client P) → IsAt u other l
+    → HasAt traffic s other (traffic l.peer).number
+    ⊎ ((other ≡ place) × ((traffic l.peer).number ≡ (traffic peer).number))
+
+-- the same, and one came in for the place, of the number after the others
+abbrev pub Admits : {P : Type 0} → (P → Traffic) → ℕ → P → Clients P → Clients P → Type 0
+Admits traffic place peer s u =
+    ComesTo traffic place peer s u
+    × ((few many : ℕ) (turns : List Turn) → (traffic peer).number ≡ many → AreKept traffic few many turns s
+    → AreKept traffic few (many + 1) turns u)
+
+-- requests were answered one after another by a responder, at the clock's moments, and this is true of them
+pub record AreHandled {H C : Type 0} (service : Service H C) (Holds : List Turn → Type 0) (before after : H × C) :
+    Type 0 where
   pub turns : List Turn
-  pub session : RestingSession answers rests h (exchanges_of turns) i
-  pub moments : AreMoments now_gives c (exchanges_of turns) d
-  pub told : AreTold came went turns s
+  pub session : RestingSession service.answers service.rests before.0 (exchanges_of turns) after.0
+  pub moments : AreMoments service.now_gives before.1 (exchanges_of turns) after.1
+  pub holds : Holds turns
+
+-- each of these requests, if there are any, is of the connection at the place
+abbrev pub AreOf : {P : Type 0} → (P → Traffic) → Clients P → ℕ → List Turn → Type 0
+AreOf traffic s place more =
+    (more ≡ []) ⊎ ((number : ℕ) × HasAt traffic s place number × All (λ turn. turn.0 ≡ number) more)
+
+-- some more requests of the connection at the place were answered, one after another
+abbrev pub Serves : {H C P : Type 0} → Service H C → (P → Traffic) → ℕ → H × C → Clients P → H × C → Clients P → Type 0
+Serves service traffic place before s after u =
+    AreStill traffic s u
+    × ((few many : ℕ) (turns : List Turn) → AreKept traffic few many turns s
+    → AreHandled service (λ more. AreOf traffic s place more × AreKept traffic few many (turns ++ more) u) before after)
+
+-- by one of these, the newcomer of this number was handed out for the place
+abbrev pub IsFor : {P : Type 0} → (P → Traffic) → Nexts P → ℕ → ℕ → Type 0
+IsFor {P} traffic steps place number =
+    (front rest : Nexts P) × (peer : P) × (steps ≡ front ++ next.Newcomer place peer ∷ rest)
+    × ((traffic peer).number ≡ number)
+
+-- While these things were done, one after another, these requests were answered, each at a turn: at the turn of a place
+-- some, or none, of one newcomer that was handed out for the place before.
+pub data AreAtTurns {P : Type 0} (traffic : P → Traffic) : Nexts P → List Turn → Type 0 where
+  at_first : AreAtTurns traffic [] []
+  at_other : (steps : Nexts P) (turns : List Turn) (one : Next P) → AreAtTurns traffic steps turns
+      → AreAtTurns traffic (steps ++ one ∷ []) turns
+  at_turn : (steps : Nexts P) (turns more : List Turn) (place number : ℕ) → AreAtTurns traffic steps turns
+      → IsFor traffic steps place number → All (λ turn. turn.0 ≡ number) more
+      → AreAtTurns traffic (steps ++ next.Turn place ∷ []) (turns ++ more)
+
+-- so the connections stand after these requests, each of which was answered at a turn of its place, by what the sockets
+-- said in the meantime
+abbrev pub AreKeptAtTurns : {P : Type 0} → (P → Traffic) → Said P → Said P → List Turn → Clients P → Type 0
+AreKeptAtTurns traffic old new turns s =
+    AreKept traffic old.count new.count turns s × AreAtTurns traffic (since old new) turns
+
+-- Each request that was answered is of one of the connections, of which no two have the same number. And of each
+-- connection what came spells its requests among these, and what it was sent is a first part of the replies to them.
+pub record AreTold {P : Type 0} (traffic : P → Traffic) (turns : List Turn) (gone : List (Past P)) : Type 0 where
+  pub known : All (λ turn. HasGone traffic turn.0 gone) turns
+  pub apart : AreApart traffic gone
+  pub told : All (IsPast traffic turns) gone
+
+-- the reply to the last of these requests is 503
+abbrev pub EndUnavailable : List Exchange → Type 0
+EndUnavailable xs = (front : List Exchange) × (last : Exchange) × (xs ≡ front ++ last ∷ []) × IsUnavailable last.reply
 
 -- The requests of all connections were answered over a store, one after another, at the clock's moments, each over
 -- the store that the one before it left and that was only read since, by the replies of a run of the hall, and none
 -- after one that a store answered by 503 which serves no more. And of each connection that came, the first bytes
--- spell its requests among these, and what it was sent is a first part of the replies to them.
+-- spell its requests among these, and what it was sent is a first part of the replies to them. Where a store that was
+-- shut ended it, the last reply is 503.
 pub record AreServed {H C P : Type 0} (content : H → Content) (now_gives : C → Option ℕ → C → Type 0)
-    (came went : P → List ℕ) (old : H) (clock : C) (new : H) (later : C) (s : Clients P) : Type 0 where
+    (traffic : P → Traffic) (why : ServeAllEnd) (before after : H × C) (gone : List (Past P)) : Type 0 where
   pub turns : List Turn
-  pub answered : AreAnsweredWhileOpen content old (exchanges_of turns) new
-  pub moments : AreMoments now_gives clock (exchanges_of turns) later
-  pub leads : Leads (content old) (content new)
-  pub run : (content new).honest → RunsOver (content old) (exchanges_of turns) (content new)
-  pub told : AreTold came went turns s
+  pub answered : AreAnsweredWhileOpen content before.0 (exchanges_of turns) after.0
+  pub moments : AreMoments now_gives before.1 (exchanges_of turns) after.1
+  pub leads : Leads (content before.0) (content after.0)
+  pub run : (content after.0).honest → RunsOver (content before.0) (exchanges_of turns) (content after.0)
+  pub stops : LeavesRunOver (content before.0) (exchanges_of turns) (content after.0)
+  pub shut : why ≡ end.Shut → EndUnavailable (exchanges_of turns)
+  pub told : AreTold traffic turns gone
 
--- Serving ended so, as the sockets said: as many connections as they handed out came in, and were given a place or
--- turned away; and where all were served, all that may come have come and gone.
-abbrev pub EndsServing : {L P : Type 0} → (L → Type 0) → (L → Nexts P) → ServeAllEnd → L → L → Clients P → Type 0
-EndsServing is_over nexts end before after clients =
-    (end ≡ Served → is_over after) × AreDone end (nexts before) (nexts after) 0 (came_in clients)
+-- the connections that have gone are those of these numbers
+pub record AreThose {P : Type 0} (traffic : P → Traffic) (few many : ℕ) (gone : List (Past P)) : Type 0 where
+  pub within : All (λ one. IsHandedOut few many (number_past traffic one)) gone
+  pub found : (number : ℕ) → IsHandedOut few many number → HasGone traffic number gone
+
+-- Serving ended so, as the sockets said. The connections that came and have gone are those that the sockets handed out,
+-- each by its number, and no others; and where all were served, all that may come have come and gone.
+pub record EndsServing {L P : Type 0} (is_over : L → Type 0) (said : L → Said P) (traffic : P → Traffic)
+    (why : ServeAllEnd) (before after : L) (gone : List (Past P)) : Type 0 where
+  pub over : why ≡ end.Served → is_over after
+  pub done : AreDone traffic why (said before) (said after)
+  pub those : AreThose traffic (said before).count (said after).count gone

@@ -1,10 +1,10 @@
--- What a reader of bytes answers: a value, the first fault of their form, or want of memory.
+-- What a reader of bytes answers: a value, the first fault of their form, or out of memory.
 use Rattle.std.specs.Prelude.{◌≡◌, Result, Ok, Err}
 use Rattle.hall_http.specs.declared.form.FormFault.{FormFault}
 use Rattle.hall_http.specs.declared.form.RequestFault.{RequestFault}
 use Rattle.hall_http.specs.declared.form.RequestFault.TheVariants as fault
 
--- a refusal for the bytes' form is the first fault; want of memory says nothing of the bytes
+-- a refusal for the bytes' form is the first fault; out of memory says nothing of the bytes
 abbrev pub Fails : {A : Type 0} → RequestFault → Result A FormFault → Type 0
 Fails fault.Memory read = Unit {0}
 Fails (fault.Form f) read = read ≡ Err f

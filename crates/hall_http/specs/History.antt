@@ -1,6 +1,7 @@
 -- What a connection has heard and was told, and what is true of it.
-use Rattle.std.specs.Prelude.{◌≡◌, ◌≢◌, ◌<◌, ◌≤◌, ◌+◌, ◌⊎◌, ℕ, Bool, true, false, if◌then◌else◌, List, [], ◌∷◌, ◌++◌, length, take, All, Some, None}
-use Rattle.hall_http.specs.Answered.{answer_text}
+use Rattle.std.specs.Prelude.{◌≡◌, ◌≢◌, ◌<◌, ◌≤◌, ◌+◌, ◌⊎◌, ℕ, Bool, true, false, if◌then◌else◌, List, [], ◌∷◌, ◌++◌}
+use Rattle.std.specs.Prelude.{length, take, All, Some, None}
+use Rattle.hall_http.specs.Outgoing.{outgoing_text}
 use Rattle.hall_http.specs.Connection.{Exchange, requests_of, replies_of, AreOpen}
 use Rattle.hall_http.specs.Head.{IsWhole, IsUnfinished, IsUnfinishedBelow, NeverHas}
 use Rattle.hall_http.specs.Served.{HaveRead, IsLastRequest, MayGoOn, ClosesLast, HasAnsweredAll, refusal}
@@ -41,8 +42,8 @@ abbrev pub reads_of : History → ℕ
 reads_of t = t.pieces + (if t.ended then 1 else 0)
 
 -- Why a connection ends. `Closed`: the input has ended and nothing is left, or the last request closes it. `BadHead`:
--- no request can be made of what is left. `Limit`: 1,000 requests were answered, or 100,000 reads gave bytes and what is
--- left is unfinished.
+-- no request can be made of what is left. `Limit`: 1,000 requests were answered, or 100,000 reads gave bytes and what
+-- is left is unfinished.
 abbrev pub Ends : ServeEnd → History → List ℕ → Type 0
 Ends end.Closed t unread =
     (MayGoOn t.exchanges × (unread ≡ []) × (t.ended ≡ true))
@@ -74,12 +75,12 @@ pub record IsReplying (t : History) (k : Connection) : Type 0 where
   pub is_last : IsLastRequest before last t.exchanges t.pieces k.inbox
   pub more : t.ended ≡ false
   pub opened : AreOpen before
-  pub reply : answer_text k.reply ≡ last.reply
+  pub reply : outgoing_text k.reply ≡ last.reply
   pub told : t.went ≡ replies_of before ++ take k.sent last.reply
 
 -- bytes that are no request are being refused, and all replies before were sent
 pub record IsRefusing (t : History) (k : Connection) : Type 0 where
-  pub reply : answer_text k.reply ≡ refusal
+  pub reply : outgoing_text k.reply ≡ refusal
   pub told : t.went ≡ replies_of t.exchanges ++ take k.sent refusal
 
 -- what is being sent, before such an end
@@ -106,5 +107,5 @@ pub record HasHistory (t : History) (k : Connection) : Type 0 where
   pub seldom : reads_of t ≤ 100000
   pub bounded : length k.inbox ≤ 81920
   pub below : IsUnfinishedBelow k.least k.inbox
-  pub inside : k.sent ≤ length (answer_text k.reply)
+  pub inside : k.sent ≤ length (outgoing_text k.reply)
   pub stands : Stands k.state t k

@@ -1,5 +1,6 @@
 -- What bytes are as requests and as records, they are in at most one way.
 use Rattle.std.specs.Prelude.{◌≡◌, ℕ, List, ◌++◌, flat_map, All, Result}
+use Rattle.hall_store.specs.Store.{Content, IsSettled}
 use Rattle.httparse.specs.Grammar.{RequestHead}
 use Rattle.hall_policy.specs.World.{World}
 use Rattle.hall_policy.specs.declared.request.Request.{Request}
@@ -8,7 +9,7 @@ use Rattle.hall_http.specs.Head.{IsRequest, IsWhole, HasNone}
 use Rattle.hall_http.specs.Request.{RequestOf}
 use Rattle.hall_http.specs.Records.{Record, Records, HasNoRecord}
 use Rattle.hall_http.specs.Connection.{Exchange}
-use Rattle.hall_http.specs.Serving.{IsRunOver}
+use Rattle.hall_http.specs.Serving.{IsRunOver, LeavesRunOver}
 
 -- bytes are at most one request
 abbrev pub AreOneRequest : Type 0
@@ -52,3 +53,11 @@ abbrev pub RunsCompose : Type 0
 RunsCompose =
     (old mid new : World) (xs ys : List Exchange)
     → IsRunOver old xs mid → IsRunOver mid ys new → IsRunOver old (xs ++ ys) new
+
+-- Requests are answered over a store, and at first a stop would leave its world and no other. Then after each first
+-- part of them there is the store that it left and from which the others are answered, and what a stop leaves of that
+-- one is a world that this first part leaves.
+abbrev pub FirstPartsLast : {H : Type 0} → (H → Content) → (H → List Exchange → H → Type 0) → Type 0
+FirstPartsLast {H} content Answered =
+    (old : H) (xs ys : List Exchange) (new : H) → IsSettled (content old) → Answered old (xs ++ ys) new
+    → (mid : H) × Answered old xs mid × Answered mid ys new × LeavesRunOver (content old) xs (content mid)

@@ -3,6 +3,7 @@ pub mod Clock
 pub mod Words
 pub mod Body
 pub mod Reply
+pub mod Telling
 pub mod Head
 pub mod Routes
 pub mod Parts
@@ -19,6 +20,7 @@ pub mod Served
 pub mod Notice
 pub mod Laws
 pub mod Told
+pub mod Outgoing
 pub mod Steps
 pub mod Resting
 pub mod Feeding
@@ -28,5 +30,6 @@ pub mod Crowd
 pub mod Peer
 pub mod Socket
 pub mod Coming
+pub mod EventLoop
 pub mod Host
 pub mod Wire

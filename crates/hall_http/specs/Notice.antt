@@ -13,9 +13,10 @@ census_text None = []
 -- the line: on which port the hall in the file at the path is served, and how many people and rounds it knows
 abbrev pub notice_of : ℕ → List ℕ → Option Census → List ℕ
 notice_of port path census =
-    codes "hall: serving 127.0.0.1:" ++ (decimal port ++ (codes " from " ++ (path ++ (census_text census ++ codes "\n"))))
+    codes "hall: serving 127.0.0.1:"
+    ++ (decimal port ++ (codes " from " ++ (path ++ (census_text census ++ codes "\n"))))
 
--- the line was written, or a first part of it, or for want of memory nothing
+-- the line was written, or a first part of it, or nothing, out of memory
 abbrev pub IsNotified : {E : Type 0} → (E → Option (List ℕ)) → ℕ → List ℕ → Option Census → Tally E → Tally E → Type 0
 IsNotified contents port path census old new =
     Appends (contents old.device) (contents new.device) (notice_of port path census)

@@ -8,7 +8,7 @@ use Rattle.hall_http.specs.declared.fault.ReplayFault.{ReplayFault}
 use Rattle.hall_http.specs.declared.fault.ReplayFault.TheVariants as fault
 use Rattle.hall_http.specs.Device.{WritesPart, NoneFailed, ReadFailed, WriteFailed}
 use Rattle.hall_http.specs.Connection.{Exchange}
-use Rattle.hall_http.specs.Serving.{AreAnswered, RunsOver}
+use Rattle.hall_http.specs.Serving.{AreAnswered, LeavesRunOver, RunsOver}
 use Rattle.hall_http.specs.Reading.{Reading, IsLast}
 use Rattle.hall_http.specs.Records.{Record, IsRecord, record_bytes, HasNoRecord, NeverHasRecord, IsUnfinishedRecord}
 
@@ -54,8 +54,8 @@ StopsAtLast wrote written xs unread pieces =
 
 -- How the replay ended: what was written, and why it ended. `pieces` of its `reads` gave bytes. Well: a read told the
 -- end of the input, and nothing is left. `Record`: what is left is no record, or a thousand million reads gave bytes
--- and what is left is unfinished. `Device`: a read or a write failed, once. `Memory`: before the first read. No other call
--- failed: it ended at the first that did.
+-- and what is left is unfinished. `Device`: a read or a write failed, once. `Memory`: before the first read. No other
+-- call failed: it ended at the first that did.
 abbrev pub Ended : {U : Type 0} → Result U ReplayFault → Option (List ℕ) → Option (List ℕ) → Option (List ℕ)
     → List AnsweredRecord → List ℕ → ℕ → ℕ → ℕ → ℕ → ℕ → ℕ → Type 0
 Ended (Ok done) after wrote written xs unread pieces reads failed fails broke breaks =
@@ -85,6 +85,7 @@ pub record IsReplayed {H U : Type 0} (content : H → Content) (stream after wro
   pub whole : All (λ x. IsRecord x.asked) records
   pub leads : Leads (content old) (content new)
   pub run : (content new).honest → RunsOver (content old) (exchanges_of records) (content new)
+  pub stops : LeavesRunOver (content old) (exchanges_of records) (content new)
   pub seldom : reads ≤ 1000000000
   pub made : MadeCalls reads asked asks
   pub reading : HaveReadRecords records pieces unread

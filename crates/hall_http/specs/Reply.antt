@@ -1,6 +1,8 @@
 -- The replies of the hall: a status and a JSON body, as bytes.
-use Rattle.std.specs.Prelude.{◌≡◌, ⊤, ℕ, ℤ, Bool, ◌==◌, ◌++◌, List, map, if◌then◌else◌, Option, Some, None, codes, decimal, length}
-use Rattle.serde_json.specs.Data.{Data, null, boolean, number, string, object, array, unsigned, Members, no_members, member}
+use Rattle.std.specs.Prelude.{◌≡◌, ⊤, ℕ, ℤ, Bool, ◌==◌, ◌++◌, List, map, if◌then◌else◌, Option, Some, None, codes}
+use Rattle.std.specs.Prelude.{decimal, length}
+use Rattle.serde_json.specs.Data.{Data, null, boolean, number, string, object, array, unsigned, Members, no_members}
+use Rattle.serde_json.specs.Data.{member}
 use Rattle.serde_json.specs.View.{items_of}
 use Rattle.serde_json.specs.Find.{of_integer}
 use Rattle.serde_json.specs.Written.{compact_text}
@@ -316,7 +318,7 @@ abbrev pub fault_status : FormFault → Status
 fault_status fault.NoRoute = status.NotFound
 fault_status _ = status.BadRequest
 
--- the reply is told in JSON, and made for it: all are but a table, and want of memory, whose bytes stand ready
+-- the reply is told in JSON, and made for it: all are but a table, and out of memory, whose bytes stand ready
 abbrev pub IsJson : Reply → Type 0
 IsJson (reply.Table text) = ⊥
 IsJson reply.Unavailable = ⊥

@@ -33,7 +33,7 @@ use Rattle.hall_http.specs.Head.{IsRequest, IsWhole, shown_key}
 use Rattle.hall_http.specs.Routes.{Parts, word_in, token_in, puzzle_number, puzzle_key_in}
 use Rattle.hall_http.specs.Routes.{by_method, puzzle_by, round_by, resource_in}
 
--- what is wrong with a text that is no puzzle; want of memory says nothing of it
+-- what is wrong with a text that is no puzzle; out of memory says nothing of it
 abbrev pub puzzle_fault : TextFault → Option PuzzleFault
 puzzle_fault text_fault.Memory = None
 puzzle_fault text_fault.Kind = Some puzzle.Kind

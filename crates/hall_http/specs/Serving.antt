@@ -1,8 +1,8 @@
 -- Requests that are answered over a store, one after another.
-use Rattle.std.specs.Prelude.{◌≡◌, ◌≢◌, ◌⊎◌, ℕ, List, [], ◌∷◌, Option, Some, None, Ok, All}
+use Rattle.std.specs.Prelude.{◌≡◌, ◌≢◌, ◌⊎◌, ℕ, List, [], ◌∷◌, ◌++◌, Option, Some, None, Ok, All}
 use Rattle.hall_policy.specs.World.{World}
 use Rattle.hall_policy.specs.declared.request.Request.{Request}
-use Rattle.hall_store.specs.Store.{Content, Kept, Leads, LeavesOneOf, Over, WritesOnce}
+use Rattle.hall_store.specs.Store.{Content, IsSettled, Kept, Leads, LeavesOneOf, Over, WritesOnce}
 use Rattle.hall_desk.specs.Plans.{WritesIfAny}
 use Rattle.hall_desk.specs.Run.{IsTimed, Run}
 use Rattle.hall_desk.specs.declared.reply.Reply.{Reply}
@@ -29,6 +29,7 @@ pub record IsAnswered {H : Type 0} (content : H → Content) (old : H) (moment :
   pub stops : LeavesOneOf (λ before left.
       (made : List ℕ) × ((made ≡ reply) ⊎ BytesOf NotServed reply) × AnswersAt before moment request made left)
       (content old) (content new)
+  pub settled : IsSettled (content new)
   pub answers : (content new).honest →
       Over (λ before after. AnswersAt before moment request reply after) (content old) (content new)
   pub untouched : AsksNothing request ⊎ (moment ≡ None) → new ≡ old
@@ -83,3 +84,26 @@ pub record IsRunOver (old : World) (xs : List Exchange) (new : World) : Type 0 w
 -- still serves
 abbrev pub RunsOver : Content → List Exchange → Content → Type 0
 RunsOver old xs new = (last : World) × IsRunOver old.world xs last × (new.serves → new.world ≡ last)
+
+-- One of the requests was answered 503 and made all the same: those before it are a run of the hall, from where that
+-- ended an answer to this one leads to this world, and those after it are a run that leaves that.
+pub record IsRunWithOne (world : World) (xs : List Exchange) (left : World) : Type 0 where
+  pub before : List Exchange
+  pub one : Exchange
+  pub after : List Exchange
+  pub all : xs ≡ before ++ one ∷ after
+  pub refused : BytesOf NotServed one.reply
+  pub between : World
+  pub run : IsRunOver world before between
+  pub made : List ℕ
+  pub answered : AnswersAt between one.moment one.request made left
+  pub stays : IsRunOver left after left
+
+-- the world is the one after these requests, as they were answered; or one that was answered 503 was made all the same
+abbrev pub IsLeftOver : World → List Exchange → World → Type 0
+IsLeftOver world xs left = IsRunOver world xs left ⊎ IsRunWithOne world xs left
+
+-- What a stop leaves of a store that served before these requests, which were answered so, is a world that they leave.
+abbrev pub LeavesRunOver : Content → List Exchange → Content → Type 0
+LeavesRunOver old xs new =
+    new.honest → old.serves → (left : World) → new.may_leave left → IsLeftOver old.world xs left

@@ -1,6 +1,7 @@
 -- What a socket was read and was sent.
-use Rattle.std.specs.Prelude.{ℕ, List, flat_map, take, drop}
-use Rattle.hall_http.specs.Answered.{answer_text}
+use Rattle.std.specs.Prelude.{ℕ, List, flat_map, length, take, drop}
+use Rattle.hall_http.specs.Outgoing.{outgoing_text}
+use Rattle.hall_http.specs.Peer.{Traffic}
 use Rattle.hall_http.specs.declared.socket.Socket.{Socket}
 
 -- all bytes that were read of it
@@ -9,4 +10,8 @@ came_of s = flat_map (λ read. take read.1 read.0) s.reads.items
 
 -- all bytes that it was sent
 abbrev pub went_of : Socket → List ℕ
-went_of s = flat_map (λ write. take write.1.1 (drop write.1.0 (answer_text write.0))) s.writes.items
+went_of s = flat_map (λ write. take write.1.1 (drop write.1.0 (outgoing_text write.0))) s.writes.items
+
+-- both, how many were handed out before it, and whether a read told that no more comes
+abbrev pub traffic_of : Socket → Traffic
+traffic_of s = record { number = length s.before.items; came = came_of s; went = went_of s; over = s.is_over }

@@ -1,9 +1,11 @@
 -- The steps of a connection.
-use Rattle.std.specs.Prelude.{◌≡◌, ◌≢◌, ◌<◌, ◌+◌, ◌==◌, ◌⊎◌, ℕ, Bool, true, false, if◌then◌else◌, List, [], ◌++◌, length, take, drop, Option, Some, None}
-use Rattle.hall_http.specs.Answered.{answer_text}
+use Rattle.std.specs.Prelude.{◌≡◌, ◌≢◌, ◌<◌, ◌+◌, ◌==◌, ◌⊎◌, ℕ, Bool, true, false, if◌then◌else◌, List, [], ◌++◌}
+use Rattle.std.specs.Prelude.{length, take, drop, Option, Some, None}
+use Rattle.hall_http.specs.Answered.{IsUnavailable}
+use Rattle.hall_http.specs.Outgoing.{outgoing_text}
 use Rattle.hall_http.specs.Connection.{Exchange, Exchanged, IsOpen, IsClosing}
 use Rattle.hall_http.specs.Head.{IsUnfinished, IsUnfinishedBelow, NeverHas}
-use Rattle.hall_http.specs.declared.answer.Answer.TheVariants.{Nothing, Refusal}
+use Rattle.hall_http.specs.declared.outgoing.Outgoing.TheVariants.{Nothing, Refusal}
 use Rattle.hall_http.specs.declared.connection.Connection.{Connection}
 use Rattle.hall_http.specs.declared.connection.ServeEnd.{ServeEnd}
 use Rattle.hall_http.specs.declared.connection.ServeEnd.TheVariants as end
@@ -12,7 +14,7 @@ use Rattle.hall_http.specs.declared.connection.State.TheVariants as state
 
 -- the bytes that wait to be sent
 abbrev pub pending : Connection → List ℕ
-pending k = drop k.sent (answer_text k.reply)
+pending k = drop k.sent (outgoing_text k.reply)
 
 -- one of which nothing was heard
 abbrev pub fresh : Connection
@@ -54,21 +56,24 @@ EndsAfter request requests (Some end.Limit) = IsOpen request × (requests ≡ 10
 EndsAfter request requests None = IsOpen request × (requests ≢ 1000)
 EndsAfter request requests (Some _) = ⊥
 
--- a responder that goes on answers a request, and where it still goes on then, it can
+-- A responder that goes on answers a request. Where it still goes on then, it can; and where it doesn't, the reply is
+-- 503.
 abbrev pub gated : {H : Type 0} → (H → Option ℕ → List ℕ → List ℕ → H → Type 0) → (H → List ℕ → H → Type 0)
     → H × Bool → Option ℕ → List ℕ → List ℕ → H × Bool → Type 0
 gated answers goes_on h moment request reply i =
     (h.1 ≡ true) × answers h.0 moment request reply i.0 × (i.1 ≡ true → goes_on h.0 reply i.0)
+    × (i.1 ≡ false → IsUnavailable reply)
 
 -- a whole request stood at the front: it was answered, and its reply waits to be sent
 pub record Answers {H C : Type 0} (answers : H → Option ℕ → List ℕ → List ℕ → H → Type 0)
-    (now_gives : C → Option ℕ → C → Type 0) (h : H) (c : C) (k : Connection) (i : H) (d : C) (l : Connection) : Type 0 where
+    (now_gives : C → Option ℕ → C → Type 0) (h : H) (c : C) (k : Connection) (i : H) (d : C) (l : Connection) :
+    Type 0 where
   pub exchange : Exchange
   pub size : ℕ
   pub ending : Option ServeEnd
   pub front : exchange.request ≡ take size k.inbox
   pub exchanged : Exchanged answers now_gives h c exchange i d
-  pub reply : answer_text l.reply ≡ exchange.reply
+  pub reply : outgoing_text l.reply ≡ exchange.reply
   pub ends : EndsAfter exchange.request (k.requests + 1) ending
   pub left : l ≡ record k {
     inbox = drop size k.inbox;

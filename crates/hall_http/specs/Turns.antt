@@ -1,11 +1,13 @@
 -- Many connections, and what each was told.
-use Rattle.std.specs.Prelude.{◌≡◌, ◌≤◌, ◌==◌, ◌⊎◌, ℕ, List, [], ◌∷◌, ◌++◌, length, map, filter, All}
+use Rattle.std.specs.Prelude.{◌≡◌, ◌≢◌, ◌≤◌, ◌==◌, ◌⊎◌, ℕ, List, [], ◌∷◌, ◌++◌, length, map, filter, All}
 use Rattle.std.specs.Prelude.{Option, Some, None, Bool, true, false}
-use Rattle.hall_http.specs.Served.{HaveRead, refusal}
-use Rattle.hall_http.specs.Connection.{Exchange, AreMoments, requests_of, replies_of}
-use Rattle.hall_http.specs.Resting.{RestingSession}
-use Rattle.hall_http.specs.Head.{IsWhole, HasNone}
+use Rattle.hall_http.specs.Served.{HaveRead, MayGoOn, refusal}
+use Rattle.hall_http.specs.Connection.{Exchange, AreMoments, AreOpen, requests_of, replies_of}
+use Rattle.hall_http.specs.Resting.{RestingSession, still}
+use Rattle.hall_http.specs.Steps.{gated}
+use Rattle.hall_http.specs.Head.{IsWhole, IsUnfinished, HasNone, NeverHas}
 use Rattle.hall_http.specs.History.{History, HasHistory, Ends}
+use Rattle.hall_http.specs.Peer.{Traffic}
 use Rattle.hall_http.specs.declared.client.Client.{Client}
 use Rattle.hall_http.specs.declared.client.Step.{Step}
 use Rattle.hall_http.specs.declared.client.Step.TheVariants as step
@@ -35,68 +37,99 @@ AreSent xs went =
 abbrev pub IsRefusedAfter : List Exchange → List ℕ → Type 0
 IsRefusedAfter xs went = (front rest : List ℕ) × (refusal ≡ front ++ rest) × (went ≡ replies_of xs ++ front)
 
+-- Bytes that wait may be refused, by whether a read told that no more comes: a further request may come; and none can
+-- be made of them, however they go on, or some are left, unfinished, and no more comes.
+abbrev pub IsRefusedRightly : List Exchange → List ℕ → Bool → Type 0
+IsRefusedRightly xs unread over =
+    MayGoOn xs × (NeverHas unread ⊎ ((unread ≢ []) × IsUnfinished unread × (over ≡ true)))
+
+-- none of these requests closes the connection, but perhaps the last
+abbrev pub AreOpenButLast : List Exchange → Type 0
+AreOpenButLast xs =
+    AreOpen xs ⊎ ((before : List Exchange) × (last : Exchange) × (xs ≡ before ++ last ∷ []) × AreOpen before)
+
 -- why bytes are read off that are no longer answered, after so many reads that gave bytes: the connection has ended so
 abbrev pub HasEnded : List Exchange → ℕ → List ℕ → Type 0
 HasEnded xs pieces unread =
     (e : ServeEnd) × (t : History) × (t.exchanges ≡ xs) × (t.pieces ≡ pieces) × (t.ended ≡ false) × Ends e t unread
 
--- The first bytes that came of a connection are these requests, at most 1,000. It was sent their replies, in their order,
--- the last perhaps in part; or all of them and then the reply F7, where no whole request stands at the front of what came
--- after. At most 100,000 reads gave bytes, each where what waited was unfinished, and then these bytes were left. What
--- came after them was read off once the connection had ended.
-pub record IsTold (xs : List Exchange) (came went : List ℕ) : Type 0 where
+-- The first bytes that came of a connection are these requests, at most 1,000, of which none but the last closes it.
+-- It was sent their replies, in their order, the last perhaps in part; or all of them and then the reply F7, where what
+-- was left may be refused, and no whole request stands at the front of what came after. At most 100,000 reads gave
+-- bytes, each where what waited was unfinished, and then these bytes were left. What came after them was read off once
+-- the connection had ended.
+pub record IsTold (xs : List Exchange) (t : Traffic) : Type 0 where
   pub rest : List ℕ
-  pub spelled : came ≡ requests_of xs ++ rest
+  pub spelled : t.came ≡ requests_of xs ++ rest
   pub whole : All (λ x. IsWhole x.request) xs
-  pub told : AreSent xs went ⊎ (IsRefusedAfter xs went × HasNone rest)
+  pub opened : AreOpenButLast xs
   pub few : length xs ≤ 1000
   pub pieces : ℕ
   pub unread : List ℕ
   pub off : List ℕ
+  pub told : AreSent xs t.went ⊎ (IsRefusedAfter xs t.went × IsRefusedRightly xs unread t.over × HasNone rest)
   pub seldom : pieces ≤ 100000
   pub reading : HaveRead xs pieces unread
   pub bounded : length unread ≤ 81920
   pub parts : rest ≡ unread ++ off
   pub quiet : (off ≡ []) ⊎ HasEnded xs pieces unread
 
--- the connection was answered these requests, and what it heard and was told is what came of its peer and went to it; once
--- it has ended, some more may have come, which is read off
-pub record IsClient {P : Type 0} (came went : P → List ℕ) (xs : List Exchange) (k : Client P) : Type 0 where
+-- the connection was answered these requests, and what it heard and was told is what came of its peer and went to it,
+-- the end only where its peer told it; once it has ended, some more may have come, which is read off
+pub record IsClient {P : Type 0} (traffic : P → Traffic) (xs : List Exchange) (k : Client P) : Type 0 where
   pub history : History
   pub has : HasHistory history k.connection
   pub answered : history.exchanges ≡ xs
   pub off : List ℕ
   pub quiet : (off ≡ []) ⊎ ((e : ServeEnd) × (k.connection.state ≡ state.Ended e) × (history.ended ≡ false))
   pub over : k.is_over ≡ false → history.ended ≡ false
-  pub heard : came k.peer ≡ history.came ++ off
-  pub sent : went k.peer ≡ history.went
+  pub at_end : history.ended ≡ true → (traffic k.peer).over ≡ true
+  pub heard : (traffic k.peer).came ≡ history.came ++ off
+  pub sent : (traffic k.peer).went ≡ history.went
 
--- some more of its requests were answered, one after another
-abbrev pub IsTurned : {H C P : Type 0} → (H → Option ℕ → List ℕ → List ℕ → H → Type 0) → (H → H → Type 0)
-    → (C → Option ℕ → C → Type 0)
-    → (P → List ℕ) → (P → List ℕ) → H → C → Client P → H → C → Client P → Type 0
-IsTurned answers rests now_gives came went h c k i d l =
-    (xs : List Exchange) → IsClient came went xs k
-    → (more : List Exchange) × RestingSession answers rests h more i × AreMoments now_gives c more d
-    × IsClient came went (xs ++ more) l
+-- whatever it was answered, it was answered no more, and it is of the same number
+pub record IsClientKept {P : Type 0} (traffic : P → Traffic) (k l : Client P) : Type 0 where
+  pub number : (traffic l.peer).number ≡ (traffic k.peer).number
+  pub kept : (xs : List Exchange) → IsClient traffic xs k → IsClient traffic xs l
 
 -- others may be answered after it
 abbrev pub goes_on : Step → Bool
 goes_on step.Shut = false
 goes_on _ = true
 
+-- it went a step without an answer, after which others may be answered
+abbrev pub IsMoved : {P : Type 0} → (P → Traffic) → Client P → Step → Client P → Type 0
+IsMoved traffic k step l = (goes_on step ≡ true) × IsClientKept traffic k l
+
+-- how requests are answered: what a responder may answer, how it rests, and what a clock gives
+pub record Service (H C : Type 0) : Type 1 where
+  pub answers : H → Option ℕ → List ℕ → List ℕ → H → Type 0
+  pub rests : H → H → Type 0
+  pub now_gives : C → Option ℕ → C → Type 0
+
+-- by a responder that answers while it goes on
+abbrev pub service_of : {H C : Type 0} → (H → Option ℕ → List ℕ → List ℕ → H → Type 0) → (H → List ℕ → H → Type 0)
+    → (H → H → Type 0) → (C → Option ℕ → C → Type 0) → Service (H × Bool) C
+service_of answers goes_on rests now_gives =
+    record { answers = gated answers goes_on; rests = still rests; now_gives = now_gives }
+
+-- some more of its requests were answered, one after another, and it is of the same number
+pub record IsTurned {H C P : Type 0} (service : Service H C) (traffic : P → Traffic) (before : H × C) (k : Client P)
+    (after : H × C) (l : Client P) : Type 0 where
+  pub number : (traffic l.peer).number ≡ (traffic k.peer).number
+  pub turned : (xs : List Exchange) → IsClient traffic xs k
+      → (more : List Exchange) × RestingSession service.answers service.rests before.0 more after.0
+      × AreMoments service.now_gives before.1 more after.1 × IsClient traffic (xs ++ more) l
+
 -- the connection at a place, if there is one, was answered nothing more
-abbrev pub IsPlaceKept : {P : Type 0} → (P → List ℕ) → (P → List ℕ) → Option (Client P) → Option (Client P) → Type 0
-IsPlaceKept {P} came went old new =
+abbrev pub IsPlaceKept : {P : Type 0} → (P → Traffic) → Option (Client P) → Option (Client P) → Type 0
+IsPlaceKept {P} traffic old new =
     ((old ≡ None) × (new ≡ None))
-    ⊎ ((k l : Client P) × (old ≡ Some k) × (new ≡ Some l) × (l.number ≡ k.number)
-    × ((xs : List Exchange) → IsClient came went xs k → IsClient came went xs l))
+    ⊎ ((k l : Client P) × (old ≡ Some k) × (new ≡ Some l) × IsClientKept traffic k l)
 
 -- the connection at a place went one step, if there is one
-abbrev pub IsPlaceTurned : {H C P : Type 0} → (H → Option ℕ → List ℕ → List ℕ → H → Type 0) → (H → H → Type 0)
-    → (C → Option ℕ → C → Type 0)
-    → (P → List ℕ) → (P → List ℕ) → H → C → Option (Client P) → H → C → Option (Client P) → Type 0
-IsPlaceTurned {H} {C} {P} answers rests now_gives came went h c old i d new =
-    ((old ≡ None) × (new ≡ None) × (i ≡ h) × (d ≡ c))
-    ⊎ ((k l : Client P) × (old ≡ Some k) × (new ≡ Some l) × (l.number ≡ k.number)
-    × IsTurned answers rests now_gives came went h c k i d l)
+abbrev pub IsPlaceTurned : {H C P : Type 0} → Service H C → (P → Traffic) → H × C → Option (Client P) → H × C
+    → Option (Client P) → Type 0
+IsPlaceTurned {H} {C} {P} service traffic before old after new =
+    ((old ≡ None) × (new ≡ None) × (after ≡ before))
+    ⊎ ((k l : Client P) × (old ≡ Some k) × (new ≡ Some l) × IsTurned service traffic before k after l)

@@ -6,7 +6,8 @@ ghost use Rattle.hall_desk.specs.Plans.{IsNobodys, WritesIfAny};
 ghost use Rattle.hall_desk.specs.Promises.{HasUniqueSolutions, RightAnswersAreSolutions};
 ghost use Rattle.hall_desk.specs.Run.{IsTimed};
 ghost use Rattle.hall_desk.specs.Sane.{Sane};
-ghost use Rattle.hall_http.specs.Answered.{answer_text, AnswersFault, AnswersOver, AnswersRequestOver, IsStepReply, IsStepReplyOver};
+ghost use Rattle.hall_http.specs.Answered.{answer_text, AnswersFault, AnswersOver, AnswersRequestOver, IsStepReply};
+ghost use Rattle.hall_http.specs.Answered.{IsStepReplyOver};
 ghost use Rattle.hall_http.specs.Answered.{IsUnavailable};
 ghost use Rattle.hall_http.specs.Answered.{StopsAt, StopsAtBytes};
 ghost use Rattle.hall_http.specs.Head.{IsLentBy};
@@ -25,10 +26,6 @@ use hall_policy::{Action, Moment, Request};
 use hall_store::{Store, StoreFault};
 use std::alloc::Global;
 
-/// The reply to bytes that are no request. It takes no memory.
-const REFUSAL: &str =
-    "HTTP/1.1 400 Bad Request\r\nContent-Type: application/json\r\nContent-Length: 13\r\n\r\n{\"form\":\"F7\"}";
-
 /// The bytes that answer a request.
 #[derive(Drop)]
 pub enum Answer {
@@ -37,10 +34,6 @@ pub enum Answer {
     Unavailable,
     /// 503 too, by a store that serves no more.
     Shut,
-    /// To bytes that are no request. It takes no memory.
-    Refusal,
-    /// Nothing.
-    Nothing,
 }
 
 impl Answer {
@@ -51,14 +44,13 @@ impl Answer {
         match self {
             Answer::Text(text) => text.as_str().as_bytes(),
             Answer::Unavailable | Answer::Shut => UNAVAILABLE.as_bytes(),
-            Answer::Refusal => REFUSAL.as_bytes(),
-            Answer::Nothing => &[],
         }
     }
 
     /// Whether the store serves on, as far as the answer tells.
     pub(crate) fn goes_on(&self) -> bool
-        ensures { result ≡ true → self.now ≢ Answer.Shut }
+        ensures opened { result ≡ true → self.now ≢ Answer.Shut }
+        ensures shut { result ≡ false → self.now ≡ Answer.Shut }
     {
         match self {
             Answer::Shut => false,
@@ -224,7 +216,8 @@ fn step_bytes<S: Store>(
     ensures err { OnErr result ((S.content (kept_by desk.new)).honest → (S.content (kept_by desk.new)).serves →
         (S.content (kept_by desk.new)).world ≡ (S.content (kept_by desk.old)).world) }
     ensures stops { LeavesOneOf (λ before left. (made : List ℕ) × IfOk result (λ text. made ≡ string_bytes text)
-        × IsStepReply before moment request.now made left) (S.content (kept_by desk.old)) (S.content (kept_by desk.new)) }
+        × IsStepReply before moment request.now made left)
+        (S.content (kept_by desk.old)) (S.content (kept_by desk.new)) }
     ensures untouched { IsNobodys request.now → desk.new ≡ desk.old }
 {
     let plan = desk.plan(alloc, moment, request)?;

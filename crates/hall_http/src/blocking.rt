@@ -6,7 +6,7 @@ ghost use Rattle.hall_desk.specs.Desk.{kept_by, SaneThen};
 ghost use Rattle.hall_desk.specs.Sane.{Sane};
 ghost use Rattle.hall_desk.specs.Promises.{HasUniqueSolutions, RightAnswersAreSolutions};
 ghost use Rattle.hall_http.specs.Feeding.{IsFed};
-ghost use Rattle.hall_http.specs.Served.{IsHandled, IsServed};
+ghost use Rattle.hall_http.specs.Served.{IsHandled, IsServed, line};
 
 use crate::connection::{Clock, Connection, ServeEnd, State};
 use crate::device::write_all;
@@ -41,11 +41,8 @@ pub fn serve<S: Store, R: Read, W: Write, C: Clock>(
     ensures reader { OnErr result (reader.new ≡ reader.old) }
     ensures writer { OnErr result (writer.new ≡ writer.old) }
     ensures served { IfOk result (IsServed S.content C.now_gives
-        (R.remaining reader.old.device) (R.remaining reader.new.device)
-        (W.contents writer.old.device) (W.contents writer.new.device)
-        (kept_by desk.old) clock.old (kept_by desk.new) clock.new
-        reader.old.failures reader.new.failures writer.old.failures writer.new.failures
-        reader.old.calls reader.new.calls) }
+        (line R.remaining W.contents reader.old writer.old) (kept_by desk.old, clock.old)
+        (line R.remaining W.contents reader.new writer.new) (kept_by desk.new, clock.new)) }
     ensures sane { SaneThen Sane (S.content (kept_by desk.old)) (S.content (kept_by desk.new)) }
     ensures unique { SaneThen HasUniqueSolutions (S.content (kept_by desk.old)) (S.content (kept_by desk.new)) }
     ensures right { SaneThen RightAnswersAreSolutions (S.content (kept_by desk.old)) (S.content (kept_by desk.new)) }
@@ -65,15 +62,13 @@ fn serve_with<S: Store, R: Read, W: Write, C: Clock>(
     clock: &mut C,
 ) -> ServeEnd
     ensures served { IsServed S.content C.now_gives
-        (R.remaining reader.old.device) (R.remaining reader.new.device)
-        (W.contents writer.old.device) (W.contents writer.new.device)
-        (kept_by desk.old) clock.old (kept_by desk.new) clock.new
-        reader.old.failures reader.new.failures writer.old.failures writer.new.failures
-        reader.old.calls reader.new.calls result }
+        (line R.remaining W.contents reader.old writer.old) (kept_by desk.old, clock.old)
+        (line R.remaining W.contents reader.new writer.new) (kept_by desk.new, clock.new) result }
     ensures sane { SaneThen Sane (S.content (kept_by desk.old)) (S.content (kept_by desk.new)) }
     ensures unique { SaneThen HasUniqueSolutions (S.content (kept_by desk.old)) (S.content (kept_by desk.new)) }
     ensures right { SaneThen RightAnswersAreSolutions (S.content (kept_by desk.old)) (S.content (kept_by desk.new)) }
 {
+    desk.at_rest();
     serve_requests(alloc, routes, inbox, desk, reader, writer, clock)
 }
 
@@ -88,10 +83,8 @@ fn serve_requests<H: Responder, R: Read, W: Write, C: Clock>(
     clock: &mut C,
 ) -> ServeEnd
     ensures { IsHandled H.answers C.now_gives
-        (R.remaining reader.old.device) (R.remaining reader.new.device)
-        (W.contents writer.old.device) (W.contents writer.new.device) responder.old clock.old responder.new clock.new
-        reader.old.failures reader.new.failures writer.old.failures writer.new.failures
-        reader.old.calls reader.new.calls result }
+        (line R.remaining W.contents reader.old writer.old) (responder.old, clock.old)
+        (line R.remaining W.contents reader.new writer.new) (responder.new, clock.new) result }
 {
     let mut connection = Connection::new(inbox);
     loop {

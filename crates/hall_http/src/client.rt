@@ -1,8 +1,6 @@
 //! One connection and the other side of it.
 ghost use Rattle.std.specs.Prelude.{◌≡◌, List};
-ghost use Rattle.hall_http.specs.Resting.{still};
-ghost use Rattle.hall_http.specs.Steps.{gated};
-ghost use Rattle.hall_http.specs.Turns.{IsClient, IsTurned, goes_on};
+ghost use Rattle.hall_http.specs.Turns.{IsClient, IsClientKept, IsMoved, IsTurned, goes_on, service_of};
 ghost use Rattle.hall_http.specs.Connection.{Exchange};
 ghost use Rattle.std.specs.Prelude.{[], Option, true, false};
 ghost use Rattle.hall_http.specs.declared.connection.State.TheVariants as State;
@@ -63,10 +61,9 @@ impl Step {
     }
 }
 
-/// One connection, its number among all that came, and the other side of it.
+/// One connection and the other side of it.
 #[derive(Drop)]
 pub(crate) struct Client<P> {
-    pub(crate) number: u64,
     pub(crate) connection: Connection,
     pub(crate) peer: P,
     /// A read told that no more comes.
@@ -77,14 +74,13 @@ pub(crate) struct Client<P> {
 
 impl<P: Peer> Client<P> {
     /// A newcomer.
-    pub(crate) fn new(number: u64, inbox: Inbox, peer: P) -> Client<P>
-        requires came { P.came peer ≡ [] }
-        requires went { P.went peer ≡ [] }
-        ensures number { result.number ≡ number }
-        ensures kept { IsClient P.came P.went [] result }
+    pub(crate) fn new(inbox: Inbox, peer: P) -> Client<P>
+        requires came { (P.traffic peer).came ≡ [] }
+        requires went { (P.traffic peer).went ≡ [] }
+        ensures peer { result.peer ≡ peer }
+        ensures kept { IsClient P.traffic [] result }
     {
         Client {
-            number,
             connection: Connection::new(inbox),
             peer,
             is_over: false,
@@ -100,10 +96,9 @@ impl<P: Peer> Client<P> {
         responder: &mut H,
         clock: &mut C,
     ) -> Step
-        requires { (xs : List Exchange) × IsClient P.came P.went xs self.old }
-        ensures number { self.new.number ≡ self.old.number }
-        ensures turned { IsTurned (gated H.answers H.goes_on) (still H.rests) C.now_gives P.came P.went
-            (responder.old, true) clock.old self.old (responder.new, goes_on result) clock.new self.new }
+        requires { (xs : List Exchange) × IsClient P.traffic xs self.old }
+        ensures { IsTurned (service_of H.answers H.goes_on H.rests C.now_gives) P.traffic
+            ((responder.old, true), clock.old) self.old ((responder.new, goes_on result), clock.new) self.new }
     {
         for _step in 0..STEPS {
             match self.step(alloc, routes, responder, clock) {
@@ -122,10 +117,9 @@ impl<P: Peer> Client<P> {
         responder: &mut H,
         clock: &mut C,
     ) -> Step
-        requires { (xs : List Exchange) × IsClient P.came P.went xs self.old }
-        ensures number { self.new.number ≡ self.old.number }
-        ensures turned { IsTurned (gated H.answers H.goes_on) (still H.rests) C.now_gives P.came P.went
-            (responder.old, true) clock.old self.old (responder.new, goes_on result) clock.new self.new }
+        requires { (xs : List Exchange) × IsClient P.traffic xs self.old }
+        ensures { IsTurned (service_of H.answers H.goes_on H.rests C.now_gives) P.traffic
+            ((responder.old, true), clock.old) self.old ((responder.new, goes_on result), clock.new) self.new }
     {
         match self.connection.state() {
             State::Looking => self.look(alloc, routes, responder, clock),
@@ -143,11 +137,10 @@ impl<P: Peer> Client<P> {
         responder: &mut H,
         clock: &mut C,
     ) -> Step
-        requires kept { (xs : List Exchange) × IsClient P.came P.went xs self.old }
+        requires kept { (xs : List Exchange) × IsClient P.traffic xs self.old }
         requires at { self.old.connection.state ≡ State.Looking }
-        ensures number { self.new.number ≡ self.old.number }
-        ensures turned { IsTurned (gated H.answers H.goes_on) (still H.rests) C.now_gives P.came P.went
-            (responder.old, true) clock.old self.old (responder.new, goes_on result) clock.new self.new }
+        ensures { IsTurned (service_of H.answers H.goes_on H.rests C.now_gives) P.traffic
+            ((responder.old, true), clock.old) self.old ((responder.new, goes_on result), clock.new) self.new }
     {
         if !self.connection.prepare(alloc, routes, responder) {
             return Step::Searches {
@@ -173,11 +166,9 @@ impl<P: Peer> Client<P> {
 
     /// Reads once.
     fn read(&mut self) -> Step
-        requires kept { (xs : List Exchange) × IsClient P.came P.went xs self.old }
+        requires kept { (xs : List Exchange) × IsClient P.traffic xs self.old }
         requires at { self.old.connection.state ≡ State.Reading }
-        ensures goes_on { goes_on result ≡ true }
-        ensures number { self.new.number ≡ self.old.number }
-        ensures kept { (xs : List Exchange) → IsClient P.came P.went xs self.old → IsClient P.came P.went xs self.new }
+        ensures { IsMoved P.traffic self.old result self.new }
     {
         let mut chunk = [0u8; 4096];
         match self.peer.receive(&mut chunk) {
@@ -193,11 +184,9 @@ impl<P: Peer> Client<P> {
 
     /// Sends once.
     fn write(&mut self) -> Step
-        requires kept { (xs : List Exchange) × IsClient P.came P.went xs self.old }
+        requires kept { (xs : List Exchange) × IsClient P.traffic xs self.old }
         requires at { (ending : Option ServeEnd) × (self.old.connection.state ≡ State.Writing ending) }
-        ensures goes_on { goes_on result ≡ true }
-        ensures number { self.new.number ≡ self.old.number }
-        ensures kept { (xs : List Exchange) → IsClient P.came P.went xs self.old → IsClient P.came P.went xs self.new }
+        ensures { IsMoved P.traffic self.old result self.new }
     {
         match self.peer.send(&self.connection.reply, self.connection.sent) {
             Moved::Some(count) => self.connection.sent(count),
@@ -210,11 +199,9 @@ impl<P: Peer> Client<P> {
     /// Tells the peer that no more is sent, and reads off what still comes: a socket that is closed over unread bytes
     /// may lose its last reply.
     fn leave(&mut self) -> Step
-        requires kept { (xs : List Exchange) × IsClient P.came P.went xs self.old }
+        requires kept { (xs : List Exchange) × IsClient P.traffic xs self.old }
         requires at { (end : ServeEnd) × (self.old.connection.state ≡ State.Ended end) }
-        ensures goes_on { goes_on result ≡ true }
-        ensures number { self.new.number ≡ self.old.number }
-        ensures kept { (xs : List Exchange) → IsClient P.came P.went xs self.old → IsClient P.came P.went xs self.new }
+        ensures { IsMoved P.traffic self.old result self.new }
     {
         self.hang_up();
         if self.is_over {
@@ -225,9 +212,8 @@ impl<P: Peer> Client<P> {
 
     /// Sends once more, where a reply waits.
     pub(crate) fn finish(&mut self)
-        requires { (xs : List Exchange) × IsClient P.came P.went xs self.old }
-        ensures number { self.new.number ≡ self.old.number }
-        ensures kept { (xs : List Exchange) → IsClient P.came P.went xs self.old → IsClient P.came P.went xs self.new }
+        requires { (xs : List Exchange) × IsClient P.traffic xs self.old }
+        ensures { IsClientKept P.traffic self.old self.new }
     {
         if let State::Writing(_) = self.connection.state() {
             let _step = self.write();
@@ -236,10 +222,9 @@ impl<P: Peer> Client<P> {
 
     /// Tells the peer, once, that no more is sent.
     fn hang_up(&mut self)
-        ensures number { self.new.number ≡ self.old.number }
         ensures connection { self.new.connection ≡ self.old.connection }
         ensures over { self.new.is_over ≡ self.old.is_over }
-        ensures kept { (xs : List Exchange) → IsClient P.came P.went xs self.old → IsClient P.came P.went xs self.new }
+        ensures kept { IsClientKept P.traffic self.old self.new }
     {
         if self.is_leaving {
             return;
@@ -252,9 +237,7 @@ impl<P: Peer> Client<P> {
     fn read_off(&mut self) -> Step
         requires at { (end : ServeEnd) × (self.old.connection.state ≡ State.Ended end) }
         requires unended { self.old.is_over ≡ false }
-        ensures goes_on { goes_on result ≡ true }
-        ensures number { self.new.number ≡ self.old.number }
-        ensures kept { (xs : List Exchange) → IsClient P.came P.went xs self.old → IsClient P.came P.went xs self.new }
+        ensures { IsMoved P.traffic self.old result self.new }
     {
         let mut chunk = [0u8; 4096];
         match self.peer.receive(&mut chunk) {

@@ -1,16 +1,14 @@
 //! The open connections, each at a place of its own.
-ghost use Rattle.std.specs.Prelude.{◌≡◌, ◌+◌, List, [], IfOk, Some, true};
+ghost use Rattle.std.specs.Prelude.{◌≡◌, ◌<◌, ℕ, List, [], IfOk, None, Some, length, slice_set, true};
 ghost use Rattle.hall_http.specs.Connection.{Exchange};
-ghost use Rattle.hall_http.specs.Resting.{still};
-ghost use Rattle.hall_http.specs.Steps.{gated};
-ghost use Rattle.hall_http.specs.Turns.{Turn, IsClient, IsPlaceKept, IsPlaceTurned, goes_on};
+ghost use Rattle.hall_http.specs.Crowd.{Admits, AreKept, AreSomeKept, AreGone, AnswersNoMore, Serves};
+ghost use Rattle.hall_http.specs.Turns.{IsClient, IsPlaceKept, IsPlaceTurned, goes_on, service_of};
 ghost use Rattle.hall_http.specs.declared.client.Client.{Client};
-ghost use Rattle.hall_http.specs.Crowd.{AreKept, Serves, came_in};
 
 use crate::client::{Client, Step};
 use crate::connection::Clock;
 use crate::inbox::Inbox;
-use crate::peer::Peer;
+use crate::peer::{Closed, Peer};
 use crate::responder::Responder;
 use crate::routes::Routes;
 use http_server::Log;
@@ -19,13 +17,15 @@ use std::alloc::{AllocError, Global};
 /// The most open connections. A process may usually have 1,024 files open.
 pub(crate) const MOST_CLIENTS: usize = 500;
 
-/// The open connections, how many came, and those that have gone or were turned away.
+/// The connections that came and have gone, each as it was when it was closed, and the place that it had; one that was
+/// turned away had none. Only proofs read them.
+pub type Gone<P> = Log<Closed<P>, Option<usize>>;
+
+/// The open connections, and those that have gone.
 #[derive(Drop)]
-pub struct Clients<P> {
+pub(crate) struct Clients<P> {
     pub(crate) places: Vec<Option<Client<P>>>,
-    pub(crate) count: u64,
-    pub(crate) gone: Log<P, u64>,
-    pub(crate) away: Log<P, u64>,
+    pub(crate) gone: Gone<P>,
 }
 
 /// The connection there, if there is one, has its turn.
@@ -36,9 +36,9 @@ fn turn_at<P: Peer, H: Responder, C: Clock>(
     responder: &mut H,
     clock: &mut C,
 ) -> Step
-    requires { (k : Client P) → place.old ≡ Some k → (xs : List Exchange) × IsClient P.came P.went xs k }
-    ensures { IsPlaceTurned (gated H.answers H.goes_on) (still H.rests) C.now_gives P.came P.went
-        (responder.old, true) clock.old place.old (responder.new, goes_on result) clock.new place.new }
+    requires { (k : Client P) → place.old ≡ Some k → (xs : List Exchange) × IsClient P.traffic xs k }
+    ensures { IsPlaceTurned (service_of H.answers H.goes_on H.rests C.now_gives) P.traffic
+        ((responder.old, true), clock.old) place.old ((responder.new, goes_on result), clock.new) place.new }
 {
     match place {
         Some(client) => client.turn(alloc, routes, responder, clock),
@@ -48,8 +48,8 @@ fn turn_at<P: Peer, H: Responder, C: Clock>(
 
 /// Sends once more to the connection there, if there is one and its reply waits.
 fn finish_at<P: Peer>(place: &mut Option<Client<P>>)
-    requires { (k : Client P) → place.old ≡ Some k → (xs : List Exchange) × IsClient P.came P.went xs k }
-    ensures { IsPlaceKept P.came P.went place.old place.new }
+    requires { (k : Client P) → place.old ≡ Some k → (xs : List Exchange) × IsClient P.traffic xs k }
+    ensures { IsPlaceKept P.traffic place.old place.new }
 {
     match place {
         Some(client) => client.finish(),
@@ -57,11 +57,18 @@ fn finish_at<P: Peer>(place: &mut Option<Client<P>>)
     }
 }
 
+/// The connection there, if there is one, which leaves the place free.
+fn take_at<P>(place: &mut Option<Client<P>>) -> Option<Client<P>>
+    ensures taken { result ≡ place.old }
+    ensures free { place.new ≡ None }
+{
+    place.take()
+}
+
 impl<P: Peer + Drop> Clients<P> {
     /// None yet, with so many places.
-    pub fn new(alloc: Global, most: usize) -> Result<Clients<P>, AllocError>
-        ensures none { IfOk result (λ clients. came_in clients ≡ 0) }
-        ensures kept { IfOk result (AreKept P.came P.went []) }
+    pub(crate) fn new(alloc: Global, most: usize) -> Result<Clients<P>, AllocError>
+        ensures { IfOk result (λ clients. (n : ℕ) → AreKept P.traffic n n [] clients) }
     {
         let mut places = Vec::with_capacity(alloc, most)?;
         for _place in 0..most {
@@ -69,37 +76,31 @@ impl<P: Peer + Drop> Clients<P> {
         }
         Ok(Clients {
             places,
-            count: 0,
             gone: Log::new(),
-            away: Log::new(),
         })
     }
 
     /// Lets a newcomer have the place, if it is free, or else turns it away.
     pub(crate) fn seat(&mut self, place: usize, inbox: Inbox, peer: P)
-        requires came { P.came peer ≡ [] }
-        requires went { P.went peer ≡ [] }
-        ensures came { came_in self.new ≡ came_in self.old + 1 }
-        ensures kept { (turns : List Turn) → AreKept P.came P.went turns self.old →
-            AreKept P.came P.went turns self.new }
+        requires came { (P.traffic peer).came ≡ [] }
+        requires went { (P.traffic peer).went ≡ [] }
+        ensures { Admits P.traffic place peer self.old self.new }
     {
-        if self.count == u64::MAX || place >= self.places.len() || self.places[place].is_some() {
+        if place >= self.places.len() || self.places[place].is_some() {
             self.turn_away(peer);
             return;
         }
-        self.places[place] = Some(Client::new(self.count, inbox, peer));
-        self.count += 1;
+        self.places[place] = Some(Client::new(inbox, peer));
     }
 
     /// Turns a newcomer away. It is sent nothing.
     pub(crate) fn turn_away(&mut self, peer: P)
-        requires came { P.came peer ≡ [] }
-        requires went { P.went peer ≡ [] }
-        ensures came { came_in self.new ≡ came_in self.old + 1 }
-        ensures kept { (turns : List Turn) → AreKept P.came P.went turns self.old →
-            AreKept P.came P.went turns self.new }
+        requires came { (P.traffic peer).came ≡ [] }
+        requires went { (P.traffic peer).went ≡ [] }
+        ensures { (place : ℕ) → Admits P.traffic place peer self.old self.new }
     {
-        self.away = self.away.and(&peer, &self.count);
+        let closed = Closed::new(peer);
+        self.gone = self.gone.and(&closed, &None);
     }
 
     /// The connection at the place has its turn.
@@ -111,10 +112,9 @@ impl<P: Peer + Drop> Clients<P> {
         responder: &mut H,
         clock: &mut C,
     ) -> Step
-        requires { (turns : List Turn) × AreKept P.came P.went turns self.old }
-        ensures came { came_in self.new ≡ came_in self.old }
-        ensures served { Serves (gated H.answers H.goes_on) (still H.rests) C.now_gives P.came P.went
-            (responder.old, true) clock.old self.old (responder.new, goes_on result) clock.new self.new }
+        requires { AreSomeKept P.traffic self.old }
+        ensures { Serves (service_of H.answers H.goes_on H.rests C.now_gives) P.traffic place
+            ((responder.old, true), clock.old) self.old ((responder.new, goes_on result), clock.new) self.new }
     {
         if place >= self.places.len() {
             return Step::Over;
@@ -124,10 +124,8 @@ impl<P: Peer + Drop> Clients<P> {
 
     /// Sends once more to each whose reply waits.
     pub(crate) fn finish(&mut self)
-        requires { (turns : List Turn) × AreKept P.came P.went turns self.old }
-        ensures came { came_in self.new ≡ came_in self.old }
-        ensures kept { (turns : List Turn) → AreKept P.came P.went turns self.old →
-            AreKept P.came P.went turns self.new }
+        requires { AreSomeKept P.traffic self.old }
+        ensures { AnswersNoMore P.traffic self.old self.new }
     {
         for place in 0..self.places.len() {
             self.finish_one(place);
@@ -136,10 +134,8 @@ impl<P: Peer + Drop> Clients<P> {
 
     /// Sends once more to the connection at the place, where its reply waits.
     fn finish_one(&mut self, place: usize)
-        requires { (turns : List Turn) × AreKept P.came P.went turns self.old }
-        ensures came { came_in self.new ≡ came_in self.old }
-        ensures kept { (turns : List Turn) → AreKept P.came P.went turns self.old →
-            AreKept P.came P.went turns self.new }
+        requires { AreSomeKept P.traffic self.old }
+        ensures { AnswersNoMore P.traffic self.old self.new }
     {
         if place >= self.places.len() {
             return;
@@ -147,19 +143,29 @@ impl<P: Peer + Drop> Clients<P> {
         finish_at(&mut self.places[place]);
     }
 
-    /// Lets the connection at the place go.
+    /// Closes the connection at the place.
     pub(crate) fn forget(&mut self, place: usize)
-        ensures came { came_in self.new ≡ came_in self.old }
-        ensures kept { (turns : List Turn) → AreKept P.came P.went turns self.old →
-            AreKept P.came P.went turns self.new }
+        ensures free { place < length self.old.places.items →
+            self.new.places.items ≡ slice_set self.old.places.items place None }
+        ensures kept { AnswersNoMore P.traffic self.old self.new }
     {
         if place >= self.places.len() {
             return;
         }
-        let Some(client) = &self.places[place] else {
+        let Some(client) = take_at(&mut self.places[place]) else {
             return;
         };
-        self.gone = self.gone.and(&client.peer, &client.number);
-        self.places[place] = None;
+        let closed = Closed::new(client.peer);
+        self.gone = self.gone.and(&closed, &Some(place));
+    }
+
+    /// Closes each that is still here.
+    pub(crate) fn close(&mut self)
+        ensures none { AreGone self.new }
+        ensures kept { AnswersNoMore P.traffic self.old self.new }
+    {
+        for place in 0..self.places.len() {
+            self.forget(place);
+        }
     }
 }

@@ -2,14 +2,15 @@
 //! be told is handed out.
 ghost use Rattle.std.specs.Prelude.{◌≡◌, ◌≤◌, ◌<◌, ◌+◌, ℕ, Option, length, true};
 ghost use Rattle.hall_http.specs.Head.{IsUnfinishedBelow};
-ghost use Rattle.hall_http.specs.Answered.{answer_text};
+ghost use Rattle.hall_http.specs.Outgoing.{outgoing_text};
 ghost use Rattle.hall_http.specs.Resting.{Rests};
-ghost use Rattle.hall_http.specs.Steps.{pending, fresh, IsAfterHearing, IsAfterSending, IsAfterEnd, Looks, gated, then_of};
+ghost use Rattle.hall_http.specs.Steps.{pending, fresh, IsAfterHearing, IsAfterSending, IsAfterEnd, Looks, gated};
+ghost use Rattle.hall_http.specs.Steps.{then_of};
 
-use crate::answer::Answer;
 use crate::client::Wish;
 use crate::head::{Cut, cut_from, cut_request};
 use crate::inbox::Inbox;
+use crate::outgoing::Outgoing;
 use crate::responder::Responder;
 use crate::routes::Routes;
 use hall_policy::Moment;
@@ -62,7 +63,7 @@ pub(crate) struct Connection {
     pub(crate) inbox: Inbox,
     /// With fewer bytes what waits is unfinished.
     pub(crate) least: usize,
-    pub(crate) reply: Answer,
+    pub(crate) reply: Outgoing,
     /// How many bytes of the reply were sent.
     pub(crate) sent: usize,
     pub(crate) requests: usize,
@@ -93,7 +94,7 @@ impl Connection {
         Connection {
             inbox,
             least: 0,
-            reply: Answer::Nothing,
+            reply: Outgoing::Nothing,
             sent: 0,
             requests: 0,
             reads: 0,
@@ -141,7 +142,7 @@ impl Connection {
             self.state = State::Ended(ServeEnd::Closed);
             return;
         }
-        self.reply = Answer::Refusal;
+        self.reply = Outgoing::Refusal;
         self.sent = 0;
         self.state = State::Writing(Some(ServeEnd::BadHead));
     }
@@ -182,13 +183,15 @@ impl Connection {
         match cut_from(self.inbox.unread(), self.least) {
             Cut::Whole { size, request } => {
                 let moment = clock.now();
-                self.reply = responder.answer(alloc, routes, moment, &request);
+                let answer = responder.answer(alloc, routes, moment, &request);
+                let goes_on = answer.goes_on();
+                self.reply = Outgoing::Reply(answer);
                 self.requests += 1;
                 self.state = State::Writing(then_of(request.closes, self.requests));
                 self.inbox.pass(size);
                 self.sent = 0;
                 self.least = 0;
-                self.reply.goes_on()
+                goes_on
             }
             Cut::More(least) => {
                 self.least = least;
@@ -200,7 +203,7 @@ impl Connection {
                 true
             }
             Cut::Never => {
-                self.reply = Answer::Refusal;
+                self.reply = Outgoing::Refusal;
                 self.sent = 0;
                 self.state = State::Writing(Some(ServeEnd::BadHead));
                 true
@@ -210,7 +213,7 @@ impl Connection {
 
     /// The bytes that wait to be sent.
     pub(crate) fn pending(&self) -> &[u8]
-        requires { self.now.sent ≤ length (answer_text self.now.reply) }
+        requires { self.now.sent ≤ length (outgoing_text self.now.reply) }
         ensures { result.now ≡ pending self.now }
     {
         &self.reply.as_bytes()[self.sent..]
@@ -226,7 +229,7 @@ impl Connection {
             return;
         }
         self.sent = 0;
-        self.reply = Answer::Nothing;
+        self.reply = Outgoing::Nothing;
         if let State::Writing(then) = self.state {
             self.state = match then {
                 Some(end) => State::Ended(end),
@@ -237,7 +240,7 @@ impl Connection {
 
     /// All of them were sent.
     pub(crate) fn sent_all(&mut self)
-        requires { self.old.sent ≤ length (answer_text self.old.reply) }
+        requires { self.old.sent ≤ length (outgoing_text self.old.reply) }
         ensures { IsAfterSending self.old (length (pending self.old)) self.new }
     {
         let count = self.pending().len();

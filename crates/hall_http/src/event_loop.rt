@@ -1,8 +1,9 @@
 //! The system's sockets: who comes, whose turn it is, and who has waited too long.
-ghost use Rattle.std.specs.Prelude.{◌≡◌, ◌≢◌, IfSome};
+ghost use Rattle.std.specs.Prelude.{◌≡◌, ◌≢◌, ◌+◌, IfOk, IfSome};
 ghost use Rattle.hall_http.specs.declared.server.Next.TheVariants as Next;
-ghost use Rattle.hall_http.specs.Coming.{IsFreshPeer, logged};
-ghost use Rattle.hall_http.specs.Socket.{came_of, went_of};
+ghost use Rattle.hall_http.specs.Coming.{IsFreshPeer, newcomer};
+ghost use Rattle.hall_http.specs.EventLoop.{IsFreshLoop, said_by};
+ghost use Rattle.hall_http.specs.Socket.{traffic_of};
 
 use crate::client::{Step, Wish};
 use crate::clients::MOST_CLIENTS;
@@ -18,7 +19,7 @@ use std::collections::VecDeque;
 use std::io::{ErrorKind, Write};
 use std::net::{Net, SocketAddr};
 use std::time::Duration;
-use std::{io, time};
+use std::{io, mem, time};
 
 /// What the listener's events are called. No connection has this place.
 const LISTENER: usize = usize::MAX;
@@ -91,8 +92,12 @@ const TAKEN: &str = "hall: the disk takes writes again\n";
 #[derive(Drop)]
 pub struct EventLoop<'r, N, E> {
     schedule: Schedule<'r, N>,
+    /// The address that it was to listen on, and for how many connections.
+    asked: Log<SocketAddr, u64>,
     /// All that was to be done next, and the millisecond of the schedule.
     nexts: Log<Next<Socket>, u64>,
+    /// The places that were given to newcomers, and the millisecond.
+    seated: Log<usize, u64>,
     /// Where it tells that writes are refused, and that they are taken again.
     journal: Option<Counted<E>>,
     refuses_writes: bool,
@@ -134,10 +139,14 @@ impl<'r, N: Net + AllocGlobal + time::Clock, E: Drop> EventLoop<'r, N, E> {
         address: SocketAddr,
         connections: u64,
         journal: Option<Counted<E>>,
-    ) -> io::Result<EventLoop<'r, N, E>> {
+    ) -> io::Result<EventLoop<'r, N, E>>
+        ensures { IfOk result (IsFreshLoop address connections) }
+    {
         Ok(EventLoop {
             schedule: Schedule::new(rt, address, connections)?,
+            asked: Log::new().and(&address, &connections),
             nexts: Log::new(),
+            seated: Log::new(),
             journal,
             refuses_writes: false,
         })
@@ -145,6 +154,30 @@ impl<'r, N: Net + AllocGlobal + time::Clock, E: Drop> EventLoop<'r, N, E> {
 }
 
 impl<'r, N, E> EventLoop<'r, N, E> {
+    /// What is to be done next, with a newcomer's stream as a socket, which has the number after the one before it.
+    fn handed_out(&mut self, next: Next<TcpStream>) -> Next<Socket>
+        ensures fresh { IsFreshPeer traffic_of (said_by self.old).count result }
+        ensures count { (said_by self.new).count ≡ (said_by self.old).count + newcomer result }
+        ensures nexts { (said_by self.new).nexts ≡ (said_by self.old).nexts }
+        ensures schedule { self.new.schedule ≡ self.old.schedule }
+        ensures end { result ≡ Next.End → next ≡ Next.End }
+    {
+        match next {
+            Next::Newcomer { place, peer } => {
+                let seated = self.seated.and(&place, &self.schedule.now);
+                let before = mem::replace(&mut self.seated, seated);
+                Next::Newcomer {
+                    place,
+                    peer: Socket::new(peer, before),
+                }
+            }
+            Next::Turn(place) => Next::Turn(place),
+            Next::Gone(place) => Next::Gone(place),
+            Next::End => Next::End,
+            Next::Refused => Next::Refused,
+        }
+    }
+
     /// The address that it listens on.
     pub fn local_addr(&self) -> io::Result<SocketAddr> {
         self.schedule.listener.local_addr()
@@ -156,10 +189,11 @@ impl<'r, N: time::Clock, E: Write> Sockets for EventLoop<'r, N, E> {
 
     ghost is_over = { λ sockets. sockets.schedule.left ≡ 0 };
 
-    ghost nexts = { λ sockets. logged sockets.nexts };
+    ghost said = { said_by };
 
     fn next(&mut self) -> Next<Socket> {
         let next = self.schedule.next();
+        let next = self.handed_out(next);
         self.nexts = self.nexts.and(&next, &self.schedule.now);
         next
     }
@@ -182,7 +216,9 @@ impl<'r, N: time::Clock, E: Write> Sockets for EventLoop<'r, N, E> {
 
 impl<'r, N: Net + AllocGlobal + time::Clock> Schedule<'r, N> {
     /// Listens on the address, for so many connections.
-    fn new(rt: &'r N, address: SocketAddr, connections: u64) -> io::Result<Schedule<'r, N>> {
+    fn new(rt: &'r N, address: SocketAddr, connections: u64) -> io::Result<Schedule<'r, N>>
+        ensures { IfOk result (λ schedule. schedule.left ≡ connections) }
+    {
         let alloc = rt.alloc();
         let poll = Poll::new(rt)?;
         let events = Events::with_capacity(alloc, MOST_EVENTS)?;
@@ -284,7 +320,7 @@ impl<'r, N> Schedule<'r, N> {
         }
     }
 
-    /// A free place, where one more may be here; or else the place of one that may go, whose patience ends first.
+    /// A free place, where one more may be here; or else the place of the one that may go and times out first.
     /// Those whose requests need more work go last.
     fn find_place(&self) -> (Option<usize>, Option<usize>) {
         let mut count = 0u64;
@@ -364,9 +400,8 @@ impl<'r, N> Schedule<'r, N> {
     }
 
     /// Whose turn it is, of those who are ready.
-    fn first(&mut self) -> Option<Next<Socket>>
-        ensures fresh { IfSome result (λ next. IsFreshPeer came_of went_of next) }
-        ensures more { IfSome result (λ next. next ≢ Next.End) }
+    fn first(&mut self) -> Option<Next<TcpStream>>
+        ensures { IfSome result (λ next. next ≢ Next.End) }
     {
         if self.round == 0 {
             return None;
@@ -381,9 +416,8 @@ impl<'r, N> Schedule<'r, N> {
     }
 
     /// Who is let in, or has to go, now that all was heard.
-    fn judge(&mut self) -> Option<Next<Socket>>
-        ensures fresh { IfSome result (λ next. IsFreshPeer came_of went_of next) }
-        ensures more { IfSome result (λ next. next ≢ Next.End) }
+    fn judge(&mut self) -> Option<Next<TcpStream>>
+        ensures { IfSome result (λ next. next ≢ Next.End) }
     {
         if self.backlog == Backlog::Waiting
             && let Some(next) = self.admit()
@@ -396,9 +430,8 @@ impl<'r, N> Schedule<'r, N> {
     }
 
     /// Lets a newcomer in, where there is one and a place for it.
-    fn admit(&mut self) -> Option<Next<Socket>>
-        ensures fresh { IfSome result (λ next. IsFreshPeer came_of went_of next) }
-        ensures more { IfSome result (λ next. next ≢ Next.End) }
+    fn admit(&mut self) -> Option<Next<TcpStream>>
+        ensures { IfSome result (λ next. next ≢ Next.End) }
     {
         let place = match self.find_place() {
             (Some(place), _) => place,
@@ -425,9 +458,8 @@ impl<'r, N> Schedule<'r, N> {
     }
 
     /// Gives the newcomer the place, or lets it go where it can't be set up.
-    fn seat(&mut self, place: usize, mut stream: TcpStream) -> Option<Next<Socket>>
-        ensures fresh { IfSome result (λ next. IsFreshPeer came_of went_of next) }
-        ensures more { IfSome result (λ next. next ≢ Next.End) }
+    fn seat(&mut self, place: usize, mut stream: TcpStream) -> Option<Next<TcpStream>>
+        ensures { IfSome result (λ next. next ≢ Next.End) }
     {
         let interests = Interest::READABLE | Interest::WRITABLE;
         let set = stream.set_nodelay(true).and_then(|_| {
@@ -445,7 +477,7 @@ impl<'r, N> Schedule<'r, N> {
         }
         Some(Next::Newcomer {
             place,
-            peer: Socket::new(stream),
+            peer: stream,
         })
     }
 }
@@ -529,9 +561,8 @@ fn place_of(event: &Event) -> usize {
 
 impl<'r, N: time::Clock> Schedule<'r, N> {
     /// Waits until something is to be done.
-    fn next(&mut self) -> Next<Socket>
-        ensures fresh { IsFreshPeer came_of went_of result }
-        ensures over { result ≡ Next.End → self.new.left ≡ 0 }
+    fn next(&mut self) -> Next<TcpStream>
+        ensures { result ≡ Next.End → self.new.left ≡ 0 }
     {
         for _round in 0..u64::MAX {
             if self.left == 0 {

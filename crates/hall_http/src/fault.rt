@@ -12,7 +12,7 @@ pub enum ReplayFault {
     Record,
     /// A call of the reader or the writer failed.
     Device,
-    /// Want of memory of the replay's own.
+    /// Out of memory of the replay's own.
     Memory,
 }
 

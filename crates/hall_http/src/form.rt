@@ -68,7 +68,7 @@ pub(crate) enum FormFault {
 /// Why bytes were not read as a request.
 #[derive(Clone, Copy, Debug, PartialEq, Eq)]
 pub(crate) enum RequestFault {
-    /// Want of memory.
+    /// Out of memory.
     Memory,
     /// The bytes are no request.
     Form(FormFault),

@@ -49,7 +49,7 @@ enum Found<'b> {
 }
 
 impl<'b> Found<'b> {
-    /// The same with one more header.
+    /// The headers of one name, with one more.
     fn and(self, value: &'b [u8]) -> Found<'b>
         ensures { (headers : List Header) (name : List ℕ) → Finds self.entry headers →
             Finds result (headers ++ (name, value.entry.now) ∷ []) }
@@ -200,7 +200,8 @@ pub(crate) fn cut_request(bytes: &[u8]) -> Cut<'_>
     }
 }
 
-/// The same, where the bytes are known to be unfinished below so many: no head is read anew for each piece of a body.
+/// Where the first request of the bytes ends, which are known to be unfinished below so many: no head is read anew for
+/// each piece of a body.
 pub(crate) fn cut_from(bytes: &[u8], least: usize) -> Cut<'_>
     requires { IsUnfinishedBelow least bytes.now }
     ensures { Cuts bytes.now result }

@@ -1,12 +1,13 @@
 //! The machine that a hall is served on.
 ghost use Rattle.std.specs.Prelude.{◌≡◌, ℕ, List, Option, IfOk, OnErr};
 ghost use Rattle.hall_desk.specs.declared.census.Census.{Census};
-ghost use Rattle.hall_http.specs.Host.{ended, told_on, uncalled};
-ghost use Rattle.hall_http.specs.declared.clients.Clients.{Clients};
+ghost use Rattle.hall_http.specs.Crowd.{Past};
+ghost use Rattle.hall_http.specs.Clock.{read_by};
+ghost use Rattle.hall_http.specs.Host.{TellsNothing, ListensOn, ended, told_on, uncalled};
 ghost use Rattle.std.specs.Prelude.{[], ◌∷◌, ◌++◌};
 ghost use Rattle.hall_http.specs.Notice.{IsNotified};
 
-use crate::clients::Clients;
+use crate::clients::Gone;
 use crate::clock::SystemClock;
 use crate::connection::Clock;
 use crate::event_loop::EventLoop;
@@ -17,7 +18,7 @@ use hall_desk::Census;
 use hall_grid::Counted;
 use http_server::Log;
 use std::io::{ErrorKind, Write};
-use std::net::{Ipv4Addr, Net, SocketAddr};
+use std::net::{Ipv4Addr, Net, SocketAddr, SocketAddrV4};
 use std::{io, time};
 
 /// A machine that a hall can be served on.
@@ -37,8 +38,8 @@ pub trait Host {
 
     ghost shows: { Self → Self.Clock → Type 0 };
 
-    /// It was told of the connections that came to these sockets, as they were left.
-    ghost ends: { Self → Self.Sockets → Clients Self.Sockets.Peer → Self → Type 0 };
+    /// It was told of the connections that came to these sockets.
+    ghost ends: { Self → Self.Sockets → List (Past Self.Sockets.Peer) → Self → Type 0 };
 
     /// Listens on the port for so many connections, of clients of this machine alone.
     fn listen(&mut self, port: u64, connections: u64) -> io::Result<Self::Sockets>
@@ -55,8 +56,8 @@ pub trait Host {
         ensures { shows self.now result };
 
     /// Takes the sockets back, and the connections that came.
-    fn end(&mut self, sockets: Self::Sockets, clients: Clients<<Self::Sockets as Sockets>::Peer>)
-        ensures { ends self.old sockets clients self.new };
+    fn end(&mut self, sockets: Self::Sockets, gone: Gone<<Self::Sockets as Sockets>::Peer>)
+        ensures { ends self.old sockets gone.items self.new };
 }
 
 /// The machine that the program runs on, and where it tells what it has to tell.
@@ -65,7 +66,7 @@ pub struct SystemHost<'r, N, E> {
     rt: &'r N,
     error: Counted<E>,
     journal: Option<Counted<E>>,
-    ended: Log<Clients<Socket>, EventLoop<'r, N, E>>,
+    ended: Log<Gone<Socket>, EventLoop<'r, N, E>>,
 }
 
 impl<'r, N, E> SystemHost<'r, N, E> {
@@ -83,33 +84,31 @@ impl<'r, N, E> SystemHost<'r, N, E> {
     }
 }
 
-// The system tells nothing of its sockets and its clock.
+// What its sockets bind and what its clock reads is the system's.
 impl<'r, N: Net + AllocGlobal + time::Clock, E: Write + Drop> Host for SystemHost<'r, N, E> {
     type Sockets = EventLoop<'r, N, E>;
 
     type Clock = SystemClock<&'r N>;
 
-    ghost listens = { λ _ _ _ _ _. Unit {0} };
+    ghost listens = { λ old port connections sockets new. TellsNothing old new × ListensOn port connections sockets };
 
-    ghost refuses = { λ _ _ _. Unit {0} };
+    ghost refuses = { λ old port new. TellsNothing old new };
 
     ghost tells = { λ old port path census new.
-        IsNotified E.contents port path census (told_on old) (told_on new) };
+        IsNotified E.contents port path census (told_on old) (told_on new) × (ended new ≡ ended old) };
 
-    ghost shows = { λ _ _. Unit {0} };
+    ghost shows = { λ host clock. read_by clock ≡ host.rt };
 
-    ghost ends = { λ old sockets clients new. ended new ≡ ended old ++ (clients, sockets) ∷ [] };
+    ghost ends = { λ old sockets gone new.
+        (told_on new ≡ told_on old) × (ended new ≡ ended old ++ (gone, sockets) ∷ []) };
 
     fn listen(&mut self, port: u64, connections: u64) -> io::Result<EventLoop<'r, N, E>> {
         let Ok(port) = u16::try_from(port) else {
             return Err(io::Error::from(ErrorKind::InvalidInput));
         };
-        EventLoop::new(
-            self.rt,
-            SocketAddr::from((Ipv4Addr::LOCALHOST, port)),
-            connections,
-            self.journal.take(),
-        )
+        let address = SocketAddrV4::new(Ipv4Addr::new(127, 0, 0, 1), port);
+        let journal = self.journal.take();
+        EventLoop::new(self.rt, SocketAddr::V4(address), connections, journal)
     }
 
     fn tell(&mut self, port: u64, path: &str, census: Option<Census>) {
@@ -120,9 +119,10 @@ impl<'r, N: Net + AllocGlobal + time::Clock, E: Write + Drop> Host for SystemHos
         SystemClock::new(self.rt)
     }
 
-    fn end(&mut self, sockets: EventLoop<'r, N, E>, clients: Clients<Socket>)
-        ensures { ended self.new ≡ ended self.old ++ (clients, sockets.entry) ∷ [] }
+    fn end(&mut self, sockets: EventLoop<'r, N, E>, gone: Gone<Socket>)
+        ensures { (told_on self.new ≡ told_on self.old)
+            × (ended self.new ≡ ended self.old ++ (gone.items, sockets.entry) ∷ []) }
     {
-        self.ended = self.ended.and(&clients, &sockets);
+        self.ended = self.ended.and(&gone, &sockets);
     }
 }

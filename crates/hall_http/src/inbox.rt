@@ -20,7 +20,7 @@ const CHUNK_SIZE: usize = 4096;
 pub enum ReadFault {
     /// The read failed.
     Device,
-    /// Want of memory, where more bytes wait than there is room for.
+    /// Out of memory, where more bytes wait than there is room for.
     Memory,
 }
 

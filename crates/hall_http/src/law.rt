@@ -1,8 +1,11 @@
 //! Laws of the definitions, each the contract of a function that does nothing.
 ghost use Rattle.hall_http.specs.Laws.{AreOneRequest, BeginsWithOneRequest, AskForOneThing};
-ghost use Rattle.hall_http.specs.Laws.{AreOneListOfRequests, AreOneListOfRecords, RunsCompose};
+ghost use Rattle.hall_http.specs.Laws.{AreOneListOfRequests, AreOneListOfRecords, FirstPartsLast, RunsCompose};
+ghost use Rattle.hall_http.specs.Serving.{AreAnswered, AreAnsweredWhileOpen};
 ghost use Rattle.hall_http.specs.Told.{HasOneSpelling, RefusalsTellNothing, BytesHideOthers, BytesHideAnswers};
 ghost use Rattle.hall_http.specs.Wire.{WireHidesOthers, WireHidesAnswers, WireHidesOthersOn, WireHidesAnswersOn};
+
+use hall_store::ReadStore;
 
 /// Bytes are at most one request and ask for at most one thing. A stream begins with at most one whole request and is
 /// at most one list of requests; an input is at most one list of records.
@@ -19,6 +22,15 @@ pub fn law_requests()
 /// that world.
 pub fn law_runs()
     ensures { RunsCompose }
+{}
+
+/// What was answered lasts. Over a store that serves, and of which a stop would leave its world, a stop after any first
+/// part of the requests leaves the world after these, as they were answered; or one of them that was answered 503 was
+/// made all the same. So it leaves each request that got another reply, and none that wasn't answered yet. `served`
+/// says it of one connection's requests and of a replay's, `crowd` of those of many connections.
+pub fn law_stops<S: ReadStore>()
+    ensures served { FirstPartsLast S.content (AreAnswered S.content) }
+    ensures crowd { FirstPartsLast S.content (AreAnsweredWhileOpen S.content) }
 {}
 
 /// Equal replies have equal bytes, and bytes that are no request have one reply, whatever the world. So the bytes of

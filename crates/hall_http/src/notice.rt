@@ -11,7 +11,7 @@ use std::alloc::{AllocError, Global};
 use std::io::Write;
 
 /// Tells on which port of 127.0.0.1 the hall in the file at the path is served, and how many people and rounds it knows
-/// where they were counted, by one line, or as much of it as is taken. For want of memory nothing is told.
+/// where they were counted, by one line, or as much of it as is taken. Where memory is out, nothing is told.
 pub fn notify<E: Write>(
     alloc: Global,
     port: u64,

@@ -1,31 +1,37 @@
 //! The bytes of replies.
-ghost use Rattle.std.specs.Prelude.{◌≡◌, ◌≢◌, ◌++◌, [], false, IfOk, OnOk, string_bytes};
-ghost use Rattle.serde_json.specs.View.{view};
-ghost use Rattle.serde_json.specs.Written.{has_float, compact_text};
-ghost use Rattle.hall_http.specs.Reply.{state_text, mode_text, import_data, put_puzzle_data, read_puzzle_data};
+ghost use Rattle.std.specs.Prelude.{◌≡◌, ◌++◌, IfOk, OnOk, codes, decimal, string_bytes};
+ghost use Rattle.serde_json.specs.Written.{compact_text};
+ghost use Rattle.hall_http.specs.Reply.{import_data, put_puzzle_data, read_puzzle_data};
 ghost use Rattle.hall_http.specs.Reply.{certify_data};
 ghost use Rattle.hall_http.specs.Reply.{list_puzzles_data, put_round_data, release_data};
 ghost use Rattle.hall_http.specs.Reply.{list_rounds_data, solutions_data, sheet_fault_data};
-ghost use Rattle.hall_http.specs.Reply.{protest_data, ruling_text, protests_data};
+ghost use Rattle.hall_http.specs.Reply.{protest_data, protests_data};
 ghost use Rattle.hall_http.specs.Reply.{rule_protest_data, publish_data};
 ghost use Rattle.hall_http.specs.Reply.{read_round_data, submit_data, answers_data, denied_data};
 ghost use Rattle.hall_http.specs.Reply.{reply_data, reply_status, denied_status, field_text};
 ghost use Rattle.hall_http.specs.Reply.{form_data, field_data, place_data, puzzle_fault_data, fault_data, fault_status};
 ghost use Rattle.hall_http.specs.Reply.{head_bytes, wire_bytes, IsJson, BytesOf, FaultBytesOf};
+ghost use Rattle.hall_http.specs.Telling.{Adds, tokens_of};
 
 use crate::form::{Field, FormFault, PuzzleFault};
-use crate::row::row_bodies;
+use crate::row::{end_with_verdict, mode_at, points_at, rows_at, rows_room, ruling_at, state_at};
 use crate::status::{MediaType, Status};
-use hall_desk::{AnswerLine, ProtestLine, PuzzleLine, Reply, RoundLine, ShownRound, StateName};
+use crate::telling::Telling;
+use hall_desk::{
+    AnswerLine, ProtestLine, PuzzleLine, Reply, RoundLine, Rows, ShownRound, StateName,
+};
 use hall_grid::Broken;
-use hall_policy::{AnswerNumber, AnswerText, Mode, PuzzleKey, Ruling, ruling_points};
+use hall_policy::{AnswerNumber, AnswerText, PuzzleKey, PuzzleText, RoundId, Ruling, Token};
 use hall_sheet::Refusal;
-use serde_json::{Value, json};
 use std::alloc::{AllocError, Global};
 
 /// The reply where memory runs out, or where the database or the clock fails. To make it takes no memory.
-pub(crate) const UNAVAILABLE: &str =
-    "HTTP/1.1 503 Service Unavailable\r\nContent-Type: application/json\r\nContent-Length: 16\r\n\r\n{\"fault\":\"hall\"}";
+pub(crate) const UNAVAILABLE: &str = "\
+HTTP/1.1 503 Service Unavailable\r\nContent-Type: application/json\r\nContent-Length: 16\r\n\r\n\
+{\"fault\":\"hall\"}";
+
+/// Room for what stands before a reply's body, and for a body of a few members.
+const HEAD_ROOM: usize = 256;
 
 /// The bytes of a reply: the status line, two header lines, an empty line and the body.
 pub(crate) fn reply_bytes(alloc: Global, reply: &Reply) -> Result<String, AllocError>
@@ -43,26 +49,16 @@ fn told_bytes(alloc: Global, reply: &Reply) -> Result<String, AllocError>
     requires { IsJson reply.now }
     ensures { IfOk result (λ bytes. BytesOf reply.now (string_bytes bytes)) }
 {
-    let body = reply_body(alloc, reply)?;
-    json_bytes(alloc, reply_status(reply), &body)
+    let body = reply_text(alloc, reply)?;
+    with_head(alloc, reply_status(reply), MediaType::Json, body)
 }
 
 /// The bytes of the reply to bytes that are no request.
 pub(crate) fn fault_bytes(alloc: Global, fault: FormFault) -> Result<String, AllocError>
     ensures { IfOk result (λ bytes. FaultBytesOf fault (string_bytes bytes)) }
 {
-    let body = fault_body(alloc, fault)?;
-    json_bytes(alloc, fault_status(fault), &body)
-}
-
-/// A reply with a JSON body.
-fn json_bytes(alloc: Global, status: Status, body: &Value) -> Result<String, AllocError>
-    requires { has_float (view body.now) ≡ false }
-    ensures { IfOk result (λ bytes.
-        string_bytes bytes ≡ wire_bytes status MediaType.Json (compact_text (view body.now))) }
-{
-    let text = body.to_string(alloc)?;
-    write_reply(alloc, status, MediaType::Json, text.as_str())
+    let body = fault_text(alloc, fault)?;
+    with_head(alloc, fault_status(fault), MediaType::Json, body)
 }
 
 /// The bytes of a reply.
@@ -74,12 +70,41 @@ fn write_reply(
 ) -> Result<String, AllocError>
     ensures { IfOk result (λ bytes. string_bytes bytes ≡ wire_bytes status media body.now) }
 {
-    let mut bytes = String::new(alloc);
-    push_head(&mut bytes, status, media)?;
-    let size = format!(in alloc; "\r\nContent-Length: {}\r\n\r\n", body.len())?;
-    bytes.push_str(size.as_str())?;
+    let mut bytes = String::with_capacity(alloc, body.len().saturating_add(HEAD_ROOM))?;
     bytes.push_str(body)?;
+    with_head(alloc, status, media, bytes)
+}
+
+/// The bytes of a reply with this body. They are the body's own, moved on behind the head: a large one is there once.
+fn with_head(
+    alloc: Global,
+    status: Status,
+    media: MediaType,
+    body: String,
+) -> Result<String, AllocError>
+    ensures { IfOk result (λ bytes. string_bytes bytes ≡ wire_bytes status media (string_bytes body)) }
+{
+    let head = head_text(alloc, status, media, body.len())?;
+    let mut bytes = body;
+    bytes.insert_str(0, head.as_str())?;
     Ok(bytes)
+}
+
+/// What stands before a body of so many bytes.
+fn head_text(
+    alloc: Global,
+    status: Status,
+    media: MediaType,
+    size: usize,
+) -> Result<String, AllocError>
+    ensures { IfOk result (λ head. string_bytes head
+        ≡ head_bytes status media ++ (codes "\r\nContent-Length: " ++ (decimal size ++ codes "\r\n\r\n"))) }
+{
+    let mut head = String::with_capacity(alloc, HEAD_ROOM)?;
+    push_head(&mut head, status, media)?;
+    let length = format!(in alloc; "\r\nContent-Length: {}\r\n\r\n", size)?;
+    head.push_str(length.as_str())?;
+    Ok(head)
 }
 
 /// Writes the status line and the type of the body.
@@ -146,208 +171,249 @@ fn fault_status(fault: FormFault) -> Status
     }
 }
 
-/// The body of a reply.
-fn reply_body(alloc: Global, reply: &Reply) -> Result<Value, AllocError>
+/// The JSON text of a reply.
+fn reply_text(alloc: Global, reply: &Reply) -> Result<String, AllocError>
     requires { IsJson reply.now }
-    ensures { IfOk result (λ body. view body ≡ reply_data reply.now) }
+    ensures { IfOk result (λ text. string_bytes text ≡ compact_text (reply_data reply.now)) }
+{
+    let mut told = Telling::new(alloc, reply_room(reply))?;
+    tell_reply(alloc, &mut told, reply)?;
+    Ok(told.into_text())
+}
+
+/// About how many bytes a reply takes. No clause speaks of it.
+fn reply_room(reply: &Reply) -> usize {
+    let rows = match reply {
+        Reply::ListPuzzles(lines) => rows_room(lines.as_slice()),
+        Reply::ListRounds(lines) => rows_room(lines.as_slice()),
+        Reply::ReadRound(round) => rows_room(round.puzzles.as_slice()).saturating_add(256),
+        Reply::Answers(lines) => rows_room(lines.as_slice()),
+        Reply::Solutions(texts) => rows_room(texts.as_slice()),
+        Reply::Protests(lines) => rows_room(lines.as_slice()),
+        _ => 0,
+    };
+    rows.saturating_add(HEAD_ROOM)
+}
+
+/// Tells a reply.
+fn tell_reply(alloc: Global, told: &mut Telling, reply: &Reply) -> Result<(), AllocError>
+    requires { IsJson reply.now }
+    ensures { OnOk result (Adds told.old told.new (tokens_of (reply_data reply.now))) }
 {
     match reply {
-        Reply::Denied(rule) => denied_body(alloc, *rule),
+        Reply::Denied(rule) => tell_denied(told, *rule),
         Reply::Unavailable => unreachable!(),
-        Reply::Import(added) => import_body(alloc, *added),
-        Reply::PutPuzzle { state, text } => put_puzzle_body(alloc, *state, text.as_str()),
-        Reply::ReadPuzzle { key, state, text } => read_puzzle_body(
-            alloc,
-            key,
-            *state,
-            text.as_str(),
-        ),
-        Reply::ListPuzzles(lines) => list_puzzles_body(alloc, lines.as_slice()),
-        Reply::Certify(state) => certify_body(alloc, *state),
-        Reply::PutRound(round) => put_round_body(alloc, round.as_str()),
-        Reply::Release(round) => release_body(alloc, round.as_str()),
-        Reply::ListRounds(lines) => list_rounds_body(alloc, lines.as_slice()),
-        Reply::ReadRound(round) => read_round_body(alloc, round),
-        Reply::Submit { n, verdict } => submit_body(alloc, *n, *verdict),
-        Reply::Answers(lines) => answers_body(alloc, lines.as_slice()),
-        Reply::Solutions(texts) => solutions_body(alloc, texts.as_slice()),
-        Reply::Protest(token) => protest_body(alloc, token.as_str()),
-        Reply::Protests(lines) => protests_body(alloc, lines.as_slice()),
-        Reply::RuleProtest(ruling) => rule_protest_body(alloc, *ruling),
-        Reply::Publish(round) => publish_body(alloc, round.as_str()),
+        Reply::Import(added) => tell_import(told, *added),
+        Reply::PutPuzzle { state, text } => tell_put_puzzle(told, *state, text),
+        Reply::ReadPuzzle { key, state, text } => tell_read_puzzle(told, key, *state, text),
+        Reply::ListPuzzles(lines) => tell_list_puzzles(alloc, told, lines),
+        Reply::Certify(state) => tell_certify(told, *state),
+        Reply::PutRound(round) => tell_put_round(told, round),
+        Reply::Release(round) => tell_release(told, round),
+        Reply::ListRounds(lines) => tell_list_rounds(alloc, told, lines),
+        Reply::ReadRound(round) => tell_read_round(alloc, told, round),
+        Reply::Submit { n, verdict } => tell_submit(alloc, told, *n, *verdict),
+        Reply::Answers(lines) => tell_answers(alloc, told, lines),
+        Reply::Solutions(texts) => tell_solutions(alloc, told, texts),
+        Reply::Protest(token) => tell_protest(told, token),
+        Reply::Protests(lines) => tell_protests(alloc, told, lines),
+        Reply::RuleProtest(ruling) => tell_rule_protest(told, *ruling),
+        Reply::Publish(round) => tell_publish(told, round),
         Reply::Table(_) => unreachable!(),
     }
 }
 
-fn denied_body(alloc: Global, rule: u8) -> Result<Value, AllocError>
-    ensures { IfOk result (λ body. view body ≡ denied_data rule) }
+fn tell_denied(told: &mut Telling, rule: u8) -> Result<(), AllocError>
+    ensures { OnOk result (Adds told.old told.new (tokens_of (denied_data rule))) }
 {
-    json!(in alloc; {"denied": rule})
+    told.open()?;
+    told.number_at("denied", u64::from(rule))?;
+    told.close()
 }
 
-/// What a puzzle's state is called.
-pub(crate) fn state_text(state: StateName) -> &'static str
-    ensures { result.now ≡ state_text state }
+fn tell_import(told: &mut Telling, added: u64) -> Result<(), AllocError>
+    ensures { OnOk result (Adds told.old told.new (tokens_of (import_data added))) }
 {
-    match state {
-        StateName::New => "new",
-        StateName::One => "one",
-        StateName::NoSolution => "none",
-        StateName::More => "more",
-        StateName::GaveUp => "gave up",
-    }
+    told.open()?;
+    told.number_at("added", added)?;
+    told.close()
 }
 
-/// What a round's mode is called.
-pub(crate) fn mode_text(mode: Mode) -> &'static str
-    ensures { result.now ≡ mode_text mode }
+fn tell_put_puzzle(
+    told: &mut Telling,
+    state: StateName,
+    text: &PuzzleText,
+) -> Result<(), AllocError>
+    ensures { OnOk result (Adds told.old told.new (tokens_of (put_puzzle_data state text.now))) }
 {
-    match mode {
-        Mode::Instant => "instant",
-        Mode::Sealed => "sealed",
-    }
+    told.open()?;
+    state_at(told, state)?;
+    told.checked_at("text", text)?;
+    told.close()
 }
 
-fn import_body(alloc: Global, added: u64) -> Result<Value, AllocError>
-    ensures { IfOk result (λ body. view body ≡ import_data added) }
-{
-    json!(in alloc; {"added": added})
-}
-
-fn put_puzzle_body(alloc: Global, state: StateName, text: &str) -> Result<Value, AllocError>
-    ensures { IfOk result (λ body. view body ≡ put_puzzle_data state text.now) }
-{
-    json!(in alloc; {"state": (state_text(state)), "text": text})
-}
-
-fn read_puzzle_body(
-    alloc: Global,
+fn tell_read_puzzle(
+    told: &mut Telling,
     key: &PuzzleKey,
     state: StateName,
-    text: &str,
-) -> Result<Value, AllocError>
-    ensures { IfOk result (λ body. view body ≡ read_puzzle_data key.now state text.now) }
+    text: &PuzzleText,
+) -> Result<(), AllocError>
+    ensures { OnOk result (Adds told.old told.new (tokens_of (read_puzzle_data key.now state text.now))) }
 {
-    json!(in alloc; {
-        "author": (key.author.as_str()),
-        "label": (key.label.as_str()),
-        "state": (state_text(state)),
-        "text": text
-    })
+    told.open()?;
+    told.checked_at("author", &key.author)?;
+    told.checked_at("label", &key.label)?;
+    state_at(told, state)?;
+    told.checked_at("text", text)?;
+    told.close()
 }
 
-fn list_puzzles_body(alloc: Global, lines: &[PuzzleLine]) -> Result<Value, AllocError>
-    ensures { IfOk result (λ body. view body ≡ list_puzzles_data lines.now) }
+fn tell_list_puzzles(
+    alloc: Global,
+    told: &mut Telling,
+    lines: &Rows<PuzzleLine>,
+) -> Result<(), AllocError>
+    ensures { OnOk result (Adds told.old told.new (tokens_of (list_puzzles_data lines.now))) }
 {
-    let puzzles = row_bodies(alloc, lines)?;
-    json!(in alloc; {"puzzles": puzzles})
+    told.open()?;
+    rows_at(alloc, told, "puzzles", lines)?;
+    told.close()
 }
 
-fn certify_body(alloc: Global, state: StateName) -> Result<Value, AllocError>
-    ensures { IfOk result (λ body. view body ≡ certify_data state) }
+fn tell_certify(told: &mut Telling, state: StateName) -> Result<(), AllocError>
+    ensures { OnOk result (Adds told.old told.new (tokens_of (certify_data state))) }
 {
-    json!(in alloc; {"state": (state_text(state))})
+    told.open()?;
+    state_at(told, state)?;
+    told.close()
 }
 
-fn put_round_body(alloc: Global, round: &str) -> Result<Value, AllocError>
-    ensures { IfOk result (λ body. view body ≡ put_round_data round.now) }
+fn tell_put_round(told: &mut Telling, round: &RoundId) -> Result<(), AllocError>
+    ensures { OnOk result (Adds told.old told.new (tokens_of (put_round_data round.now))) }
 {
-    json!(in alloc; {"round": round})
+    told.open()?;
+    told.checked_at("round", round)?;
+    told.close()
 }
 
-fn release_body(alloc: Global, round: &str) -> Result<Value, AllocError>
-    ensures { IfOk result (λ body. view body ≡ release_data round.now) }
+fn tell_release(told: &mut Telling, round: &RoundId) -> Result<(), AllocError>
+    ensures { OnOk result (Adds told.old told.new (tokens_of (release_data round.now))) }
 {
-    json!(in alloc; {"released": round})
+    told.open()?;
+    told.checked_at("released", round)?;
+    told.close()
 }
 
-fn list_rounds_body(alloc: Global, lines: &[RoundLine]) -> Result<Value, AllocError>
-    ensures { IfOk result (λ body. view body ≡ list_rounds_data lines.now) }
+fn tell_list_rounds(
+    alloc: Global,
+    told: &mut Telling,
+    lines: &Rows<RoundLine>,
+) -> Result<(), AllocError>
+    ensures { OnOk result (Adds told.old told.new (tokens_of (list_rounds_data lines.now))) }
 {
-    let rounds = row_bodies(alloc, lines)?;
-    json!(in alloc; {"rounds": rounds})
+    told.open()?;
+    rows_at(alloc, told, "rounds", lines)?;
+    told.close()
 }
 
-fn read_round_body(alloc: Global, round: &ShownRound) -> Result<Value, AllocError>
-    ensures { IfOk result (λ body. view body ≡ read_round_data round.now) }
+fn tell_read_round(alloc: Global, told: &mut Telling, round: &ShownRound) -> Result<(), AllocError>
+    ensures { OnOk result (Adds told.old told.new (tokens_of (read_round_data round.now))) }
 {
-    let puzzles = row_bodies(alloc, round.puzzles.as_slice())?;
-    json!(in alloc; {
-        "bonus": (round.bonus.get()),
-        "id": (round.id.as_str()),
-        "minutes": (round.minutes.get()),
-        "mode": (mode_text(round.mode)),
-        "penalty": (round.penalty.get()),
-        "protest_minutes": (round.protest_minutes.get()),
-        "puzzles": puzzles,
-        "start": (round.start.get()),
-        "title": (round.title.as_str())
-    })
+    told.open()?;
+    told.within_at("bonus", round.bonus)?;
+    told.checked_at("id", &round.id)?;
+    told.within_at("minutes", round.minutes)?;
+    mode_at(told, round.mode)?;
+    told.within_at("penalty", round.penalty)?;
+    told.within_at("protest_minutes", round.protest_minutes)?;
+    rows_at(alloc, told, "puzzles", &round.puzzles)?;
+    told.within_at("start", round.start)?;
+    told.checked_at("title", &round.title)?;
+    told.close()
 }
 
-fn submit_body(alloc: Global, n: AnswerNumber, verdict: Option<Broken>) -> Result<Value, AllocError>
-    ensures { IfOk result (λ body. view body ≡ submit_data n verdict) }
+fn tell_submit(
+    alloc: Global,
+    told: &mut Telling,
+    n: AnswerNumber,
+    verdict: Option<Broken>,
+) -> Result<(), AllocError>
+    ensures { OnOk result (Adds told.old told.new (tokens_of (submit_data n verdict))) }
 {
-    match verdict {
-        None => json!(in alloc; {"received": (n.get())}),
-        Some(names) => {
-            let verdict = format!(in alloc; "{names}")?;
-            json!(in alloc; {"received": (n.get()), "verdict": verdict})
-        }
-    }
+    told.open()?;
+    told.within_at("received", n)?;
+    end_with_verdict(alloc, told, verdict)
 }
 
-fn answers_body(alloc: Global, lines: &[AnswerLine]) -> Result<Value, AllocError>
-    ensures { IfOk result (λ body. view body ≡ answers_data lines.now) }
+fn tell_answers(
+    alloc: Global,
+    told: &mut Telling,
+    lines: &Rows<AnswerLine>,
+) -> Result<(), AllocError>
+    ensures { OnOk result (Adds told.old told.new (tokens_of (answers_data lines.now))) }
 {
-    let answers = row_bodies(alloc, lines)?;
-    json!(in alloc; {"answers": answers})
+    told.open()?;
+    rows_at(alloc, told, "answers", lines)?;
+    told.close()
 }
 
-fn solutions_body(alloc: Global, texts: &[AnswerText]) -> Result<Value, AllocError>
-    ensures { IfOk result (λ body. view body ≡ solutions_data texts.now) }
+fn tell_solutions(
+    alloc: Global,
+    told: &mut Telling,
+    texts: &Rows<AnswerText>,
+) -> Result<(), AllocError>
+    ensures { OnOk result (Adds told.old told.new (tokens_of (solutions_data texts.now))) }
 {
-    let solutions = row_bodies(alloc, texts)?;
-    json!(in alloc; {"solutions": solutions})
+    told.open()?;
+    rows_at(alloc, told, "solutions", texts)?;
+    told.close()
 }
 
-fn protest_body(alloc: Global, token: &str) -> Result<Value, AllocError>
-    ensures { IfOk result (λ body. view body ≡ protest_data token.now) }
+fn tell_protest(told: &mut Telling, token: &Token) -> Result<(), AllocError>
+    ensures { OnOk result (Adds told.old told.new (tokens_of (protest_data token.now))) }
 {
-    json!(in alloc; {"protest": token})
+    told.open()?;
+    told.checked_at("protest", token)?;
+    told.close()
 }
 
-/// What a ruling is called, and an open protest.
-pub(crate) fn ruling_text(ruling: Option<Ruling>) -> &'static str
-    ensures { result.now ≡ ruling_text ruling }
+fn tell_protests(
+    alloc: Global,
+    told: &mut Telling,
+    lines: &Rows<ProtestLine>,
+) -> Result<(), AllocError>
+    ensures { OnOk result (Adds told.old told.new (tokens_of (protests_data lines.now))) }
 {
-    match ruling {
-        None => "open",
-        Some(Ruling::Upheld(_)) => "upheld",
-        Some(Ruling::Rejected) => "rejected",
-    }
+    told.open()?;
+    rows_at(alloc, told, "protests", lines)?;
+    told.close()
 }
 
-fn protests_body(alloc: Global, lines: &[ProtestLine]) -> Result<Value, AllocError>
-    ensures { IfOk result (λ body. view body ≡ protests_data lines.now) }
+fn tell_rule_protest(told: &mut Telling, ruling: Ruling) -> Result<(), AllocError>
+    ensures { OnOk result (Adds told.old told.new (tokens_of (rule_protest_data ruling))) }
 {
-    let protests = row_bodies(alloc, lines)?;
-    json!(in alloc; {"protests": protests})
+    let ruling = Some(ruling);
+    told.open()?;
+    points_at(told, &ruling)?;
+    ruling_at(told, "ruled", &ruling)?;
+    told.close()
 }
 
-fn rule_protest_body(alloc: Global, ruling: Ruling) -> Result<Value, AllocError>
-    ensures { IfOk result (λ body. view body ≡ rule_protest_data ruling) }
+fn tell_publish(told: &mut Telling, round: &RoundId) -> Result<(), AllocError>
+    ensures { OnOk result (Adds told.old told.new (tokens_of (publish_data round.now))) }
 {
-    json!(in alloc; {
-        "points": (ruling_points(&Some(ruling))),
-        "ruled": (ruling_text(Some(ruling)))
-    })
+    told.open()?;
+    told.checked_at("published", round)?;
+    told.close()
 }
 
-fn publish_body(alloc: Global, round: &str) -> Result<Value, AllocError>
-    ensures { IfOk result (λ body. view body ≡ publish_data round.now) }
+/// The JSON text of the reply to bytes that are no request.
+fn fault_text(alloc: Global, fault: FormFault) -> Result<String, AllocError>
+    ensures { IfOk result (λ text. string_bytes text ≡ compact_text (fault_data fault)) }
 {
-    json!(in alloc; {"published": round})
+    let mut told = Telling::new(alloc, HEAD_ROOM)?;
+    tell_fault(&mut told, fault)?;
+    Ok(told.into_text())
 }
 
 /// The member that a fault names.
@@ -364,64 +430,72 @@ fn field_text(field: Field) -> &'static str
     }
 }
 
-fn form_body(alloc: Global, form: &str) -> Result<Value, AllocError>
-    ensures { IfOk result (λ body. view body ≡ form_data form.now) }
+fn tell_form(told: &mut Telling, form: &str) -> Result<(), AllocError>
+    ensures { OnOk result (Adds told.old told.new (tokens_of (form_data form.now))) }
 {
-    json!(in alloc; {"form": form})
+    told.open()?;
+    told.text_at("form", form)?;
+    told.close()
 }
 
-fn field_body(alloc: Global, field: &str, form: &str) -> Result<Value, AllocError>
-    ensures { IfOk result (λ body. view body ≡ field_data field.now form.now) }
+fn tell_field(told: &mut Telling, field: &str, form: &str) -> Result<(), AllocError>
+    ensures { OnOk result (Adds told.old told.new (tokens_of (field_data field.now form.now))) }
 {
-    json!(in alloc; {"field": field, "form": form})
+    told.open()?;
+    told.text_at("field", field)?;
+    told.text_at("form", form)?;
+    told.close()
 }
 
-fn place_body(alloc: Global, form: &str, place: usize) -> Result<Value, AllocError>
-    ensures { IfOk result (λ body. view body ≡ place_data form.now place) }
+fn tell_place(told: &mut Telling, form: &str, place: usize) -> Result<(), AllocError>
+    ensures { OnOk result (Adds told.old told.new (tokens_of (place_data form.now place))) }
 {
-    json!(in alloc; {"form": form, "place": place})
+    told.open()?;
+    told.text_at("form", form)?;
+    told.number_at("place", place as u64)?;
+    told.close()
 }
 
-/// The body of the reply to a text that is no puzzle.
-fn puzzle_fault_body(alloc: Global, fault: PuzzleFault) -> Result<Value, AllocError>
-    ensures { IfOk result (λ body. view body ≡ puzzle_fault_data fault) }
+/// Tells the reply to a text that is no puzzle.
+fn tell_puzzle_fault(told: &mut Telling, fault: PuzzleFault) -> Result<(), AllocError>
+    ensures { OnOk result (Adds told.old told.new (tokens_of (puzzle_fault_data fault))) }
 {
     match fault {
-        PuzzleFault::Kind => form_body(alloc, "E2"),
-        PuzzleFault::SizeField => form_body(alloc, "E3"),
-        PuzzleFault::SizeLimit => form_body(alloc, "E4"),
-        PuzzleFault::Strange(place) => place_body(alloc, "E5", place),
-        PuzzleFault::Cut(place) => place_body(alloc, "E6", place),
-        PuzzleFault::Range(place) => place_body(alloc, "E7", place),
-        PuzzleFault::After(place) => place_body(alloc, "E8", place),
+        PuzzleFault::Kind => tell_form(told, "E2"),
+        PuzzleFault::SizeField => tell_form(told, "E3"),
+        PuzzleFault::SizeLimit => tell_form(told, "E4"),
+        PuzzleFault::Strange(place) => tell_place(told, "E5", place),
+        PuzzleFault::Cut(place) => tell_place(told, "E6", place),
+        PuzzleFault::Range(place) => tell_place(told, "E7", place),
+        PuzzleFault::After(place) => tell_place(told, "E8", place),
     }
 }
 
-/// The body of the reply to bytes that are no entry list or round sheet.
-fn sheet_fault_body(alloc: Global, refusal: Refusal) -> Result<Value, AllocError>
-    ensures { IfOk result (λ body. view body ≡ sheet_fault_data refusal) }
+/// Tells the reply to bytes that are no entry list or round sheet.
+fn tell_sheet_fault(told: &mut Telling, refusal: Refusal) -> Result<(), AllocError>
+    ensures { OnOk result (Adds told.old told.new (tokens_of (sheet_fault_data refusal))) }
 {
     match refusal {
-        Refusal::Syntax => form_body(alloc, "F1"),
-        Refusal::Missing(field) => field_body(alloc, field.name(), "F2"),
-        Refusal::Range(field) => field_body(alloc, field.name(), "F3"),
-        Refusal::Repeated => form_body(alloc, "F4"),
-        Refusal::Start => form_body(alloc, "F5"),
-        Refusal::Zone => field_body(alloc, "zone", "F8"),
+        Refusal::Syntax => tell_form(told, "F1"),
+        Refusal::Missing(field) => tell_field(told, field.name(), "F2"),
+        Refusal::Range(field) => tell_field(told, field.name(), "F3"),
+        Refusal::Repeated => tell_form(told, "F4"),
+        Refusal::Start => tell_form(told, "F5"),
+        Refusal::Zone => tell_field(told, "zone", "F8"),
     }
 }
 
-/// The body of the reply to bytes that are no request.
-fn fault_body(alloc: Global, fault: FormFault) -> Result<Value, AllocError>
-    ensures { IfOk result (λ body. view body ≡ fault_data fault) }
+/// Tells the reply to bytes that are no request.
+fn tell_fault(told: &mut Telling, fault: FormFault) -> Result<(), AllocError>
+    ensures { OnOk result (Adds told.old told.new (tokens_of (fault_data fault))) }
 {
     match fault {
-        FormFault::Syntax => form_body(alloc, "F1"),
-        FormFault::Missing(field) => field_body(alloc, field_text(field), "F2"),
-        FormFault::Range(field) => field_body(alloc, field_text(field), "F3"),
-        FormFault::Puzzle(found) => puzzle_fault_body(alloc, found),
-        FormFault::Sheet(refusal) => sheet_fault_body(alloc, refusal),
-        FormFault::NoRoute => form_body(alloc, "F6"),
-        FormFault::NotWhole => form_body(alloc, "F7"),
+        FormFault::Syntax => tell_form(told, "F1"),
+        FormFault::Missing(field) => tell_field(told, field_text(field), "F2"),
+        FormFault::Range(field) => tell_field(told, field_text(field), "F3"),
+        FormFault::Puzzle(found) => tell_puzzle_fault(told, found),
+        FormFault::Sheet(refusal) => tell_sheet_fault(told, refusal),
+        FormFault::NoRoute => tell_form(told, "F6"),
+        FormFault::NotWhole => tell_form(told, "F7"),
     }
 }

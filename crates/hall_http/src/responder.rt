@@ -68,8 +68,15 @@ impl<S: Store> Responder for Desk<S> {
         request: &RawRequest<'_>,
     ) -> Answer {
         match moment {
-            Some(moment) => answer_raw_request(alloc, routes, self, moment, request),
-            None => Answer::Unavailable,
+            Some(moment) => {
+                let answer = answer_raw_request(alloc, routes, self, moment, request);
+                self.at_rest();
+                answer
+            }
+            None => {
+                self.at_rest();
+                Answer::Unavailable
+            }
         }
     }
 }

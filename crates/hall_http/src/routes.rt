@@ -239,7 +239,7 @@ pub(crate) fn puzzle_key(alloc: Global, parts: &Parts) -> Result<PuzzleKey, Requ
     })
 }
 
-/// The same, where the method is this one.
+/// The key of the puzzle that the path names, where the method is this one.
 pub(crate) fn puzzle_by(
     alloc: Global,
     method: &[u8],

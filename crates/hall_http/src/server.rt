@@ -1,18 +1,17 @@
 //! Many connections at once: which of them goes a step is the sockets' choice, and what a step is isn't.
-ghost use Rattle.std.specs.Prelude.{◌≡◌, ◌+◌, [], ◌∷◌, ◌++◌, List, Bool, true, IfOk, OnErr};
+ghost use Rattle.std.specs.Prelude.{◌≡◌, ◌+◌, [], ◌∷◌, ◌++◌, true, IfOk, OnErr};
 ghost use Rattle.hall_http.specs.declared.server.ServeAllEnd.TheVariants as ServeAllEnd;
 ghost use Rattle.hall_http.specs.declared.server.Next.TheVariants as Next;
 ghost use Rattle.hall_desk.specs.Desk.{kept_by, SaneThen};
 ghost use Rattle.hall_desk.specs.Sane.{Sane};
 ghost use Rattle.hall_desk.specs.Promises.{HasUniqueSolutions, RightAnswersAreSolutions};
-ghost use Rattle.hall_http.specs.Crowd.{AreHandled, AreKept, AreServed, Serves, came_in};
-ghost use Rattle.hall_http.specs.Coming.{AreDone, IsFreshPeer, Nexts};
-ghost use Rattle.hall_http.specs.Resting.{still};
-ghost use Rattle.hall_http.specs.Steps.{gated};
-ghost use Rattle.hall_http.specs.Turns.{Turn, goes_on};
+ghost use Rattle.hall_http.specs.Crowd.{Admits, AreAtTurns, AreHandled, AreKept, AreKeptAtTurns, AreServed};
+ghost use Rattle.hall_http.specs.Crowd.{AreSomeKept, EndsServing, Serves};
+ghost use Rattle.hall_http.specs.Coming.{AreDone, IsFreshPeer, Said, newcomer, since, stays_open};
+ghost use Rattle.hall_http.specs.Turns.{goes_on, service_of};
 
 use crate::client::Step;
-use crate::clients::{Clients, MOST_CLIENTS};
+use crate::clients::{Clients, Gone, MOST_CLIENTS};
 use crate::connection::Clock;
 use crate::inbox::Inbox;
 use crate::peer::Peer;
@@ -44,22 +43,23 @@ pub trait Sockets {
     /// All connections that may come have come and gone.
     ghost is_over: { Self → Type 0 };
 
-    /// All that it said was to be done next, in order.
-    ghost nexts: { Self → Nexts Self.Peer };
+    /// All that it said was to be done next, in order, and how many newcomers it has handed out.
+    ghost said: { Self → Said Self.Peer };
 
-    /// Waits until something is to be done.
+    /// Waits until something is to be done. A newcomer's number is how many there were before it.
     fn next(&mut self) -> Next<Self::Peer>
-        ensures fresh { IsFreshPeer Self.Peer.came Self.Peer.went result }
-        ensures nexts { nexts self.new ≡ nexts self.old ++ result ∷ [] }
+        ensures fresh { IsFreshPeer Self.Peer.traffic (said self.old).count result }
+        ensures count { (said self.new).count ≡ (said self.old).count + newcomer result }
+        ensures nexts { (said self.new).nexts ≡ (said self.old).nexts ++ result ∷ [] }
         ensures over { result ≡ Next.End → is_over self.new };
 
     /// Hears how the connection at the place stands after its turn.
     fn stands(&mut self, place: usize, step: Step)
-        ensures { nexts self.new ≡ nexts self.old };
+        ensures { said self.new ≡ said self.old };
 
     /// Hears whether the store's device refused the last write.
     fn hear_of_writes(&mut self, refuses_writes: bool)
-        ensures { nexts self.new ≡ nexts self.old };
+        ensures { said self.new ≡ said self.old };
 }
 
 /// How serving connections ended.
@@ -74,18 +74,20 @@ pub enum ServeAllEnd {
 }
 
 /// Serves connections until no more comes, or the store serves no more. Refused for memory, it has asked nothing of the
-/// sockets. What comes of it is how it ended, and the connections that came, as they were left.
+/// sockets. What comes of it is how it ended, and the connections that came, all of which have gone by then.
 pub fn serve_all<S: Store, N: Sockets, C: Clock>(
     alloc: Global,
     desk: &mut Desk<S>,
     sockets: &mut N,
     clock: &mut C,
-) -> Result<(ServeAllEnd, Clients<N::Peer>), AllocError>
-    ensures served { IfOk result (λ served. AreServed S.content C.now_gives N.Peer.came N.Peer.went
-        (kept_by desk.old) clock.old (kept_by desk.new) clock.new served.1) }
-    ensures done { IfOk result (λ served.
-        AreDone served.0 (N.nexts sockets.old) (N.nexts sockets.new) 0 (came_in served.1)) }
-    ensures over { IfOk result (λ served. served.0 ≡ ServeAllEnd.Served → N.is_over sockets.new) }
+) -> Result<(ServeAllEnd, Gone<N::Peer>), AllocError>
+    ensures served { IfOk result (λ served. AreServed S.content C.now_gives N.Peer.traffic served.0
+        (kept_by desk.old, clock.old) (kept_by desk.new, clock.new) served.1.items) }
+    ensures turned { IfOk result (λ served. (all : AreServed S.content C.now_gives N.Peer.traffic served.0
+        (kept_by desk.old, clock.old) (kept_by desk.new, clock.new) served.1.items)
+        × AreAtTurns N.Peer.traffic (since (N.said sockets.old) (N.said sockets.new)) all.turns) }
+    ensures ended { IfOk result (λ served. EndsServing N.is_over N.said N.Peer.traffic served.0
+        sockets.old sockets.new served.1.items) }
     ensures memory { OnErr result ((desk.new ≡ desk.old) × (sockets.new ≡ sockets.old) × (clock.new ≡ clock.old)) }
     ensures sane { SaneThen Sane (S.content (kept_by desk.old)) (S.content (kept_by desk.new)) }
     ensures unique { SaneThen HasUniqueSolutions (S.content (kept_by desk.old)) (S.content (kept_by desk.new)) }
@@ -94,10 +96,10 @@ pub fn serve_all<S: Store, N: Sockets, C: Clock>(
     let routes = Routes::new(alloc)?;
     let mut clients = Clients::new(alloc, MOST_CLIENTS)?;
     let end = serve_clients(alloc, &routes, desk, &mut clients, sockets, clock);
-    Ok((end, clients))
+    Ok((end, clients.gone))
 }
 
-/// Serves connections with these routes, where none has come before.
+/// Serves connections with these routes, where none has come before, and lets all of them go.
 fn serve_clients<S: Store, N: Sockets, C: Clock>(
     alloc: Global,
     routes: &Routes,
@@ -106,18 +108,23 @@ fn serve_clients<S: Store, N: Sockets, C: Clock>(
     sockets: &mut N,
     clock: &mut C,
 ) -> ServeAllEnd
-    requires { AreKept N.Peer.came N.Peer.went [] clients.old }
-    ensures served { AreServed S.content C.now_gives N.Peer.came N.Peer.went (kept_by desk.old) clock.old
-        (kept_by desk.new) clock.new clients.new }
-    ensures done { AreDone result (N.nexts sockets.old) (N.nexts sockets.new) (came_in clients.old)
-        (came_in clients.new) }
-    ensures over { result ≡ ServeAllEnd.Served → N.is_over sockets.new }
+    requires { AreKept N.Peer.traffic (N.said sockets.old).count (N.said sockets.old).count [] clients.old }
+    ensures served { AreServed S.content C.now_gives N.Peer.traffic result
+        (kept_by desk.old, clock.old) (kept_by desk.new, clock.new) clients.new.gone.items }
+    ensures turned { (all : AreServed S.content C.now_gives N.Peer.traffic result
+        (kept_by desk.old, clock.old) (kept_by desk.new, clock.new) clients.new.gone.items)
+        × AreAtTurns N.Peer.traffic (since (N.said sockets.old) (N.said sockets.new)) all.turns }
+    ensures ended { EndsServing N.is_over N.said N.Peer.traffic result
+        sockets.old sockets.new clients.new.gone.items }
     ensures sane { SaneThen Sane (S.content (kept_by desk.old)) (S.content (kept_by desk.new)) }
 {
-    handle_all(alloc, routes, clients, sockets, desk, clock)
+    desk.at_rest();
+    let end = handle_all(alloc, routes, clients, sockets, desk, clock);
+    clients.close();
+    end
 }
 
-/// The same by any responder.
+/// Serves connections by any responder, where none has come before.
 fn handle_all<H: Responder, S: Sockets, C: Clock>(
     alloc: Global,
     routes: &Routes,
@@ -126,12 +133,12 @@ fn handle_all<H: Responder, S: Sockets, C: Clock>(
     responder: &mut H,
     clock: &mut C,
 ) -> ServeAllEnd
-    requires { AreKept S.Peer.came S.Peer.went [] clients.old }
-    ensures done { AreDone result (S.nexts sockets.old) (S.nexts sockets.new) (came_in clients.old)
-        (came_in clients.new) }
+    requires { AreKept S.Peer.traffic (S.said sockets.old).count (S.said sockets.old).count [] clients.old }
+    ensures done { AreDone S.Peer.traffic result (S.said sockets.old) (S.said sockets.new) }
     ensures over { result ≡ ServeAllEnd.Served → S.is_over sockets.new }
-    ensures handled { (goes_on : Bool) × AreHandled (gated H.answers H.goes_on) (still H.rests) C.now_gives
-        S.Peer.came S.Peer.went (responder.old, true) clock.old (responder.new, goes_on) clock.new clients.new }
+    ensures handled { AreHandled (service_of H.answers H.goes_on H.rests C.now_gives)
+        (λ turns. AreKeptAtTurns S.Peer.traffic (S.said sockets.old) (S.said sockets.new) turns clients.new)
+        ((responder.old, true), clock.old) ((responder.new, stays_open result), clock.new) }
 {
     for _step in 0..u64::MAX {
         match sockets.next() {
@@ -154,11 +161,9 @@ fn handle_all<H: Responder, S: Sockets, C: Clock>(
 
 /// Gives a newcomer the place, or turns it away.
 fn let_in<P: Peer + Drop>(alloc: Global, clients: &mut Clients<P>, place: usize, peer: P)
-    requires came { P.came peer ≡ [] }
-    requires went { P.went peer ≡ [] }
-    ensures came { came_in clients.new ≡ came_in clients.old + 1 }
-    ensures kept { (turns : List Turn) → AreKept P.came P.went turns clients.old →
-        AreKept P.came P.went turns clients.new }
+    requires came { (P.traffic peer).came ≡ [] }
+    requires went { (P.traffic peer).went ≡ [] }
+    ensures { Admits P.traffic place peer clients.old clients.new }
 {
     match Inbox::new(alloc) {
         Ok(inbox) => clients.seat(place, inbox, peer),
@@ -176,10 +181,9 @@ fn visit<P: Peer + Drop, H: Responder, C: Clock>(
     responder: &mut H,
     clock: &mut C,
 ) -> Step
-    requires { (turns : List Turn) × AreKept P.came P.went turns clients.old }
-    ensures came { came_in clients.new ≡ came_in clients.old }
-    ensures served { Serves (gated H.answers H.goes_on) (still H.rests) C.now_gives P.came P.went
-        (responder.old, true) clock.old clients.old (responder.new, goes_on result) clock.new clients.new }
+    requires { AreSomeKept P.traffic clients.old }
+    ensures { Serves (service_of H.answers H.goes_on H.rests C.now_gives) P.traffic place
+        ((responder.old, true), clock.old) clients.old ((responder.new, goes_on result), clock.new) clients.new }
 {
     let step = clients.turn(alloc, routes, place, responder, clock);
     match step {

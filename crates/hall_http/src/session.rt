@@ -64,6 +64,7 @@ pub fn replay<R: Read, W: Write, S: Store>(
     ensures unique { SaneThen HasUniqueSolutions (S.content (kept_by desk.old)) (S.content (kept_by desk.new)) }
     ensures right { SaneThen RightAnswersAreSolutions (S.content (kept_by desk.old)) (S.content (kept_by desk.new)) }
 {
+    desk.at_rest();
     let (routes, inbox) = routes_and_inbox(alloc)?;
     answer_records(alloc, &routes, inbox, desk, reader, writer)
 }
@@ -83,11 +84,13 @@ fn answer_records<R: Read, W: Write, S: Store>(
         reader.old.failures reader.new.failures writer.old.failures writer.new.failures
         reader.old.calls reader.new.calls result }
 {
+    desk.at_rest();
     let mut reads = 0;
     'records: loop {
         match cut_record(inbox.unread()) {
             RecordCut::Whole { moment, start, end } => {
                 let answer = answer_bytes(alloc, routes, desk, moment, &inbox.unread()[start..end]);
+                desk.at_rest();
                 inbox.pass(end);
                 match send(writer, answer) {
                     Ok(()) => {}

@@ -1,40 +1,45 @@
 //! A socket, as the other side of a connection.
-ghost use Rattle.std.specs.Prelude.{◌≡◌, []};
-ghost use Rattle.hall_http.specs.Socket.{came_of, went_of};
+ghost use Rattle.std.specs.Prelude.{◌≡◌, [], false, length};
+ghost use Rattle.hall_http.specs.Socket.{traffic_of};
 
-use crate::answer::Answer;
+use crate::outgoing::Outgoing;
 use crate::peer::{Moved, Peer};
 use http_server::Log;
 use mio::net::TcpStream;
 use std::io::{ErrorKind, Read, Write};
 use std::net::Shutdown;
 
-/// A socket, and what was read of it and written to it.
+/// A socket, what was read of it and written to it, whether a read told that no more comes, and the places of those
+/// that were handed out before it.
 #[derive(Drop)]
 pub struct Socket {
     stream: TcpStream,
+    before: Log<usize, u64>,
     reads: Log<[u8; 4096], usize>,
-    writes: Log<Answer, (usize, usize)>,
+    writes: Log<Outgoing, (usize, usize)>,
+    is_over: bool,
 }
 
 impl Socket {
-    /// One that nothing was read of.
-    pub fn new(stream: TcpStream) -> Socket
-        ensures came { came_of result ≡ [] }
-        ensures went { went_of result ≡ [] }
+    /// One that nothing was read of, after these.
+    pub fn new(stream: TcpStream, before: Log<usize, u64>) -> Socket
+        ensures number { (traffic_of result).number ≡ length before.items }
+        ensures came { (traffic_of result).came ≡ [] }
+        ensures went { (traffic_of result).went ≡ [] }
+        ensures over { (traffic_of result).over ≡ false }
     {
         Socket {
             stream,
+            before,
             reads: Log::new(),
             writes: Log::new(),
+            is_over: false,
         }
     }
 }
 
 impl Peer for Socket {
-    ghost came = { came_of };
-
-    ghost went = { went_of };
+    ghost traffic = { traffic_of };
 
     fn receive(&mut self, chunk: &mut [u8; 4096]) -> Moved {
         match (&self.stream).read(chunk.as_mut_slice()) {
@@ -43,14 +48,17 @@ impl Peer for Socket {
                 Moved::Some(count)
             }
             Err(error) if error.kind() == ErrorKind::WouldBlock => Moved::Wait,
-            _ => Moved::None,
+            _ => {
+                self.is_over = true;
+                Moved::None
+            }
         }
     }
 
-    fn send(&mut self, answer: &Answer, from: usize) -> Moved {
-        match (&self.stream).write(&answer.as_bytes()[from..]) {
+    fn send(&mut self, bytes: &Outgoing, from: usize) -> Moved {
+        match (&self.stream).write(&bytes.as_bytes()[from..]) {
             Ok(count) if count > 0 => {
-                self.writes = self.writes.and(answer, &(from, count));
+                self.writes = self.writes.and(bytes, &(from, count));
                 Moved::Some(count)
             }
             Err(error) if error.kind() == ErrorKind::WouldBlock => Moved::Wait,

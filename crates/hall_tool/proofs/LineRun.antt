@@ -1,22 +1,23 @@
 -- How a command that writes one line of its input ends.
-use Rattle.std.proofs.Common.{◌≡◌, ◌⊎◌, ap, ℕ, List, Option, inl, inr}
+use Rattle.std.proofs.Common.{◌≡◌, ◌⊎◌, ap, ℕ, List, inl, inr}
 use Rattle.std.specs.Prelude.{Result, Ok, Err, IsErrOf}
 use Rattle.std.specs.Io.KnownBytes.{Appends}
 use Rattle.hall_grid.specs.Device.{Rises, Tally}
 use Rattle.hall_http.specs.Device.{NoneFailed, WritesPart}
 use Rattle.hall_tool.specs.Input.{IsInput}
 use Rattle.hall_tool.specs.LineRun.{IsLineRun}
+use Rattle.hall_tool.specs.Machine.{Streams}
 use Rattle.hall_tool.specs.declared.fault.ToolFault.{ToolFault}
 use Rattle.hall_tool.specs.declared.fault.ToolFault.TheVariants as tool
 
-module _ {R W : Type 0} (Writes : List ℕ → List ℕ → ℕ → Type 0) (remaining : R → Option (List ℕ))
-    (contents : W → Option (List ℕ)) (reader read : Tally R) (writer written : Tally W) where
+module _ {R W : Type 0} (Writes : List ℕ → List ℕ → ℕ → Type 0) (known : Streams R W) (reader read : Tally R)
+    (writer written : Tally W) where
   abbrev Ran : Result ℕ ToolFault → Type 0
-  Ran result = IsLineRun Writes remaining contents reader read writer written result
+  Ran result = IsLineRun Writes known reader read writer written result
 
   -- a line was written
-  pub told_run : (status : ℕ) → ((input : List ℕ) × (line : List ℕ) × IsInput (remaining reader.device) input
-      × Writes input line status × Appends (contents writer.device) (contents written.device) line)
+  pub told_run : (status : ℕ) → ((input : List ℕ) × (line : List ℕ) × IsInput (known.remaining reader.device) input
+      × Writes input line status × Appends (known.contents writer.device) (known.contents written.device) line)
       → NoneFailed reader.failures read.failures writer.failures written.failures → Ran (Ok status)
   told_run status told none = record {
     line = told;
@@ -53,8 +54,8 @@ module _ {R W : Type 0} (Writes : List ℕ → List ℕ → ℕ → Type 0) (rem
 
   -- the writer failed, and a first part of the line was written
   pub broken_run : read.failures ≡ reader.failures → Rises writer.failures written.failures
-      → ((input : List ℕ) × (line : List ℕ) × (status : ℕ) × IsInput (remaining reader.device) input
-      × Writes input line status × WritesPart (contents writer.device) (contents written.device) line)
+      → ((input : List ℕ) × (line : List ℕ) × (status : ℕ) × IsInput (known.remaining reader.device) input
+      × Writes input line status × WritesPart (known.contents writer.device) (known.contents written.device) line)
       → Ran (Err tool.Device)
   broken_run unfailed failed told = record {
     line = tt;

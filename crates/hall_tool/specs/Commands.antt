@@ -1,17 +1,17 @@
 -- The commands over files: what was done with a hall, or where a command stopped before it did anything.
-use Rattle.std.specs.Prelude.{◌≡◌, ◌⊎◌, ℕ, List, Option, Result, Ok, Err}
+use Rattle.std.specs.Prelude.{◌≡◌, ◌⊎◌, ℕ, List, Result, Ok, Err}
 use Rattle.std.specs.declared.io.Error.{Error}
 use Rattle.sqlite_trees.specs.declared.memory.MemStore.{MemStore}
 use Rattle.sqlite_trees.specs.declared.store.Store.{Ghosts}
 use Rattle.sqlite.specs.Held.{Held, state}
-use Rattle.sqlite.specs.Recovery.{Image}
 use Rattle.sqlite.specs.Steps.{over_memory}
-use Rattle.hall_grid.specs.Device.{Tally}
 use Rattle.hall_store.specs.Maps.{empty_world}
 use Rattle.hall_sql.specs.Opened.{Starts}
 use Rattle.hall_sql.specs.Standing.{IsBare, IsHall, content_of}
 use Rattle.hall_sql.specs.Tables.{hall_schema}
 use Rattle.hall_sql.specs.declared.open.OpenFault.{OpenFault}
+use Rattle.hall_tool.specs.Machine.{Files, HandsOut, HandsOutThere, Kinds, OnHost, Refuses, RefusesThere, Streams}
+use Rattle.hall_tool.specs.Machine.{keeping, kinds}
 use Rattle.hall_tool.specs.Tasks.{DoesInit, DoesReplay}
 use Rattle.hall_tool.specs.declared.fault.CommandFault.{CommandFault}
 use Rattle.hall_tool.specs.declared.fault.CommandFault.TheVariants as stop
@@ -29,54 +29,53 @@ StopsAt Withheld Refused Wants (stop.Tool Memory) = Wants
 StopsAt Withheld Refused Wants other = ⊥
 
 -- the command stopped so, and the machine, the reader and the writer are as they were
-abbrev pub IsStopped : {N R W : Type 0} → (Error → Type 0) → (OpenFault → Type 0) → Type 0 → N → N
-    → Tally R → Tally R → Tally W → Tally W → Result ℕ CommandFault → Type 0
-IsStopped Withheld Refused Wants host asked reader read writer written (Ok status) = ⊥
-IsStopped Withheld Refused Wants host asked reader read writer written (Err fault) =
-    StopsAt Withheld Refused Wants fault × (asked ≡ host) × (read ≡ reader) × (written ≡ writer)
+abbrev pub IsStopped : {N F R W : Type 0} → (Error → Type 0) → (OpenFault → Type 0) → Type 0 → OnHost N F R W
+    → OnHost N F R W → Result ℕ CommandFault → Type 0
+IsStopped Withheld Refused Wants before after (Ok status) = ⊥
+IsStopped Withheld Refused Wants before after (Err fault) =
+    StopsAt Withheld Refused Wants fault × (after.host ≡ before.host)
+    × (after.stand.reader ≡ before.stand.reader) × (after.stand.writer ≡ before.stand.writer)
+
+-- what the connections of a database say
+abbrev pub tables : {S R W : Type 0} → Ghosts S → Streams R W → Kinds (Held S) R W
+tables g known = kinds (λ s. content_of (state g s)) TablesCanFail known
 
 -- The files handed out the database at the path, this was done from the world that they held to the one in the database
 -- that they were given back, a hall's; or they refused it, and nothing was done.
-abbrev pub IsTaskAt : {F N S R W : Type 0} → Ghosts S → (List ℕ → Image) → (F → List ℕ → Held S → F → Type 0)
-    → (F → List ℕ → F → OpenFault → Type 0) → (F → Held S → F → Type 0)
-    → (N → N → Held S → Held S → Tally R → Tally R → Tally W → Tally W → Result ℕ CommandFault → Type 0) → List ℕ
-    → F → F → N → N → Tally R → Tally R → Tally W → Tally W → Result ℕ CommandFault → Type 0
-IsTaskAt {F} {N} {S} g image_at opened refused closes does db old new host asked reader read writer written result =
-    ((first last : Held S) × (between : F) × opened old db first between × closes between last new
-    × IsHall (state g last) × Starts (image_at db) (content_of (state g first))
-    × does host asked first last reader read writer written result)
-    ⊎ IsStopped (λ error. ⊥) (refused old db new) ⊥ host asked reader read writer written result
+abbrev pub IsTaskAt : {F N S R W : Type 0} → Files F S
+    → (OnHost N (Held S) R W → OnHost N (Held S) R W → Result ℕ CommandFault → Type 0) → List ℕ
+    → OnHost N F R W → OnHost N F R W → Result ℕ CommandFault → Type 0
+IsTaskAt {F} {N} {S} files does db before after result =
+    ((first last : Held S) × (between : F)
+    × HandsOutThere files before.stand.kept db first between × files.paths.closes between last after.stand.kept
+    × IsHall (state files.store last) × Starts (files.paths.image_at db) (content_of (state files.store first))
+    × does (keeping before first) (keeping after last) result)
+    ⊎ IsStopped (λ error. ⊥) (RefusesThere files before.stand.kept db after.stand.kept) ⊥ before after result
 
 -- The files gave the list and handed out the database at the path, the people of the list were imported into the world
 -- that they held, and they were given the database back, a hall's; or they withheld or refused one of the two, and
 -- nothing was done.
-abbrev pub IsInitAt : {F N S R W : Type 0} → Ghosts S → (List ℕ → Image) → (F → List ℕ → List ℕ → F → Type 0)
-    → (F → List ℕ → Error → F → Type 0) → (F → List ℕ → Held S → F → Type 0) → (F → List ℕ → F → OpenFault → Type 0)
-    → (F → Held S → F → Type 0) → (W → Option (List ℕ)) → List ℕ → List ℕ → F → F → N → N
-    → Tally R → Tally R → Tally W → Tally W → Result ℕ CommandFault → Type 0
-IsInitAt {F} {N} {S} g image_at gives withholds opened refused closes contents db people old new host asked
-    reader read writer written result =
+abbrev pub IsInitAt : {F N S R W : Type 0} → Files F S → Streams R W → List ℕ → List ℕ → OnHost N F R W
+    → OnHost N F R W → Result ℕ CommandFault → Type 0
+IsInitAt {F} {N} {S} files known db people before after result =
     ((list : List ℕ) × (listed between : F) × (first last : Held S)
-    × gives old people list listed × opened listed db first between × closes between last new
-    × IsHall (state g last) × Starts (image_at db) (content_of (state g first))
-    × DoesInit (λ s. content_of (state g s)) TablesCanFail contents list host asked first last
-    reader read writer written result)
-    ⊎ IsStopped (λ error. withholds old people error new)
-    (λ cause. (list : List ℕ) × (listed : F) × gives old people list listed × refused listed db new cause) ⊥
-    host asked reader read writer written result
+    × files.paths.gives before.stand.kept people list listed
+    × HandsOut files listed db first between × files.paths.closes between last after.stand.kept
+    × IsHall (state files.store last) × Starts (files.paths.image_at db) (content_of (state files.store first))
+    × DoesInit (tables files.store known) list (keeping before first) (keeping after last) result)
+    ⊎ IsStopped (λ error. files.paths.withholds before.stand.kept people error after.stand.kept)
+    (λ cause. (list : List ℕ) × (listed : F) × files.paths.gives before.stand.kept people list listed
+    × Refuses files listed db after.stand.kept cause) ⊥ before after result
 
 -- The files gave the list, and the records of the reader were answered over a hall in memory that was empty before the
 -- list, without a row; or they withheld it, or memory was wanting, and nothing was done.
-abbrev pub IsReplayInMemory : {F N R W : Type 0} → (F → List ℕ → List ℕ → F → Type 0)
-    → (F → List ℕ → Error → F → Type 0)
-    → (R → Option (List ℕ)) → (W → Option (List ℕ)) → List ℕ → F → F → N → N
-    → Tally R → Tally R → Tally W → Tally W → Result ℕ CommandFault → Type 0
-IsReplayInMemory gives withholds remaining contents people old new host asked reader read writer written result =
+abbrev pub IsReplayInMemory : {F N S R W : Type 0} → Files F S → Streams R W → List ℕ → OnHost N F R W
+    → OnHost N F R W → Result ℕ CommandFault → Type 0
+IsReplayInMemory files known people before after result =
     ((list : List ℕ) × (first last : Held MemStore)
-    × gives old people list new × ((content_of (state over_memory first)).world ≡ empty_world)
+    × files.paths.gives before.stand.kept people list after.stand.kept
+    × ((content_of (state over_memory first)).world ≡ empty_world)
     × IsBare hall_schema (state over_memory first).now
-    × DoesReplay (λ s. content_of (state over_memory s)) TablesCanFail remaining contents list host asked first last
-    reader read writer written result)
-    ⊎ IsStopped (λ error. withholds old people error new) (λ cause. ⊥)
-    ((list : List ℕ) × gives old people list new)
-    host asked reader read writer written result
+    × DoesReplay (tables over_memory known) list (keeping before first) (keeping after last) result)
+    ⊎ IsStopped (λ error. files.paths.withholds before.stand.kept people error after.stand.kept) (λ cause. ⊥)
+    ((list : List ℕ) × files.paths.gives before.stand.kept people list after.stand.kept) before after result

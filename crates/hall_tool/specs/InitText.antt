@@ -1,8 +1,8 @@
 -- What is written of an entry list that is imported into a file, and the exit status.
-use Rattle.std.specs.Prelude.{◌≡◌, ℕ, List, ◌++◌, codes, decimal, Option, Result, IfOk, IsErrOf}
+use Rattle.std.specs.Prelude.{◌≡◌, ℕ, List, ◌++◌, codes, decimal, Result, IfOk, IsErrOf}
 use Rattle.std.specs.Io.KnownBytes.{Appends}
 use Rattle.hall_grid.specs.Device.{Rises, Tally}
-use Rattle.hall_store.specs.Store.{Content, Left, Leads, WritesOnce}
+use Rattle.hall_store.specs.Store.{Content, IsSettled, Left, Leads, WritesOnce}
 use Rattle.hall_desk.specs.Desk.{SaneThen}
 use Rattle.hall_desk.specs.Sane.{Sane}
 use Rattle.hall_http.specs.Device.{WritesPart}
@@ -11,7 +11,8 @@ use Rattle.hall_tool.specs.declared.fault.ToolFault.TheVariants as tool
 use Rattle.hall_tool.specs.declared.seed.Seeded.{Seeded}
 use Rattle.hall_tool.specs.declared.seed.Seeded.TheVariants.{Refused, Denied, Added}
 use Rattle.hall_tool.specs.JudgeText.{line_of}
-use Rattle.hall_tool.specs.SeedText.{IsSeeded, seeded_line, seeded_status}
+use Rattle.hall_tool.specs.Machine.{Kinds}
+use Rattle.hall_tool.specs.SeedText.{IsSeeded, StopsInList, seeded_line, seeded_status}
 
 -- how many people were added, on a line
 abbrev pub added_line : ℕ → List ℕ
@@ -30,16 +31,18 @@ InitText list old new line status =
 
 -- what came of the list was written on a line; at a device's fault, a first part of it; another fault left the world
 -- and the writer, and the store is one only where it can fail
-pub record IsInitRun {W : Type 0} (can_fail : Type 0) (contents : W → Option (List ℕ)) (list : List ℕ)
-    (old new : Content) (writer written : Tally W) (result : Result ℕ ToolFault) : Type 0 where
+pub record IsInitRun {S R W : Type 0} (k : Kinds S R W) (list : List ℕ) (old new : Content) (writer written : Tally W)
+    (result : Result ℕ ToolFault) : Type 0 where
   pub leads : Leads old new
   pub once : WritesOnce old new
+  pub stops : StopsInList list old new
+  pub settled : IsSettled new
   pub sane : SaneThen Sane old new
   pub line : IfOk result (λ status. (line : List ℕ) × InitText list old new line status
-      × Appends (contents writer.device) (contents written.device) line)
+      × Appends (k.streams.contents writer.device) (k.streams.contents written.device) line)
   pub same : IfOk result (λ status. written.failures ≡ writer.failures)
   pub device : IsErrOf result tool.Device → Rises writer.failures written.failures
   pub part : IsErrOf result tool.Device → (line : List ℕ) × (status : ℕ) × InitText list old new line status
-      × WritesPart (contents writer.device) (contents written.device) line
+      × WritesPart (k.streams.contents writer.device) (k.streams.contents written.device) line
   pub memory : IsErrOf result tool.Memory → Left old new × (written ≡ writer)
-  pub store : IsErrOf result tool.Store → can_fail × Left old new × (written ≡ writer)
+  pub store : IsErrOf result tool.Store → k.can_fail × Left old new × (written ≡ writer)

@@ -1,8 +1,8 @@
 -- What an entry list that stands before any request makes of a world, what is written of it, and the exit status.
-use Rattle.std.specs.Prelude.{◌≡◌, ◌≤◌, ℕ, ⊤, List, [], ◌++◌, codes, decimal, Ok, Err}
+use Rattle.std.specs.Prelude.{◌≡◌, ◌≤◌, ◌⊎◌, ℕ, ⊤, List, [], ◌++◌, codes, decimal, Ok, Err}
 use Rattle.hall_policy.specs.declared.record.Person.{Person}
-use Rattle.hall_store.specs.Store.{Content, Kept}
-use Rattle.hall_desk.specs.Plans.{Seeds}
+use Rattle.hall_store.specs.Store.{Content, Kept, LeavesNoOther}
+use Rattle.hall_desk.specs.Plans.{Seeds, StopsInSeed}
 use Rattle.hall_desk.specs.declared.reply.Reply.{Reply}
 use Rattle.hall_desk.specs.declared.reply.Reply.TheVariants as reply
 use Rattle.hall_sheet.specs.Fault.{refusal_text}
@@ -21,6 +21,12 @@ abbrev pub IsSeeded : List ℕ → Content → Content → Seeded → Type 0
 IsSeeded list old new (Refused refusal) = (people_in list ≡ Err refusal) × Kept old new
 IsSeeded list old new (Denied rule) = IsAnswered list old new (reply.Denied rule) × (new.writes ≤ old.writes)
 IsSeeded list old new (Added count) = IsAnswered list old new (reply.Import count)
+
+-- What a stop in the import of a list, or after it, leaves: what is left in the import of the people that it spells, so
+-- all of them or none; or a world that a stop before it could leave.
+abbrev pub StopsInList : List ℕ → Content → Content → Type 0
+StopsInList list old new =
+    ((people : List Person) × (people_in list ≡ Ok people) × StopsInSeed old people new) ⊎ LeavesNoOther old new
 
 -- so the desk answered a list that came to this
 abbrev pub IsToldBy : Reply → Seeded → Type 0

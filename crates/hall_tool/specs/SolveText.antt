@@ -1,5 +1,5 @@
 -- What the command solve writes for an input and a budget, and its exit status.
-use Rattle.std.specs.Prelude.{◌≡◌, ◌⊎◌, ℕ, List, ◌++◌, codes, Option, Result}
+use Rattle.std.specs.Prelude.{◌≡◌, ◌⊎◌, ℕ, List, ◌++◌, codes, Result}
 use Rattle.hall_grid.specs.Device.{Tally}
 use Rattle.hall_grid.specs.Board.{Board}
 use Rattle.hall_grid.specs.Text.{SpellsText}
@@ -10,6 +10,7 @@ use Rattle.hall_solve.specs.Puzzle.{OutcomeOfPuzzle}
 use Rattle.hall_tool.specs.Input.{HasOneLine, LacksOneLine}
 use Rattle.hall_tool.specs.JudgeText.{line_of, refusal_of, IsRefused}
 use Rattle.hall_tool.specs.LineRun.{IsLineRun}
+use Rattle.hall_tool.specs.Machine.{Streams}
 use Rattle.hall_tool.specs.declared.fault.ToolFault.{ToolFault}
 
 -- an outcome as it is written
@@ -46,6 +47,6 @@ SolveText input budget line status =
     ⊎ (LacksOneLine input × (line ≡ refusal_of (codes "input")) × (status ≡ 2))
 
 -- a line that may be written for the input that was left of the reader was written
-abbrev pub IsSolveRun : {R W : Type 0} → ℕ → (R → Option (List ℕ)) → (W → Option (List ℕ)) → Tally R → Tally R → Tally W
-    → Tally W → Result ℕ ToolFault → Type 0
+abbrev pub IsSolveRun : {R W : Type 0} → ℕ → Streams R W → Tally R → Tally R → Tally W → Tally W → Result ℕ ToolFault
+    → Type 0
 IsSolveRun budget = IsLineRun (λ input line status. SolveText input budget line status)

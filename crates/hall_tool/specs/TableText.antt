@@ -1,5 +1,5 @@
 -- What is written of a round's table, and the exit status.
-use Rattle.std.specs.Prelude.{◌≡◌, ◌≢◌, ◌⊎◌, ℕ, List, None, Option, Result, IfOk, IsErrOf}
+use Rattle.std.specs.Prelude.{◌≡◌, ◌≢◌, ◌⊎◌, ℕ, List, None, Result, IfOk, IsErrOf}
 use Rattle.std.specs.Io.KnownBytes.{Appends}
 use Rattle.hall_grid.specs.Device.{Rises, Tally}
 use Rattle.hall_policy.specs.Ranges.{IsRoundId}
@@ -12,6 +12,7 @@ use Rattle.hall_desk.specs.Step.{IsAnswered}
 use Rattle.hall_desk.specs.declared.reply.Reply.{Reply}
 use Rattle.hall_desk.specs.declared.reply.Reply.TheVariants as reply
 use Rattle.hall_http.specs.Device.{WritesPart}
+use Rattle.hall_tool.specs.Machine.{Kinds}
 use Rattle.hall_tool.specs.SeedText.{denial_of}
 use Rattle.hall_tool.specs.declared.fault.ToolFault.{ToolFault}
 use Rattle.hall_tool.specs.declared.fault.ToolFault.TheVariants as tool
@@ -52,15 +53,15 @@ TableText round content text status =
 
 -- the world stays, and the table or its denial was written; at a device's fault, a first part of it; another fault left
 -- the writer, and the store is one only where it may fail
-pub record IsTableRun {W : Type 0} (can_fail : Type 0) (contents : W → Option (List ℕ)) (round : List ℕ)
-    (old new : Content) (writer written : Tally W) (result : Result ℕ ToolFault) : Type 0 where
+pub record IsTableRun {S R W : Type 0} (k : Kinds S R W) (round : List ℕ) (old new : Content)
+    (writer written : Tally W) (result : Result ℕ ToolFault) : Type 0 where
   pub kept : Kept old new
   pub text : IfOk result (λ status. (text : List ℕ) × TableText round new text status
-      × Appends (contents writer.device) (contents written.device) text)
+      × Appends (k.streams.contents writer.device) (k.streams.contents written.device) text)
   pub same : IfOk result (λ status. written.failures ≡ writer.failures)
   pub device : IsErrOf result tool.Device → Rises writer.failures written.failures
   pub part : IsErrOf result tool.Device → (text : List ℕ) × (status : ℕ) × TableText round new text status
-      × WritesPart (contents writer.device) (contents written.device) text
+      × WritesPart (k.streams.contents writer.device) (k.streams.contents written.device) text
   pub memory : IsErrOf result tool.Memory → written ≡ writer
   pub store : IsErrOf result tool.Store → written ≡ writer
-  pub fault : IsErrOf result tool.Store → MayFail can_fail new
+  pub fault : IsErrOf result tool.Store → MayFail k.can_fail new

@@ -101,7 +101,7 @@ Spells words command =
 abbrev pub SpellsNone : List Text → Type 0
 SpellsNone words = (command : Command) → Spells words command → ⊥
 
--- what a wrong line tells; want of memory tells nothing
+-- what a wrong line tells; out of memory tells nothing
 abbrev pub IfLine : WordsFault → Type 0 → Type 0
 IfLine Memory claim = ⊤
 IfLine (Line error) claim = claim
@@ -126,8 +126,8 @@ AsksNone kind = (kind ≢ OutOfMemory) × (kind ≢ DisplayHelp) × (kind ≢ Di
 abbrev pub SpellOneCommand : Type 0
 SpellOneCommand = (words : List Text) (one other : Command) → Spells words one → Spells words other → one ≡ other
 
--- words of each command, with each of its options, with any path and any text of a number that it may be; `--help` alone
--- and after each name; `--version`
+-- words of each command, with each of its options, with any path and any text of a number that it may be; `--help`
+-- alone and after each name; `--version`
 pub record AreSpelled : Type 0 where
   pub judge : Spells (codes "judge" ∷ []) Judge
   pub solve : Spells (codes "solve" ∷ []) (Solve 200000)

@@ -1,9 +1,9 @@
 //! The commands over files: the entry list is asked for first, then the database, and the first that can't be had ends
 //! the command.
 ghost use Rattle.sqlite.specs.Held.{Held, state};
-ghost use Rattle.hall_sql.specs.Opened.{IsCauseAt, IsCauseThere, OpensAt, OpensThere};
-ghost use Rattle.hall_sql.specs.Standing.{IsHall, content_of};
-ghost use Rattle.hall_tool.specs.Commands.{IsInitAt, IsReplayInMemory, IsTaskAt, TablesCanFail};
+ghost use Rattle.hall_sql.specs.Standing.{IsHall};
+ghost use Rattle.hall_tool.specs.Commands.{IsInitAt, IsReplayInMemory, IsTaskAt, tables};
+ghost use Rattle.hall_tool.specs.Machine.{files_of, kinds, on_host, streams};
 
 use crate::fault::{CommandFault, ToolFault};
 use crate::task::{Init, Replay, Task};
@@ -24,8 +24,8 @@ fn task_over<T: Store, N, K: Task<N>, R: Read, W: Write>(
     reader: &mut Counted<R>,
     writer: &mut Counted<W>,
 ) -> (T, Result<u8, CommandFault>)
-    ensures { K.does T R W T.content T.can_fail R.remaining W.contents task.now host.old host.new store result.0
-        reader.old reader.new writer.old writer.new result.1 }
+    ensures { K.does (kinds T.content T.can_fail (streams R.remaining W.contents)) task.now
+        (on_host host.old store reader.old writer.old) (on_host host.new result.0 reader.new writer.new) result.1 }
 {
     let mut desk = Desk::new(CachedStore::new(alloc, store));
     let ended = task.run(alloc, host, &mut desk, reader, writer);
@@ -43,8 +43,8 @@ fn task_in<S: Alter + Drop, F: PathFiles<S>, N, K: Task<N>, R: Read, W: Write>(
     writer: &mut Counted<W>,
 ) -> Result<u8, CommandFault>
     ensures { (last : Held S) × F.closes files.old last files.new × IsHall (state S.Store last)
-        × K.does (Held S) R W (λ s. content_of (state S.Store s)) TablesCanFail R.remaining W.contents task.now
-        host.old host.new store last reader.old reader.new writer.old writer.new result }
+        × K.does (tables S.Store (streams R.remaining W.contents)) task.now
+        (on_host host.old store reader.old writer.old) (on_host host.new last reader.new writer.new) result }
 {
     let (left, ended) = task_over(alloc, host, store, task, reader, writer);
     files.close(&mut Some(left.into_connection()));
@@ -61,10 +61,9 @@ pub fn task_at<S: Alter + Drop, F: PathFiles<S>, N, K: Task<N>, R: Read, W: Writ
     reader: &mut Counted<R>,
     writer: &mut Counted<W>,
 ) -> Result<u8, CommandFault>
-    ensures { IsTaskAt S.Store F.image_at (OpensThere S.Store F.image_at F.tells F.opens)
-        (IsCauseThere S.Store F.image_at F.tells F.refuses F.opens F.closes) F.closes
-        (K.does (Held S) R W (λ s. content_of (state S.Store s)) TablesCanFail R.remaining W.contents task.now)
-        db.now files.old files.new host.old host.new reader.old reader.new writer.old writer.new result }
+    ensures { IsTaskAt (files_of S.Store F.PathFiles)
+        (K.does (tables S.Store (streams R.remaining W.contents)) task.now) db.now
+        (on_host host.old files.old reader.old writer.old) (on_host host.new files.new reader.new writer.new) result }
 {
     match open_there(files, db) {
         Ok(store) => task_in(alloc, files, host, store, task, reader, writer),
@@ -83,9 +82,8 @@ pub fn init_at<S: Alter + Drop, F: PathFiles<S>, N, R: Read, W: Write>(
     reader: &mut Counted<R>,
     writer: &mut Counted<W>,
 ) -> Result<u8, CommandFault>
-    ensures { IsInitAt S.Store F.image_at F.gives F.withholds (OpensAt S.Store F.image_at F.opens)
-        (IsCauseAt S.Store F.image_at F.refuses F.opens F.closes) F.closes W.contents
-        db.now people.now files.old files.new host.old host.new reader.old reader.new writer.old writer.new result }
+    ensures { IsInitAt (files_of S.Store F.PathFiles) (streams R.remaining W.contents) db.now people.now
+        (on_host host.old files.old reader.old writer.old) (on_host host.new files.new reader.new writer.new) result }
 {
     let list = match files.read(people) {
         Ok(list) => list,
@@ -110,8 +108,8 @@ pub fn replay_in_memory<S: Alter, F: PathFiles<S>, N, R: Read, W: Write>(
     reader: &mut Counted<R>,
     writer: &mut Counted<W>,
 ) -> Result<u8, CommandFault>
-    ensures { IsReplayInMemory F.gives F.withholds R.remaining W.contents
-        people.now files.old files.new host.old host.new reader.old reader.new writer.old writer.new result }
+    ensures { IsReplayInMemory (files_of S.Store F.PathFiles) (streams R.remaining W.contents) people.now
+        (on_host host.old files.old reader.old writer.old) (on_host host.new files.new reader.new writer.new) result }
 {
     let list = match files.read(people) {
         Ok(list) => list,

@@ -10,7 +10,7 @@ use std::io;
 /// Why a command gave up. It then ends with status 3.
 #[derive(Clone, Copy, Debug, PartialEq, Eq)]
 pub enum ToolFault {
-    /// Want of memory.
+    /// Out of memory.
     Memory,
     /// A call of a reader or writer failed.
     Device,

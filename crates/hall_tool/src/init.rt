@@ -3,7 +3,7 @@ ghost use Rattle.std.specs.Prelude.{◌≡◌, ◌≤◌, ℕ, List, IfOk, IsErr
 ghost use Rattle.std.specs.String.{string_capacity, string_len};
 ghost use Rattle.std.specs.Io.KnownBytes.{Appends};
 ghost use Rattle.hall_grid.specs.Device.{Rises};
-ghost use Rattle.hall_store.specs.Store.{Left, Leads, WritesOnce};
+ghost use Rattle.hall_store.specs.Store.{IsSettled, Left, Leads, WritesOnce};
 ghost use Rattle.hall_desk.specs.Desk.{kept_by, SaneThen};
 ghost use Rattle.hall_desk.specs.Sane.{Sane};
 ghost use Rattle.hall_http.specs.Device.{WritesPart};
@@ -11,7 +11,7 @@ ghost use Rattle.hall_sheet.specs.People.{people_in};
 ghost use Rattle.hall_sheet.specs.declared.fault.Refusal.{Refusal};
 ghost use Rattle.std.specs.Prelude.{Err};
 ghost use Rattle.hall_tool.specs.InitText.{InitText, init_line};
-ghost use Rattle.hall_tool.specs.SeedText.{AddsNobody, seeded_status};
+ghost use Rattle.hall_tool.specs.SeedText.{AddsNobody, StopsInList, seeded_status};
 
 use crate::ending::{Ending, ROOM, counted};
 use crate::fault::ToolFault;
@@ -52,6 +52,8 @@ pub fn init_run<S: Store, W: Write>(
         × InitText list.now (S.content (kept_by desk.old)) (S.content (kept_by desk.new)) line status
         × Appends (W.contents writer.old.device) (W.contents writer.new.device) line) }
     ensures same { IfOk result (λ _. writer.new.failures ≡ writer.old.failures) }
+    ensures stops { StopsInList list.now (S.content (kept_by desk.old)) (S.content (kept_by desk.new)) }
+    ensures settled { IsSettled (S.content (kept_by desk.new)) }
     ensures sane { SaneThen Sane (S.content (kept_by desk.old)) (S.content (kept_by desk.new)) }
     ensures refused { (refusal : Refusal) → people_in list.now ≡ Err refusal → desk.new ≡ desk.old }
     ensures device { IsErrOf result ToolFault.Device → Rises writer.old.failures writer.new.failures }
@@ -65,6 +67,7 @@ pub fn init_run<S: Store, W: Write>(
     ensures store { IsErrOf result ToolFault.Store → S.can_fail × Left (S.content (kept_by desk.old))
         (S.content (kept_by desk.new)) × (writer.new ≡ writer.old) }
 {
+    desk.at_rest();
     // The line's memory is taken first, so that a want of it leaves the world.
     let line = String::with_capacity(alloc, ROOM)?;
     let seeded = seed_desk(alloc, desk, list)?;

@@ -1,6 +1,7 @@
 //! The command `judge`.
 ghost use Rattle.std.specs.Prelude.{IfOk, string_bytes};
 ghost use Rattle.hall_tool.specs.JudgeText.{JudgeText, AnswersTexts, IsJudgeRun, IsVerdictLine};
+ghost use Rattle.hall_tool.specs.Machine.{streams};
 
 use crate::device::read_input;
 use crate::ending::{Ending, refused, refused_input};
@@ -50,7 +51,7 @@ pub fn judge_run<R: Read, W: Write>(
     reader: &mut Counted<R>,
     writer: &mut Counted<W>,
 ) -> Result<u8, ToolFault>
-    ensures { IsJudgeRun R.remaining W.contents reader.old reader.new writer.old writer.new result }
+    ensures { IsJudgeRun (streams R.remaining W.contents) reader.old reader.new writer.old writer.new result }
 {
     let input = read_input(alloc, reader, LIMIT + 1)?;
     let ending = answer_input(alloc, &input)?;

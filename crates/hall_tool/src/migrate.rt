@@ -1,8 +1,7 @@
 //! The command `migrate`: the rows of a database of the first version, copied into one of the second.
 ghost use Rattle.std.specs.Prelude.{◌≡◌, ◌≤◌, [], string_bytes};
 ghost use Rattle.std.specs.String.{string_capacity, string_len};
-ghost use Rattle.sqlite.specs.Held.{state};
-ghost use Rattle.hall_sql.specs.Opened.{IsCauseAt, IsOldAsked, OpensAt};
+ghost use Rattle.hall_tool.specs.Machine.{all_files, copying, files_of};
 ghost use Rattle.hall_tool.specs.Migrate.{IsMigrateAt, IsMigrateRun, IsMigratedTo, migrated_line, migrated_status};
 
 use crate::ending::{Ending, ROOM, counted, push};
@@ -12,6 +11,7 @@ use crate::task::command_end;
 use hall_grid::Counted;
 use hall_http::write_all;
 use hall_sql::{Migrated, OldStore, PathFiles, SqlStore, migrate, open_at, open_old};
+use hall_store::ReadStore;
 use sqlite::Alter;
 use std::alloc::Global;
 use std::io::Write;
@@ -35,22 +35,27 @@ fn migrated_ending(mut line: String, migrated: Migrated) -> Ending
 
 /// Copies the rows of the one store into the other, which has none, and writes on a line how many they were: 0 where
 /// that one holds the same already. Where it holds others it stays, which is written. The result is the exit status: 0
-/// where the target holds the rows of the source, 2 where it is refused. The source is never changed, and a row of either
-/// that is no record is a fault.
+/// where the target holds the rows of the source, 2 where it is refused. The source is never changed, and a row of
+/// either that is no record is a fault.
 pub fn migrate_run<S: Alter + Drop, T: Alter + Drop, W: Write>(
     alloc: Global,
     source: &mut OldStore<S>,
     target: &mut SqlStore<T>,
     writer: &mut Counted<W>,
 ) -> Result<u8, ToolFault>
-    ensures { IsMigrateRun W.contents (state S.Store source.old) (state S.Store source.new)
-        (state T.Store target.old) (state T.Store target.new) writer.old writer.new result }
+    ensures { IsMigrateRun S.Store T.Store W.contents (copying source.old target.old writer.old)
+        (copying source.new target.new writer.new) result }
 {
     source.in_old_hall();
     target.in_hall();
+    source.at_rest();
+    target.at_rest();
     // The line's memory is taken first, so that a want of it leaves the target.
     let line = String::with_capacity(alloc, ROOM)?;
-    match migrate(alloc, source, target) {
+    let ended = migrate(alloc, source, target);
+    source.at_rest();
+    target.at_rest();
+    match ended {
         Ok(migrated) => {
             let ending = migrated_ending(line, migrated);
             write_all(writer, ending.line.as_bytes())?;
@@ -68,9 +73,8 @@ fn migrate_into<S: Alter + Drop, T: Alter + Drop, F: PathFiles<T>, W: Write>(
     to: &str,
     writer: &mut Counted<W>,
 ) -> Result<u8, CommandFault>
-    ensures { IsMigratedTo S.Store T.Store F.image_at (OpensAt T.Store F.image_at F.opens)
-        (IsCauseAt T.Store F.image_at F.refuses F.opens F.closes) F.closes W.contents
-        to.now source.old source.new files.old files.new writer.old writer.new result }
+    ensures { IsMigratedTo S.Store (files_of T.Store F.PathFiles) W.contents to.now
+        (copying source.old files.old writer.old) (copying source.new files.new writer.new) result }
 {
     match open_at(files, to) {
         Ok(mut target) => {
@@ -83,9 +87,9 @@ fn migrate_into<S: Alter + Drop, T: Alter + Drop, F: PathFiles<T>, W: Write>(
 }
 
 /// Copies the rows of the database of the first version at the path `from`, among the files of the source, into the one
-/// at the path `to`. The source is asked for first: where it isn't there, or is of another version, that is written, and
-/// no target is asked for or made. Two paths of one file are no case of their own: the source is held open meanwhile,
-/// so that files which lock what they open refuse the target as a database that another program has open.
+/// at the path `to`. The source is asked for first: where it isn't there, or is of another version, that is written,
+/// and no target is asked for or made. Where both paths lead to one file, nothing special is done: the source is held
+/// open, so that files which lock what they open refuse the target as a database that another program has open.
 pub fn migrate_at<S: Alter + Drop, E: PathFiles<S>, T: Alter + Drop, F: PathFiles<T>, W: Write>(
     alloc: Global,
     sources: &mut E,
@@ -94,10 +98,8 @@ pub fn migrate_at<S: Alter + Drop, E: PathFiles<S>, T: Alter + Drop, F: PathFile
     to: &str,
     writer: &mut Counted<W>,
 ) -> Result<u8, CommandFault>
-    ensures { IsMigrateAt S.Store T.Store
-        (IsOldAsked S.Store E.image_at E.tells E.refuses E.opens E.closes) E.image_at E.closes
-        F.image_at (OpensAt T.Store F.image_at F.opens) (IsCauseAt T.Store F.image_at F.refuses F.opens F.closes)
-        F.closes W.contents from.now to.now sources.old sources.new files.old files.new writer.old writer.new result }
+    ensures { IsMigrateAt (all_files (files_of S.Store E.PathFiles) (files_of T.Store F.PathFiles)) W.contents
+        from.now to.now (copying sources.old files.old writer.old) (copying sources.new files.new writer.new) result }
 {
     match open_old(sources, from) {
         Ok(Some(mut source)) => {

@@ -1,28 +1,22 @@
 //! The program: its words are read, the command that they spell is run, and its end is told.
 ghost use Rattle.std.specs.Prelude.{◌≡◌, ◌⊎◌, map, string_bytes};
 ghost use Rattle.std.specs.IoError.{error_kind};
-ghost use Rattle.sqlite.specs.Held.{state};
-ghost use Rattle.hall_http.specs.Crowd.{AreServed, EndsServing};
-ghost use Rattle.hall_sql.specs.Opened.{IsCauseAt, IsCauseThere, IsOldAsked, OpensAt, OpensThere};
-ghost use Rattle.hall_sql.specs.Standing.{content_of};
 ghost use Rattle.hall_tool.specs.CommandRun.{IsCommandRun, UnlessMigrate};
-ghost use Rattle.hall_tool.specs.Migrate.{IsMigrateAt};
+ghost use Rattle.hall_tool.specs.Machine.{all_files, files_of, host_of, machine, streams};
 ghost use Rattle.hall_tool.specs.Status.{status_of};
-ghost use Rattle.hall_tool.specs.Tasks.{DoesServe};
 ghost use Rattle.hall_tool.specs.WordsRun.{AreNoWords, AreWordsRun, IsEndTold, IsRefused, IsTold, IsWanting};
 
 use crate::advice::fault_lines;
 use crate::fault::{CommandFault, ToolFault};
+use crate::machine::{Machine, Parts};
 use crate::run::run_command;
 use crate::words::{WordsFault, read_words};
 use clap::error::Error;
 use hall_grid::Counted;
-use hall_http::{Host, write_all};
-use hall_sql::PathFiles;
-use sqlite::Alter;
+use hall_http::write_all;
 use std::alloc::Global;
 use std::io;
-use std::io::{ErrorKind, Read, Write};
+use std::io::{ErrorKind, Write};
 
 /// The status for a fault: of memory, of a device, of a file or of the store.
 const FAULT: u8 = 3;
@@ -32,54 +26,38 @@ const USAGE: u8 = 64;
 
 const NO_TEXT: &str = "error: a word is no text\n";
 
-/// Runs the command that the words after the program's name spell, over the files, the host, the input and the output,
-/// and gives the exit status. A database that is migrated is asked for among the files `sources`. Of a fault it is told
-/// on `error`, on two lines, that there is one and what to do; words that spell no command are refused there. Where
-/// `error` fails, the status is the same.
-pub fn run_words<
-    O: Alter + Drop,
-    G: PathFiles<O>,
-    S: Alter + Drop,
-    F: PathFiles<S>,
-    H: Host,
-    R: Read,
-    W: Write,
-    E: Write,
->(
-    alloc: Global,
-    sources: &mut G,
-    files: &mut F,
-    host: &mut H,
-    words: &[String],
-    input: &mut Counted<R>,
-    output: &mut Counted<W>,
-    error: &mut Counted<E>,
-) -> u8
-    ensures { AreWordsRun (λ command ended. UnlessMigrate command (sources.new ≡ sources.old)
-        × IsCommandRun S.Store F.image_at F.gives F.withholds
-        (OpensAt S.Store F.image_at F.opens) (IsCauseAt S.Store F.image_at F.refuses F.opens F.closes)
-        (OpensThere S.Store F.image_at F.tells F.opens)
-        (IsCauseThere S.Store F.image_at F.tells F.refuses F.opens F.closes) F.closes
-        (DoesServe (λ s. content_of (state S.Store s)) H.listens H.refuses H.tells H.shows H.ends
-        (EndsServing H.Sockets.is_over H.Sockets.nexts) (AreServed (λ s. content_of (state S.Store s))
-        H.Clock.now_gives H.Sockets.Peer.came H.Sockets.Peer.went))
-        (λ from to. IsMigrateAt O.Store S.Store
-        (IsOldAsked O.Store G.image_at G.tells G.refuses G.opens G.closes) G.image_at G.closes
-        F.image_at (OpensAt S.Store F.image_at F.opens) (IsCauseAt S.Store F.image_at F.refuses F.opens F.closes)
-        F.closes W.contents from to sources.old sources.new) R.remaining W.contents command
-        files.old files.new host.old host.new input.old input.new output.old output.new ended)
-        ((sources.new ≡ sources.old) × (files.new ≡ files.old) × (host.new ≡ host.old) × (input.new ≡ input.old)
-        × (output.new ≡ output.old))
-        E.contents (map string_bytes words.now) error.old error.new result }
+/// Runs the command that the words after the program's name spell, over the files, the host, the input and the output
+/// of the machine, and gives the exit status. A database that is migrated is asked for among the files `sources`. Of a
+/// fault it is told on `error`, on two lines, that there is one and what to do; words that spell no command are refused
+/// there. Where `error` fails, the status is the same.
+pub fn run_words<M: Machine>(alloc: Global, parts: &mut Parts<M>, words: &[String]) -> u8
+    ensures { AreWordsRun (λ command ended. UnlessMigrate command (parts.new.sources ≡ parts.old.sources)
+        × IsCommandRun (all_files (files_of M.Old.Store M.Sources.PathFiles) (files_of M.Kept.Store M.Files.PathFiles))
+        (host_of M.Host.Host M.Host.Sockets.Sockets M.Host.Sockets.Peer.Peer M.Host.Clock.Clock)
+        (streams M.Input.remaining M.Output.contents) command
+        (machine parts.old.sources parts.old.host parts.old.files parts.old.input parts.old.output)
+        (machine parts.new.sources parts.new.host parts.new.files parts.new.input parts.new.output) ended)
+        ((parts.new.sources ≡ parts.old.sources) × (parts.new.files ≡ parts.old.files)
+        × (parts.new.host ≡ parts.old.host) × (parts.new.input ≡ parts.old.input)
+        × (parts.new.output ≡ parts.old.output))
+        M.Error.contents (map string_bytes words.now) parts.old.error parts.new.error result }
 {
     match read_words(alloc, words) {
-        Ok(command) => end(
-            run_command(alloc, sources, files, host, &command, input, output),
-            error,
-        ),
+        Ok(command) => {
+            let ended = run_command(
+                alloc,
+                &mut parts.sources,
+                &mut parts.files,
+                &mut parts.host,
+                &command,
+                &mut parts.input,
+                &mut parts.output,
+            );
+            end(ended, &mut parts.error)
+        }
         Err(fault) => match fault {
-            WordsFault::Line(refusal) => refuse(alloc, &refusal, error),
-            WordsFault::Memory => want(error),
+            WordsFault::Line(refusal) => refuse(alloc, &refusal, &mut parts.error),
+            WordsFault::Memory => want(&mut parts.error),
         },
     }
 }
@@ -111,7 +89,7 @@ fn end<E: Write>(ended: Result<u8, CommandFault>, error: &mut Counted<E>) -> u8
     }
 }
 
-/// Ends for want of memory.
+/// Ends as out of memory.
 fn want<E: Write>(error: &mut Counted<E>) -> u8
     ensures { IsWanting E.contents error.old error.new result }
 {

@@ -2,6 +2,7 @@
 ghost use Rattle.std.specs.Prelude.{◌≡◌};
 ghost use Rattle.hall_desk.specs.Desk.{kept_by, SaneThen};
 ghost use Rattle.hall_desk.specs.Sane.{Sane};
+ghost use Rattle.hall_tool.specs.Machine.{kinds, stand, streams};
 ghost use Rattle.hall_tool.specs.ReplayRun.{IsReplayRun, replay_end};
 
 use crate::fault::ToolFault;
@@ -38,8 +39,8 @@ pub fn replay_run<S: Store, R: Read, W: Write>(
     reader: &mut Counted<R>,
     writer: &mut Counted<W>,
 ) -> Result<u8, ToolFault>
-    ensures run { IsReplayRun S.content S.can_fail R.remaining W.contents list.now (kept_by desk.old) (kept_by desk.new)
-        reader.old reader.new writer.old writer.new result }
+    ensures run { IsReplayRun (kinds S.content S.can_fail (streams R.remaining W.contents)) list.now
+        (stand (kept_by desk.old) reader.old writer.old) (stand (kept_by desk.new) reader.new writer.new) result }
     ensures sane { SaneThen Sane (S.content (kept_by desk.old)) (S.content (kept_by desk.new)) }
 {
     match seed_run(alloc, desk, list, writer) {

@@ -1,12 +1,7 @@
 //! One command, run over files, an input and an output.
 ghost use Rattle.std.specs.Prelude.{◌≡◌};
-ghost use Rattle.sqlite.specs.Held.{state};
-ghost use Rattle.hall_http.specs.Crowd.{AreServed, EndsServing};
-ghost use Rattle.hall_sql.specs.Opened.{IsCauseAt, IsCauseThere, IsOldAsked, OpensAt, OpensThere};
-ghost use Rattle.hall_sql.specs.Standing.{content_of};
 ghost use Rattle.hall_tool.specs.CommandRun.{IsCommandRun, UnlessMigrate};
-ghost use Rattle.hall_tool.specs.Migrate.{IsMigrateAt};
-ghost use Rattle.hall_tool.specs.Tasks.{DoesServe};
+ghost use Rattle.hall_tool.specs.Machine.{all_files, files_of, host_of, machine, streams};
 
 use crate::commands::{init_at, replay_in_memory, task_at};
 use crate::fault::CommandFault;
@@ -44,32 +39,20 @@ pub fn run_command<
     input: &mut Counted<R>,
     output: &mut Counted<W>,
 ) -> Result<u8, CommandFault>
-    ensures run { IsCommandRun S.Store F.image_at F.gives F.withholds
-        (OpensAt S.Store F.image_at F.opens) (IsCauseAt S.Store F.image_at F.refuses F.opens F.closes)
-        (OpensThere S.Store F.image_at F.tells F.opens)
-        (IsCauseThere S.Store F.image_at F.tells F.refuses F.opens F.closes) F.closes
-        (DoesServe (λ s. content_of (state S.Store s)) H.listens H.refuses H.tells H.shows H.ends
-        (EndsServing H.Sockets.is_over H.Sockets.nexts) (AreServed (λ s. content_of (state S.Store s))
-        H.Clock.now_gives H.Sockets.Peer.came H.Sockets.Peer.went))
-        (λ from to. IsMigrateAt O.Store S.Store
-        (IsOldAsked O.Store E.image_at E.tells E.refuses E.opens E.closes) E.image_at E.closes
-        F.image_at (OpensAt S.Store F.image_at F.opens) (IsCauseAt S.Store F.image_at F.refuses F.opens F.closes)
-        F.closes W.contents from to sources.old sources.new) R.remaining W.contents command.now
-        files.old files.new host.old host.new input.old input.new output.old output.new result }
+    ensures run { IsCommandRun (all_files (files_of O.Store E.PathFiles) (files_of S.Store F.PathFiles))
+        (host_of H.Host H.Sockets.Sockets H.Sockets.Peer.Peer H.Clock.Clock) (streams R.remaining W.contents)
+        command.now
+        (machine sources.old host.old files.old input.old output.old)
+        (machine sources.new host.new files.new input.new output.new) result }
     ensures sources { UnlessMigrate command.now (sources.new ≡ sources.old) }
 {
     match command {
         Command::Judge => command_end(judge_run(alloc, input, output)),
         Command::Solve { budget } => command_end(solve_run(alloc, input, output, *budget)),
-        Command::Init { db, people } => init_at(
-            alloc,
-            files,
-            host,
-            db.as_str(),
-            people.as_str(),
-            input,
-            output,
-        ),
+        Command::Init { db, people } => {
+            let (db, people) = (db.as_str(), people.as_str());
+            init_at(alloc, files, host, db, people, input, output)
+        }
         Command::Serve {
             db,
             port,
@@ -82,14 +65,10 @@ pub fn run_command<
             };
             task_at(alloc, files, host, db.as_str(), &task, input, output)
         }
-        Command::Replay { people } => replay_in_memory(
-            alloc,
-            files,
-            host,
-            people.as_str(),
-            input,
-            output,
-        ),
+        Command::Replay { people } => {
+            let people = people.as_str();
+            replay_in_memory(alloc, files, host, people, input, output)
+        }
         Command::Table { db, round } => {
             let task = Table {
                 round: round.as_str().as_bytes(),

@@ -2,14 +2,15 @@
 ghost use Rattle.std.specs.Prelude.{◌≡◌, ◌⊎◌, ℕ, List, IfOk, IfErr, IsErrOf, OnErr, Err, string_bytes};
 ghost use Rattle.std.specs.Io.KnownBytes.{Appends};
 ghost use Rattle.hall_grid.specs.Device.{Rises};
-ghost use Rattle.hall_store.specs.Store.{Left, Leads, WritesOnce};
+ghost use Rattle.hall_store.specs.Store.{IsSettled, Left, Leads, WritesOnce};
 ghost use Rattle.hall_desk.specs.Desk.{kept_by, SaneThen};
 ghost use Rattle.hall_desk.specs.Sane.{Sane};
 ghost use Rattle.hall_desk.specs.Plans.{IsSeedReply};
 ghost use Rattle.hall_http.specs.Device.{WritesPart};
 ghost use Rattle.hall_sheet.specs.People.{people_in};
 ghost use Rattle.hall_sheet.specs.declared.fault.Refusal.{Refusal};
-ghost use Rattle.hall_tool.specs.SeedText.{SeedText, IsSeeded, IsToldBy, AddsNobody, seeded_line, seeded_status};
+ghost use Rattle.hall_tool.specs.SeedText.{SeedText, IsSeeded, IsToldBy, AddsNobody, StopsInList, seeded_line};
+ghost use Rattle.hall_tool.specs.SeedText.{seeded_status};
 
 use crate::ending::Ending;
 use crate::fault::ToolFault;
@@ -44,7 +45,7 @@ fn seeded_of(reply: &Reply) -> Seeded
     }
 }
 
-/// The same of a reply that is let go.
+/// What came of a seed, by its reply, which is let go.
 fn seeded_by(reply: Reply) -> Seeded
     requires { IsSeedReply reply }
     ensures { IsToldBy reply result }
@@ -64,6 +65,8 @@ pub(crate) fn seed_desk<S: Store>(
     ensures once { WritesOnce (S.content (kept_by desk.old)) (S.content (kept_by desk.new)) }
     ensures seeded { IfOk result
         (IsSeeded list.now (S.content (kept_by desk.old)) (S.content (kept_by desk.new))) }
+    ensures stops { StopsInList list.now (S.content (kept_by desk.old)) (S.content (kept_by desk.new)) }
+    ensures settled { IsSettled (S.content (kept_by desk.new)) }
     ensures sane { SaneThen Sane (S.content (kept_by desk.old)) (S.content (kept_by desk.new)) }
     ensures refused { (refusal : Refusal) → people_in list.now ≡ Err refusal → desk.new ≡ desk.old }
     ensures left { OnErr result (Left (S.content (kept_by desk.old)) (S.content (kept_by desk.new))) }
@@ -76,8 +79,14 @@ pub(crate) fn seed_desk<S: Store>(
             Err(StoreFault::Memory) => Err(ToolFault::Memory),
             Err(StoreFault::Failed) => Err(ToolFault::Store),
         },
-        Err(SheetFault::Refused(refusal)) => Ok(Seeded::Refused(refusal)),
-        Err(SheetFault::Memory) => Err(ToolFault::Memory),
+        Err(SheetFault::Refused(refusal)) => {
+            desk.at_rest();
+            Ok(Seeded::Refused(refusal))
+        }
+        Err(SheetFault::Memory) => {
+            desk.at_rest();
+            Err(ToolFault::Memory)
+        }
     }
 }
 
@@ -115,6 +124,8 @@ pub fn seed_run<S: Store, W: Write>(
         × SeedText list.now (S.content (kept_by desk.old)) (S.content (kept_by desk.new)) line status
         × Appends (W.contents writer.old.device) (W.contents writer.new.device) line) }
     ensures same { IfOk result (λ _. writer.new.failures ≡ writer.old.failures) }
+    ensures stops { StopsInList list.now (S.content (kept_by desk.old)) (S.content (kept_by desk.new)) }
+    ensures settled { IsSettled (S.content (kept_by desk.new)) }
     ensures sane { SaneThen Sane (S.content (kept_by desk.old)) (S.content (kept_by desk.new)) }
     ensures refused { (refusal : Refusal) → people_in list.now ≡ Err refusal → desk.new ≡ desk.old }
     // A fault leaves the world.

@@ -1,6 +1,7 @@
 //! The command `solve`.
 ghost use Rattle.std.specs.Prelude.{◌≡◌, ◌⊎◌, IfOk, string_bytes};
 ghost use Rattle.hall_tool.specs.JudgeText.{IsRefused};
+ghost use Rattle.hall_tool.specs.Machine.{streams};
 ghost use Rattle.hall_tool.specs.SolveText.{IsOutcomeLine, IsSolved, IsSolveRun, SolveText};
 
 use crate::device::read_input;
@@ -68,7 +69,8 @@ pub fn solve_run<R: Read, W: Write>(
     writer: &mut Counted<W>,
     budget: u64,
 ) -> Result<u8, ToolFault>
-    ensures { IsSolveRun budget R.remaining W.contents reader.old reader.new writer.old writer.new result }
+    ensures { IsSolveRun budget (streams R.remaining W.contents) reader.old reader.new writer.old writer.new
+        result }
 {
     let input = read_input(alloc, reader, LIMIT + 1)?;
     let ending = answer_input(alloc, &input, budget)?;

@@ -15,16 +15,15 @@ use std::io::{Read, Write};
 
 /// What is done with a hall, on a machine.
 pub trait Task<N> {
-    ghost use Rattle.std.specs.Prelude.{List, ℕ, Option, Result};
-    ghost use Rattle.hall_grid.specs.Device.{Tally};
-    ghost use Rattle.hall_store.specs.Store.{Content};
+    ghost use Rattle.std.specs.Prelude.{ℕ, Result};
     ghost use Rattle.hall_desk.specs.Desk.{kept_by};
+    ghost use Rattle.hall_tool.specs.Machine.{Kinds, OnHost, kinds, on_host, streams};
     ghost use Rattle.hall_tool.specs.declared.fault.CommandFault.{CommandFault};
 
-    /// Over stores with this content, which can fail or can't, and readers and writers that hold this, it leads from
-    /// one machine, store, reader and writer to another, and ends so.
-    ghost does: { (S R W : Type 0) → (S → Content) → Type 0 → (R → Option (List ℕ)) → (W → Option (List ℕ)) → Self
-        → N → N → S → S → Tally R → Tally R → Tally W → Tally W → Result ℕ CommandFault → Type 0 };
+    /// Over stores, readers and writers of these kinds, it leads from one machine, store, reader and writer to another,
+    /// and ends so.
+    ghost does: { {S R W : Type 0} → Kinds S R W → Self → OnHost N S R W → OnHost N S R W → Result ℕ CommandFault
+        → Type 0 };
 
     /// Does it with the hall that the desk keeps, and gives the exit status.
     fn run<S: Store, R: Read, W: Write>(
@@ -35,8 +34,9 @@ pub trait Task<N> {
         reader: &mut Counted<R>,
         writer: &mut Counted<W>,
     ) -> Result<u8, CommandFault>
-        ensures { does S R W S.content S.can_fail R.remaining W.contents self.now host.old host.new (kept_by desk.old)
-            (kept_by desk.new) reader.old reader.new writer.old writer.new result };
+        ensures { does (kinds S.content S.can_fail (streams R.remaining W.contents)) self.now
+            (on_host host.old (kept_by desk.old) reader.old writer.old)
+            (on_host host.new (kept_by desk.new) reader.new writer.new) result };
 }
 
 /// How a command ends where what it does ended so.
@@ -69,8 +69,7 @@ pub struct Init<'a> {
 impl<N> Task<N> for Init<'_> {
     ghost use Rattle.hall_tool.specs.Tasks.{DoesInit};
 
-    ghost does = { λ S R W content can_fail remaining contents task.
-        DoesInit content can_fail contents task.list.now };
+    ghost does = { λ k task. DoesInit k task.list.now };
 
     fn run<S: Store, R: Read, W: Write>(
         &self,
@@ -93,8 +92,7 @@ pub struct Table<'a> {
 impl<N> Task<N> for Table<'_> {
     ghost use Rattle.hall_tool.specs.Tasks.{DoesTable};
 
-    ghost does = { λ S R W content can_fail remaining contents task.
-        DoesTable content can_fail contents task.round.now };
+    ghost does = { λ k task. DoesTable k task.round.now };
 
     fn run<S: Store, R: Read, W: Write>(
         &self,
@@ -117,8 +115,7 @@ pub struct Replay<'a> {
 impl<N> Task<N> for Replay<'_> {
     ghost use Rattle.hall_tool.specs.Tasks.{DoesReplay};
 
-    ghost does = { λ S R W content can_fail remaining contents task.
-        DoesReplay content can_fail remaining contents task.list.now };
+    ghost does = { λ k task. DoesReplay k task.list.now };
 
     fn run<S: Store, R: Read, W: Write>(
         &self,
@@ -142,14 +139,12 @@ pub struct Serve<'a> {
 }
 
 impl<H: Host> Task<H> for Serve<'_> {
-    ghost use Rattle.hall_http.specs.Crowd.{AreServed, EndsServing};
-    ghost use Rattle.hall_tool.specs.Tasks.{DoesServe};
+    ghost use Rattle.hall_tool.specs.Machine.{host_of};
+    ghost use Rattle.hall_tool.specs.Tasks.{DoesServe, service};
 
-    ghost does = { λ S R W content can_fail remaining contents task.
-        DoesServe content H.listens H.refuses H.tells H.shows H.ends
-        (EndsServing H.Sockets.is_over H.Sockets.nexts)
-        (AreServed content H.Clock.now_gives H.Sockets.Peer.came H.Sockets.Peer.went)
-        task.path.now task.port task.connections };
+    ghost does = { λ k task.
+        DoesServe (host_of H.Host H.Sockets.Sockets H.Sockets.Peer.Peer H.Clock.Clock) k.content
+        (service task.path.now task.port task.connections) };
 
     fn run<S: Store, R: Read, W: Write>(
         &self,
@@ -162,13 +157,13 @@ impl<H: Host> Task<H> for Serve<'_> {
         let Ok(mut sockets) = host.listen(self.port, self.connections) else {
             return Err(CommandFault::Port);
         };
-        // It is served too where they can't be counted.
+        // Where people and rounds can't be counted, the hall is served all the same.
         host.tell(self.port, self.path, desk.census(alloc).ok());
         let mut clock = host.clock();
-        let Ok((end, clients)) = serve_all(alloc, desk, &mut sockets, &mut clock) else {
+        let Ok((end, gone)) = serve_all(alloc, desk, &mut sockets, &mut clock) else {
             return Err(CommandFault::Tool(ToolFault::Memory));
         };
-        host.end(sockets, clients);
+        host.end(sockets, gone);
         serve_end(end)
     }
 }

@@ -86,7 +86,7 @@ pub enum Command {
 /// Why the words name no command.
 #[derive(Debug, Drop)]
 pub enum WordsFault {
-    /// Want of memory.
+    /// Out of memory.
     Memory,
     /// The words are not those of a command: the error names the first that is wrong, and how they may go.
     Line(Error),
@@ -296,7 +296,8 @@ fn number(
 
 /// The number between the two that the text is of.
 fn number_within(text: &str, least: u64, most: u64) -> Option<u64>
-    ensures { MatchOption result (IsNoNumber (IsNumberWithin least most text.now)) (IsNumberWithin least most text.now) }
+    ensures { MatchOption result (IsNoNumber (IsNumberWithin least most text.now))
+        (IsNumberWithin least most text.now) }
 {
     match text.parse::<u64>() {
         Ok(number) if least <= number && number <= most => Some(number),

@@ -2,4 +2,4 @@ use Rattle.std.proofs.Common.{refl, inr}
 use Rattle.hall_http.proofs.clients.turn_at.Goals as goal
 
 pub returns-in-Some : goal.returns-in-Some
-returns-in-Some g c = inr (c.in-Some.client, c.turn.new.self, c.in-Some.is, refl, c.turn.ensures.number, c.turn.ensures.turned)
+returns-in-Some g c = inr (c.in-Some.client, c.turn.new.self, c.in-Some.is, refl, c.turn.ensures)

@@ -1,93 +1,120 @@
-use Rattle.std.proofs.Common.{◌≡◌, ◌∙◌, refl, arith, inl, true}
-use Rattle.hall_http.specs.Resting.{still}
-use Rattle.hall_http.specs.Steps.{gated}
+use Rattle.std.proofs.Common.{◌≡◌, ◌∙◌, ap, refl, arith, inl, true, false}
+use Rattle.hall_http.specs.Coming.{Said}
 use Rattle.hall_http.specs.Turns.{goes_on}
 use Rattle.hall_http.specs.declared.server.Next.TheVariants as next
 use Rattle.hall_http.specs.declared.server.ServeAllEnd.TheVariants as end
-use Rattle.hall_http.proofs.Comings.{done_start, done_step, done_turn, done_last, done_all, same_count}
-use Rattle.hall_http.proofs.SoFar.{so_far_start, so_far_turn, so_far_same, so_far_served}
+use Rattle.hall_http.proofs.Comings.{done_start, done_step, done_turn, done_last, done_all, same_count, since_more}
+use Rattle.hall_http.proofs.SoFar.{handled_start, handled_turn, handled_keeps, handled_admits, keeps_all, seated_none, seated_keeps, seated_admits}
 use Rattle.hall_http.proofs.server.handle_all.Goals as goal
 use Rattle.hall_http.proofs.server.handle_all.Goals.{in-Newcomer, in-Turn+else-not-goes_on, in-Gone}
 
 pub loop-step-init : goal.loop-step-init
 loop-step-init g c = record {
-  so_far = so_far_start g.S.Peer.Peer.came g.S.Peer.Peer.went (gated g.H.Responder.answers g.H.Responder.goes_on)
-      (still g.H.Responder.rests) g.C.Clock.now_gives _ _ _ c.requires;
-  done = done_start _ _;
+  so_far = handled_start _ g.S.Peer.Peer.traffic _ (g.S.Sockets.said c.args.sockets.now) _ c.requires;
+  seated = seated_none g.S.Peer.Peer.traffic _ _ _ _ c.requires;
+  done = done_start g.S.Peer.Peer.traffic _;
 }
 
 pub visit-step-requires : goal.visit-step-requires
-visit-step-requires g c = (c.loop-step.invariant.so_far.turns, c.loop-step.invariant.so_far.kept)
-
-pub returns-in-End-clause-handled : goal.returns-in-End-clause-handled
-returns-in-End-clause-handled g c = (
-  _,
-  so_far_served g.S.Peer.Peer.came g.S.Peer.Peer.went (gated g.H.Responder.answers g.H.Responder.goes_on) (still g.H.Responder.rests) g.C.Clock.now_gives _ _ _ _ _
-      c.loop-step.invariant.so_far,
-)
-
-pub returns-then-not-goes_on-clause-handled : goal.returns-then-not-goes_on-clause-handled
-returns-then-not-goes_on-clause-handled g c = (
-  _,
-  so_far_served g.S.Peer.Peer.came g.S.Peer.Peer.went (gated g.H.Responder.answers g.H.Responder.goes_on) (still g.H.Responder.rests) g.C.Clock.now_gives _ _ _ _ _
-      (so_far_turn g.S.Peer.Peer.came g.S.Peer.Peer.went (gated g.H.Responder.answers g.H.Responder.goes_on) (still g.H.Responder.rests) g.C.Clock.now_gives _ _ _ _ _
-      c.loop-step.invariant.so_far _ _ _ c.visit-step.ensures.served),
-)
+visit-step-requires g c = (_, _, c.loop-step.invariant.so_far.turns, c.loop-step.invariant.so_far.holds.0)
 
 pub loop-step-preserved : goal.loop-step-preserved
 loop-step-preserved g c =
+    let old = g.S.Sockets.said c.args.sockets.now in
+    let now = g.S.Sockets.said c.loop-step.sockets in
+    let then = g.S.Sockets.said c.next.new.self in
+    let so_far = c.loop-step.invariant.so_far in
+    let seated = c.loop-step.invariant.seated in
+    let done = c.loop-step.invariant.done in
     elim c.match-next.branch [
-      | in-Newcomer w ↦ rw (w.clients-is, w.responder-is, w.clock-is, w.sockets-is) (record {
-        so_far = so_far_same g.S.Peer.Peer.came g.S.Peer.Peer.went (gated g.H.Responder.answers g.H.Responder.goes_on) (still g.H.Responder.rests)
-            g.C.Clock.now_gives _ _ _ _ _ c.loop-step.invariant.so_far _ w.let_in.ensures.kept;
-        done = done_step _ _ _ _ _ c.loop-step.invariant.done (next.Newcomer w.in-Newcomer.place w.in-Newcomer.peer) _ _ tt
-            w.in-Newcomer.ensures.nexts w.let_in.ensures.came;
-      })
+      | in-Newcomer w ↦
+          let one = next.Newcomer w.in-Newcomer.place w.in-Newcomer.peer in
+          let more = since_more g.S.Peer.Peer.traffic old now _ done one then w.in-Newcomer.ensures.nexts in
+          rw (w.clients-is, w.responder-is, w.clock-is, w.sockets-is) (record {
+            so_far = handled_admits _ g.S.Peer.Peer.traffic old now _ _ _ so_far then one more w.in-Newcomer.place w.in-Newcomer.peer _
+                w.in-Newcomer.ensures.fresh.0 w.in-Newcomer.ensures.count w.let_in.ensures;
+            seated = seated_admits g.S.Peer.Peer.traffic old now c.loop-step.clients then one more seated w.in-Newcomer.place w.in-Newcomer.peer
+                w.let_in.new.clients refl w.let_in.ensures.0;
+            done = done_step g.S.Peer.Peer.traffic old now _ done one then w.in-Newcomer.ensures.fresh w.in-Newcomer.ensures.count
+                w.in-Newcomer.ensures.nexts tt;
+          })
       | in-Turn+else-not-goes_on w ↦
           let told = w.goes_on.ensures in
           let stays = w.if-not-goes_on.false in
           let on : goes_on w.visit-step.result ≡ true = cc in
+          let same = w.hear_of_writes.ensures ∙ w.stands.ensures in
+          let count = ap (λ (s : Said g.row.S-Peer.Denot). s.count) same ∙ w.in-Turn.ensures.count in
+          let nexts = ap (λ (s : Said g.row.S-Peer.Denot). s.nexts) same ∙ w.in-Turn.ensures.nexts in
+          let later = g.S.Sockets.said w.hear_of_writes.new.self in
+          let one = next.Turn w.in-Turn.place in
+          let more = since_more g.S.Peer.Peer.traffic old now _ done one later nexts in
           rw (w.clients-is, w.responder-is, w.clock-is, w.sockets-is) (record {
-            so_far = so_far_turn g.S.Peer.Peer.came g.S.Peer.Peer.went (gated g.H.Responder.answers g.H.Responder.goes_on) (still g.H.Responder.rests)
-                g.C.Clock.now_gives _ _ _ _ _ c.loop-step.invariant.so_far _ _ _ (rw on at w.visit-step.ensures.served);
-            done = done_step _ _ _ _ _ c.loop-step.invariant.done (next.Turn w.in-Turn.place) _ _ tt
-                (w.hear_of_writes.ensures ∙ w.stands.ensures ∙ w.in-Turn.ensures.nexts) (same_count _ _ w.visit-step.ensures.came);
+            so_far = handled_turn _ g.S.Peer.Peer.traffic old now _ _ _ so_far later one more _ _ w.in-Turn.place refl
+                (count ∙ same_count _) seated (rw on at w.visit-step.ensures);
+            seated = seated_keeps g.S.Peer.Peer.traffic old now c.loop-step.clients later one more seated w.visit-step.new.clients w.visit-step.ensures.0;
+            done = done_step g.S.Peer.Peer.traffic old now _ done one later tt count nexts tt;
           })
-      | in-Gone w ↦ rw (w.clients-is, w.responder-is, w.clock-is, w.sockets-is) (record {
-        so_far = so_far_same g.S.Peer.Peer.came g.S.Peer.Peer.went (gated g.H.Responder.answers g.H.Responder.goes_on) (still g.H.Responder.rests)
-            g.C.Clock.now_gives _ _ _ _ _ c.loop-step.invariant.so_far _ w.forget.ensures.kept;
-        done = done_step _ _ _ _ _ c.loop-step.invariant.done (next.Gone w.in-Gone.place) _ _ tt w.in-Gone.ensures.nexts
-            (same_count _ _ w.forget.ensures.came);
-      })
+      | in-Gone w ↦
+          let one = next.Gone w.in-Gone.place in
+          let more = since_more g.S.Peer.Peer.traffic old now _ done one then w.in-Gone.ensures.nexts in
+          rw (w.clients-is, w.responder-is, w.clock-is, w.sockets-is) (record {
+            so_far = handled_keeps _ g.S.Peer.Peer.traffic old now _ _ _ so_far then one more _ (w.in-Gone.ensures.count ∙ same_count _)
+                w.forget.ensures.kept;
+            seated = seated_keeps g.S.Peer.Peer.traffic old now c.loop-step.clients then one more seated w.forget.new.self w.forget.ensures.kept.0;
+            done = done_step g.S.Peer.Peer.traffic old now _ done one then tt w.in-Gone.ensures.count w.in-Gone.ensures.nexts tt;
+          })
     ]
 
-pub returns-clause-handled : goal.returns-clause-handled
-returns-clause-handled g c = (
-  _,
-  so_far_served g.S.Peer.Peer.came g.S.Peer.Peer.went (gated g.H.Responder.answers g.H.Responder.goes_on) (still g.H.Responder.rests) g.C.Clock.now_gives _ _ _ _ _
-      c.loop-step.invariant.so_far,
-)
+pub returns-in-End-clause-handled : goal.returns-in-End-clause-handled
+returns-in-End-clause-handled g c =
+    let old = g.S.Sockets.said c.args.sockets.now in
+    let now = g.S.Sockets.said c.loop-step.sockets in
+    let then = g.S.Sockets.said c.next.new.self in
+    handled_keeps _ g.S.Peer.Peer.traffic old now _ _ _ c.loop-step.invariant.so_far then next.End
+    (since_more g.S.Peer.Peer.traffic old now _ c.loop-step.invariant.done next.End then c.in-End.ensures.nexts) _
+    (c.in-End.ensures.count ∙ same_count _) (keeps_all g.S.Peer.Peer.traffic _)
 
 pub returns-in-Refused-clause-handled : goal.returns-in-Refused-clause-handled
-returns-in-Refused-clause-handled g c = (
-  _,
-  so_far_served g.S.Peer.Peer.came g.S.Peer.Peer.went (gated g.H.Responder.answers g.H.Responder.goes_on) (still g.H.Responder.rests) g.C.Clock.now_gives _ _ _ _ _
-      c.loop-step.invariant.so_far,
-)
+returns-in-Refused-clause-handled g c =
+    let old = g.S.Sockets.said c.args.sockets.now in
+    let now = g.S.Sockets.said c.loop-step.sockets in
+    let then = g.S.Sockets.said c.next.new.self in
+    handled_keeps _ g.S.Peer.Peer.traffic old now _ _ _ c.loop-step.invariant.so_far then next.Refused
+    (since_more g.S.Peer.Peer.traffic old now _ c.loop-step.invariant.done next.Refused then c.in-Refused.ensures.nexts) _
+    (c.in-Refused.ensures.count ∙ same_count _) (keeps_all g.S.Peer.Peer.traffic _)
+
+pub returns-then-not-goes_on-clause-handled : goal.returns-then-not-goes_on-clause-handled
+returns-then-not-goes_on-clause-handled g c =
+    let told = c.goes_on.ensures in
+    let shut = c.if-not-goes_on.true in
+    let off : goes_on c.visit-step.result ≡ false = cc in
+    let old = g.S.Sockets.said c.args.sockets.now in
+    let now = g.S.Sockets.said c.loop-step.sockets in
+    let then = g.S.Sockets.said c.next.new.self in
+    let one = next.Turn c.in-Turn.place in
+    handled_turn _ g.S.Peer.Peer.traffic old now _ _ _ c.loop-step.invariant.so_far then one
+    (since_more g.S.Peer.Peer.traffic old now _ c.loop-step.invariant.done one then c.in-Turn.ensures.nexts) _ _ c.in-Turn.place refl
+    (c.in-Turn.ensures.count ∙ same_count _) c.loop-step.invariant.seated (rw off at c.visit-step.ensures)
+
+pub returns-clause-handled : goal.returns-clause-handled
+returns-clause-handled g c = c.loop-step.invariant.so_far
 
 pub returns-then-not-goes_on-clause-done : goal.returns-then-not-goes_on-clause-done
 returns-then-not-goes_on-clause-done g c =
-    done_turn _ _ _ _ _ c.loop-step.invariant.done c.in-Turn.place _ _ c.in-Turn.ensures.nexts c.visit-step.ensures.came
+    done_turn g.S.Peer.Peer.traffic _ _ _ c.loop-step.invariant.done c.in-Turn.place _ c.in-Turn.ensures.count
+    c.in-Turn.ensures.nexts
 
 pub returns-in-End-clause-done : goal.returns-in-End-clause-done
 returns-in-End-clause-done g c =
-    done_last _ _ _ _ _ c.loop-step.invariant.done next.End _ end.Served c.in-End.ensures.nexts refl
+    done_last g.S.Peer.Peer.traffic _ _ _ c.loop-step.invariant.done next.End _ tt c.in-End.ensures.count
+    c.in-End.ensures.nexts end.Served refl refl
 
 pub returns-in-Refused-clause-done : goal.returns-in-Refused-clause-done
 returns-in-Refused-clause-done g c =
-    done_last _ _ _ _ _ c.loop-step.invariant.done next.Refused _ end.Refused c.in-Refused.ensures.nexts (inl refl)
+    done_last g.S.Peer.Peer.traffic _ _ _ c.loop-step.invariant.done next.Refused _ tt c.in-Refused.ensures.count
+    c.in-Refused.ensures.nexts end.Refused refl (inl refl)
 
 pub returns-clause-done : goal.returns-clause-done
 returns-clause-done g c =
-    done_all _ _ _ _ _ c.loop-step.invariant.done
+    done_all g.S.Peer.Peer.traffic _ _ _ c.loop-step.invariant.done
     (omega (arith, c.loop-step.auto._step-end, c.loop-step-test.false))

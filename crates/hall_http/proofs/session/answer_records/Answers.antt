@@ -15,7 +15,7 @@ records-init g c = record {
       (g.W.Write.contents c.args.writer.now.device) (g.W.Write.contents c.args.writer.now.device)
       (kept_by c.args.desk.now) (kept_by c.args.desk.now) unread 0
       c.args.reader.now.calls c.args.reader.now.calls)
-      (sym c.requires) (kept_start g.S.ReadStore.content _ _ (kept_by c.args.desk.now) _);
+      (sym c.requires) (kept_start g.S.ReadStore.content _ _ (kept_by c.args.desk.now) _ c.at_rest.ensures);
 }
 
 pub returns-in-Err : goal.returns-in-Err
@@ -24,7 +24,7 @@ returns-in-Err g c =
     let says = rw (c.unread-in-Whole.ensures, ← late) at
     (answered_at g.S.ReadStore.content (kept_by c.records.desk) _ _ _ (kept_by c.answer_bytes-answer.new.desk)
     c.answer_bytes-answer.ensures.leads c.answer_bytes-answer.ensures.once c.answer_bytes-answer.ensures.quiet
-    c.answer_bytes-answer.ensures.stops c.answer_bytes-answer.ensures.answers
+    c.answer_bytes-answer.ensures.stops c.at_rest-in-Whole.ensures c.answer_bytes-answer.ensures.answers
     (λ nothing. ap kept_by (c.answer_bytes-answer.ensures.untouched nothing))) in
     unsent _ _ _ _ _ _ _ _ _ _ _ c.records.invariant.kept r c.in-Whole.start c.in-Whole.end _ _ whole says _
     _ _ _ _ c.records.invariant.few c.in-Err.ensures.part
@@ -36,7 +36,7 @@ records-preserved-in-Ok g c =
     let says = rw (c.unread-in-Whole.ensures, ← late) at
     (answered_at g.S.ReadStore.content (kept_by c.records.desk) _ _ _ (kept_by c.answer_bytes-answer.new.desk)
     c.answer_bytes-answer.ensures.leads c.answer_bytes-answer.ensures.once c.answer_bytes-answer.ensures.quiet
-    c.answer_bytes-answer.ensures.stops c.answer_bytes-answer.ensures.answers
+    c.answer_bytes-answer.ensures.stops c.at_rest-in-Whole.ensures c.answer_bytes-answer.ensures.answers
     (λ nothing. ap kept_by (c.answer_bytes-answer.ensures.untouched nothing))) in
     record {
       few = c.records.invariant.few;

@@ -9,7 +9,7 @@ use Rattle.hall_http.proofs.session.replay.Goals as goal
 
 pub returns-in_err-routes-clause-replayed : goal.returns-in_err-routes-clause-replayed
 returns-in_err-routes-clause-replayed g c =
-    let ends : c.from_residual.result ≡ Err fault.Memory = search rules in rw ends (unbegun g.S.ReadStore.content _ _ _ _ _ _)
+    let ends : c.from_residual.result ≡ Err fault.Memory = search rules in rw ends (unbegun g.S.ReadStore.content _ _ _ _ _ _ c.at_rest.ensures)
 
 pub returns-in_err-routes-clause-unique : goal.returns-in_err-routes-clause-unique
 returns-in_err-routes-clause-unique g c = λ h s sane. unique_solutions (g.S.ReadStore.content (kept_by c.args.desk.now)).world sane

@@ -1,4 +1,4 @@
-use Rattle.std.proofs.Common.{rules, refl}
+use Rattle.std.proofs.Common.{inl, rules, refl}
 use Rattle.sqlite.specs.Held.{state}
 use Rattle.hall_sql.proofs.StoreLemmas.{rested_stayed}
 use Rattle.hall_sql.proofs.TransactionLemmas.{rests_itself}
@@ -7,6 +7,10 @@ use Rattle.hall_tool.proofs.migrate.migrate_run.Goals as goal
 pub returns-in_err-line : goal.returns-in_err-line
 returns-in_err-line g c = record {
   rested = rests_itself (state g.S.Store c.args.source.now) c.in_old_hall.ensures;
+  kept = λ h left may. may;
+  stops = λ clean h left may. inl may;
+  settled = search rules;
+  source_settled = search rules;
   line = search rules;
   same = search rules;
   device = search rules;
@@ -18,6 +22,10 @@ returns-in_err-line g c = record {
 pub returns-in_err-write_all-in-Ok : goal.returns-in_err-write_all-in-Ok
 returns-in_err-write_all-in-Ok g c = record {
   rested = c.in-Ok.ensures.source;
+  kept = c.in-Ok.ensures.kept;
+  stops = c.in-Ok.ensures.stops;
+  settled = search rules;
+  source_settled = search rules;
   line = search rules;
   same = search rules;
   device = search rules;

@@ -3,6 +3,7 @@ use Rattle.std.proofs.lemmas.Grind.{common_steps}
 use Rattle.std.specs.Prelude.{Result, Ok}
 use Rattle.hall_desk.specs.Desk.{kept_by}
 use Rattle.hall_desk.specs.Sane.{Sane}
+use Rattle.hall_tool.specs.Machine.{kinds, streams}
 use Rattle.hall_tool.specs.ReplayRun.{IsSeedRun}
 use Rattle.hall_tool.specs.declared.fault.ToolFault.{ToolFault}
 use Rattle.hall_tool.proofs.ReplayLemmas.{then_sane}
@@ -16,12 +17,16 @@ returns-in-Ok-eq0-clause-run g c =
       kept_by c.seed_run.new.desk,
       c.seed_run.new.writer,
       c.replay.result,
-      subst (λ (ended : Result ℕ ToolFault). IsSeedRun g.S.ReadStore.can_fail g.W.Write.contents c.args.list.now
+      subst (λ (ended : Result ℕ ToolFault). IsSeedRun
+          (kinds g.S.ReadStore.content g.S.ReadStore.can_fail (streams g.R.Read.remaining g.W.Write.contents))
+          c.args.list.now
           (g.S.ReadStore.content (kept_by c.args.desk.now)) (g.S.ReadStore.content (kept_by c.seed_run.new.desk))
           c.args.writer.now c.seed_run.new.writer ended) zero
           (record {
             leads = seeded.leads;
             once = seeded.once;
+            stops = seeded.stops;
+            settled = seeded.settled;
             line = seeded.line;
             same = seeded.same;
             left = seeded.left;
@@ -49,6 +54,8 @@ returns-in_default-2-clause-run g c =
       record {
         leads = seeded.leads;
         once = seeded.once;
+        stops = seeded.stops;
+        settled = seeded.settled;
         line = seeded.line;
         same = seeded.same;
         left = seeded.left;

@@ -1,11 +1,12 @@
-use Rattle.std.proofs.Common.{◌∙◌}
+use Rattle.hall_http.proofs.SoFar.{keeps_all, keeps_then}
 use Rattle.hall_http.proofs.clients.Clients.finish.Goals as goal
 
+pub loop-place-init : goal.loop-place-init
+loop-place-init g c = keeps_all g.P.Peer.traffic _
+
 pub finish_one-requires : goal.finish_one-requires
-finish_one-requires g c = (c.requires.0, c.loop-place.invariant.kept c.requires.0 c.requires.1)
+finish_one-requires g c =
+    (c.requires.0, c.requires.1, c.requires.2, c.loop-place.invariant.1 c.requires.0 c.requires.1 c.requires.2 c.requires.3)
 
 pub loop-place-preserved : goal.loop-place-preserved
-loop-place-preserved g c = record {
-  came = c.finish_one.ensures.came ∙ c.loop-place.invariant.came;
-  kept = λ turns kept. c.finish_one.ensures.kept turns (c.loop-place.invariant.kept turns kept);
-}
+loop-place-preserved g c = keeps_then g.P.Peer.traffic _ _ _ c.loop-place.invariant c.finish_one.ensures

@@ -9,13 +9,13 @@ finish_at-requires g c =
     omega (arith, c.if-place-len.false, c.len.ensures, c.args.self.now.places.ok.0) in
     λ k is. (
       _,
-      c.requires.1.here c.args.place k
+      c.requires.3.here c.args.place k
           (read_at c.args.self.now.places.items c.args.place c.index_mut.result.now (Some k) inside c.index_mut.ensures.value is),
     )
 
-pub returns-clause-kept : goal.returns-clause-kept
-returns-clause-kept g c =
+pub returns : goal.returns
+returns g c =
     let inside : c.args.place < length c.args.self.now.places.items =
     omega (arith, c.if-place-len.false, c.len.ensures, c.args.self.now.places.ok.0) in
-    keep_place g.P.Peer.came g.P.Peer.went c.args.self.now c.args.place inside c.index_mut.result.now
-    c.finish_at.new.place c.index_mut.ensures.value c.finish_at.ensures
+    keep_place g.P.Peer.traffic c.args.self.now c.args.place inside c.index_mut.result.now c.finish_at.new.place
+    c.index_mut.ensures.value c.finish_at.ensures

@@ -1,13 +1,36 @@
-use Rattle.std.proofs.Common.{refl, arith, Some, ◌<◌, length}
-use Rattle.hall_http.proofs.Crowds.{kept_gone}
+use Rattle.std.proofs.Common.{◌∙◌, ap, arith, sym, refl, Some, Option, inl, ◌<◌, length}
+use Rattle.std.specs.Prelude.{slice_set}
+use Rattle.std.specs.Vec.{with_item}
+use Rattle.hall_http.specs.declared.client.Client.{Client}
+use Rattle.hall_http.proofs.Crowds.{kept_gone, keep_place, still_free}
 use Rattle.hall_http.proofs.Numbers.{read_at}
 use Rattle.hall_http.proofs.clients.Clients.forget.Goals as goal
+
+pub returns-in_default-clause-kept : goal.returns-in_default-clause-kept
+returns-in_default-clause-kept g c =
+    let inside : c.args.place < length c.args.self.now.places.items =
+    omega (arith, c.if-place-len.false, c.len.ensures, c.args.self.now.places.ok.0) in
+    keep_place g.P.Peer.traffic c.args.self.now c.args.place inside c.index_mut.result.now c.take_at.new.place
+    c.index_mut.ensures.value (inl (sym c.take_at.ensures.taken ∙ c.in_default.is, c.take_at.ensures.free))
 
 pub returns-clause-kept : goal.returns-clause-kept
 returns-clause-kept g c =
     let inside : c.args.place < length c.args.self.now.places.items =
-    omega (arith, c.if-place-len.false, c.len.ensures, c.args.self.now.places.ok.0) in
-    λ turns kept.
-    kept_gone g.P.Peer.came g.P.Peer.went turns c.args.self.now kept c.args.place inside c.in-Some.client
-    (read_at c.args.self.now.places.items c.args.place c.index.result.now (Some c.in-Some.client) inside c.index.ensures c.in-Some.is)
-    _ refl refl c.and-self.ensures refl
+    omega (arith, c.if-place-len.false, c.len.ensures, c.args.self.now.places.ok.0) in (
+      still_free g.P.Peer.traffic c.args.self.now c.args.place inside c.index_mut.result.now c.take_at.new.place
+          c.index_mut.ensures.value (record {
+            places = with_item c.args.self.now.places c.args.place c.take_at.new.place;
+            gone = c.and-self.result;
+          }) refl c.take_at.ensures.free,
+      λ few many turns kept.
+          kept_gone g.P.Peer.traffic few many turns c.args.self.now kept c.args.place inside c.in-Some.client
+          (read_at c.args.self.now.places.items c.args.place c.index_mut.result.now (Some c.in-Some.client) inside
+          c.index_mut.ensures.value (sym c.take_at.ensures.taken ∙ c.in-Some.is))
+          (record {
+            places = with_item c.args.self.now.places c.args.place c.take_at.new.place;
+            gone = c.and-self.result;
+          })
+          c.new-closed.result (Some c.args.place) c.new-closed.ensures (λ none. absurd cc)
+          (ap (λ (o : Option (Client g.row.P.Denot)). slice_set c.args.self.now.places.items c.args.place o) c.take_at.ensures.free)
+          c.and-self.ensures,
+    )

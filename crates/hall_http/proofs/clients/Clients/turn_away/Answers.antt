@@ -1,7 +1,11 @@
+use Rattle.std.proofs.Common.{refl, inl}
 use Rattle.hall_http.proofs.Crowds.{kept_away}
 use Rattle.hall_http.proofs.clients.Clients.turn_away.Goals as goal
 
-pub returns-clause-kept : goal.returns-clause-kept
-returns-clause-kept g c = λ turns kept.
-    kept_away g.P.Peer.came g.P.Peer.went turns c.args.self.now _ c.args.peer _ c.requires.came c.requires.went
-    c.and-self.ensures kept
+pub returns : goal.returns
+returns g c = λ place. (
+  λ other l at. inl (l, at, refl),
+  λ few many turns next kept.
+      kept_away g.P.Peer.traffic few many turns c.args.self.now kept _ c.new-closed.result _
+      (rw c.new-closed.ensures next) refl c.and-self.ensures (rw c.new-closed.ensures c.requires.came) (rw c.new-closed.ensures c.requires.went),
+)

@@ -8,9 +8,9 @@ use Rattle.hall_http.proofs.responder.DeskResponder.answer.Goals as goal
 pub returns-in-Some-clause-answers : goal.returns-in-Some-clause-answers
 returns-in-Some-clause-answers g c = λ bytes lent.
     rw c.in-Some.is
-    (answered_at (λ desk. g.S.ReadStore.content (kept_by desk)) _ _ bytes _ _ c.answer_raw_request.ensures.leads
-    c.answer_raw_request.ensures.once (c.answer_raw_request.ensures.quiet bytes lent) (c.answer_raw_request.ensures.stops bytes lent) (c.answer_raw_request.ensures.answers bytes lent)
-    (c.answer_raw_request.ensures.untouched bytes lent))
+    (answered_at (λ desk. g.S.ReadStore.content (kept_by desk)) _ _ bytes _ _ c.answer_raw_request-answer.ensures.leads
+    c.answer_raw_request-answer.ensures.once (c.answer_raw_request-answer.ensures.quiet bytes lent) (c.answer_raw_request-answer.ensures.stops bytes lent) c.at_rest.ensures (c.answer_raw_request-answer.ensures.answers bytes lent)
+    (c.answer_raw_request-answer.ensures.untouched bytes lent))
 
 pub returns-in-None-clause-answers : goal.returns-in-None-clause-answers
 returns-in-None-clause-answers g c = λ bytes lent. rw c.in-None.is (record {
@@ -18,6 +18,7 @@ returns-in-None-clause-answers g c = λ bytes lent. rw c.in-None.is (record {
   once = omega arith;
   quiet = λ t asked at. absurd cc;
   stops = λ h left may. inl may;
+  settled = c.at_rest-in-None.ensures;
   answers = λ h. inl ((λ world. (unavailable_reply, refl)), λ s. refl);
   untouched = λ quiet. refl;
 })

@@ -1,0 +1,12 @@
+use Rattle.std.proofs.lemmas.Result.{on_ok_weaker}
+use Rattle.hall_http.proofs.Tokens.{after}
+use Rattle.hall_http.proofs.reply.tell_read_round.Goals as goal
+
+pub returns : goal.returns
+returns c =
+    on_ok_weaker c.close.result (λ last.
+    after (after (after (after (after (after (after (after c.in_ok-open.ensures c.in_ok-within_at.ensures)
+    c.in_ok-checked_at.ensures) c.in_ok-within_at-2.ensures) c.in_ok-mode_at.ensures) c.in_ok-within_at-3.ensures)
+    c.in_ok-within_at-4.ensures) c.in_ok-rows_at.ensures)
+    (after (after c.in_ok-within_at-5.ensures c.in_ok-checked_at-2.ensures) last))
+    c.close.ensures

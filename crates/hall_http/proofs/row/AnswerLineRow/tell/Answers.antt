@@ -1,0 +1,11 @@
+use Rattle.std.proofs.lemmas.Result.{on_ok_weaker}
+use Rattle.hall_http.proofs.Tokens.{after}
+use Rattle.hall_http.proofs.row.AnswerLineRow.tell.Goals as goal
+
+pub returns : goal.returns
+returns c =
+    on_ok_weaker c.end_with_verdict.result (λ last.
+    after (after (after (after (after (after (after c.in_ok-open.ensures c.in_ok-checked_at.ensures)
+    c.in_ok-checked_at-2.ensures) c.in_ok-within_at.ensures) c.in_ok-within_at-2.ensures)
+    c.in_ok-within_at-3.ensures) c.in_ok-checked_at-3.ensures) last)
+    c.end_with_verdict.ensures

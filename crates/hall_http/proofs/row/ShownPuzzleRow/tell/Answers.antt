@@ -1,0 +1,10 @@
+use Rattle.std.proofs.lemmas.Result.{on_ok_weaker}
+use Rattle.hall_http.proofs.Tokens.{after}
+use Rattle.hall_http.proofs.row.ShownPuzzleRow.tell.Goals as goal
+
+pub returns : goal.returns
+returns c =
+    on_ok_weaker c.close.result (λ last.
+    after (after (after (after c.in_ok-open.ensures c.in_ok-within_at.ensures) c.in_ok-within_at-2.ensures)
+    c.in_ok-checked_at.ensures) last)
+    c.close.ensures
