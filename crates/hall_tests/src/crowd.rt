@@ -2,7 +2,6 @@
 use crate::http::{
     CLOSING, NO_ROUTE, NO_SERVICE, NOT_WHOLE, REQUEST, SERVED, THOUSANDS, clock, joined, long_head,
 };
-use crate::limited::LimitedStore;
 use crate::opening::opening_desk;
 use crate::peers::{After, Coming, Listed, Manner, PLAIN, Seen};
 use hall_desk::Desk;
@@ -10,6 +9,7 @@ use hall_http::{ServeAllEnd, serve_all};
 use hall_store::MapStore;
 use std::alloc::AllocGlobal;
 use std::process::Abort;
+use test_harness::LimitedStore;
 
 /// More turns than the clients of a test need.
 const MANY: u64 = 1_000_000;
@@ -248,8 +248,11 @@ const UNKNOWN: &[u8] = b"\
 #[test]
 fn nothing_is_answered_after_a_request_that_left_the_store_shut(rt: HostRuntime) {
     for left in 0..5 {
-        let store = MapStore::new(rt.alloc());
-        let mut desk = Desk::new(LimitedStore { store, left });
+        let mut empty = MapStore::new(rt.alloc());
+        let mut desk = Desk::new(LimitedStore {
+            store: &mut empty,
+            left,
+        });
         let sent = joined(&rt, &[ASKING, ASKING, ASKING]);
         let seen = unseen(&rt, 2);
         let mut coming = Vec::new(rt.alloc());
@@ -290,7 +293,7 @@ const CERTIFY_HARD: &[u8] = b"\
     POST /puzzles/bob/h/certificate HTTP/1.1\r\n\
     Hall-Key: bob-key-1\r\n\
     Content-Length: 15\r\n\r\n\
-    {\"budget\":2000}";
+    {\"budget\":1000}";
 
 const READ_HARD: &[u8] = b"GET /puzzles/bob/h HTTP/1.1\r\nHall-Key: dora-key\r\n\r\n";
 

@@ -21,17 +21,3 @@ pub(crate) fn puzzle_key(rt: &(impl AllocGlobal + Abort), author: &str, label: &
         label: text(rt, label),
     }
 }
-
-/// The bytes of a request: the key that is shown, the method and path, and the body.
-pub(crate) fn request(
-    rt: &(impl AllocGlobal + Abort),
-    key: &str,
-    line: &str,
-    body: &str,
-) -> String {
-    let request = format!(in rt.alloc();
-        "{line} HTTP/1.1\r\nHall-Key: {key}\r\nContent-Length: {}\r\n\r\n{body}",
-        body.len()
-    );
-    request.expect(rt, "memory")
-}

@@ -12,8 +12,6 @@ mod fixtures;
 #[cfg(test)]
 mod http;
 #[cfg(test)]
-mod limited;
-#[cfg(test)]
 mod opening;
 #[cfg(test)]
 mod peers;

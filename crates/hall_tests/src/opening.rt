@@ -1,5 +1,4 @@
-//! The world that most tests begin with: six people, three puzzles that nobody certified yet, and three drafts.
-use crate::fixtures::request;
+//! The world that most tests begin with: six people, a puzzle that nobody certified yet, and two drafts that have it.
 use hall_desk::{Desk, Reply};
 use hall_http::{Routes, answer_bytes};
 use hall_policy::Moment;
@@ -7,8 +6,10 @@ use hall_sheet::read_people;
 use hall_store::MapStore;
 use std::alloc::AllocGlobal;
 use std::process::Abort;
+use test_harness::request_text;
 
-const PEOPLE: &str = "\
+/// The entry list.
+pub(crate) const PEOPLE: &[u8] = b"\
     name,key,roles\n\
     dora,dora-key,director\n\
     ada,ada-key-1,author+entrant\n\
@@ -29,50 +30,15 @@ pub(crate) const MORNING: &str = "\
     bonus = 2\n\
     puzzle = [{author = \"bob\", label = \"p1\", points = 40}]\n";
 
-/// From half past nine.
-const LATE: &str = "\
-    version = 1\n\
-    title = \"Late\"\n\
-    start = \"2026-05-02T09:30:00Z\"\n\
-    minutes = 60\n\
-    protest_minutes = 30\n\
-    mode = \"sealed\"\n\
-    penalty = 0\n\
-    bonus = 0\n\
-    puzzle = [{author = \"ada\", label = \"q1\", points = 30}]\n";
-
-/// The morning's round with a puzzle that has many solutions.
-const UNCERTAIN: &str = "\
-    version = 1\n\
-    title = \"Morning\"\n\
-    start = \"2026-05-02T09:00:00Z\"\n\
-    minutes = 60\n\
-    protest_minutes = 30\n\
-    mode = \"instant\"\n\
-    penalty = 5\n\
-    bonus = 2\n\
-    puzzle = [{author = \"bob\", label = \"v\", points = 40}]\n";
-
 /// What is put: the key that is shown, the method and path, and the body.
-const PUTS: [(&str, &str, &str); 6] = [
+const PUTS: [(&str, &str, &str); 3] = [
     (
         "bob-key-1",
         "PUT /puzzles/bob/p1",
         "{\"text\":\"sudoku/4/4/123434122143432g\"}",
     ),
-    (
-        "ada-key-1",
-        "PUT /puzzles/ada/q1",
-        "{\"text\":\"nurikabe/2/2/1i\"}",
-    ),
-    (
-        "bob-key-1",
-        "PUT /puzzles/bob/v",
-        "{\"text\":\"sudoku/4/4/v\"}",
-    ),
     ("dora-key", "PUT /rounds/r1", MORNING),
-    ("dora-key", "PUT /rounds/r2", LATE),
-    ("dora-key", "PUT /rounds/r3", UNCERTAIN),
+    ("dora-key", "PUT /rounds/r2", MORNING),
 ];
 
 /// Puts what the line and the body say, for who has the key.
@@ -84,7 +50,7 @@ pub(crate) fn put(
     line: &str,
     body: &str,
 ) {
-    let put = request(rt, key, line, body);
+    let put = request_text(rt.alloc(), key, line, body).expect(rt, "memory");
     let t = Moment::new(0).expect(rt, "moment");
     let answer = answer_bytes(rt.alloc(), routes, desk, t, put.as_bytes());
     assert!(rt; answer.as_bytes().starts_with(b"HTTP/1.1 200 OK"), "{line}");
@@ -93,7 +59,7 @@ pub(crate) fn put(
 /// A hall in ordered maps.
 pub(crate) fn opening_desk(rt: &(impl AllocGlobal + Abort)) -> Desk<MapStore> {
     let mut desk = Desk::new(MapStore::new(rt.alloc()));
-    let people = read_people(rt.alloc(), PEOPLE.as_bytes()).expect(rt, "people");
+    let people = read_people(rt.alloc(), PEOPLE).expect(rt, "people");
     let reply = desk.seed(rt.alloc(), &people);
     assert!(rt; matches!(&reply, Reply::Import(6)));
     let routes = Routes::new(rt.alloc()).expect(rt, "memory");

@@ -1,14 +1,15 @@
 //! Clients in memory, what they saw, and what lets them in and gives them turns.
-ghost use Rattle.std.specs.Prelude.{◌≡◌, ◌≤◌, [], ◌∷◌, ◌++◌, flat_map, take, drop};
-ghost use Rattle.hall_http.specs.Answered.{answer_text};
+ghost use Rattle.std.specs.Prelude.{◌≡◌, ◌≤◌, [], ◌∷◌, ◌++◌, flat_map, length, take, drop};
 ghost use Rattle.hall_http.specs.Coming.{logged};
+ghost use Rattle.hall_http.specs.Outgoing.{outgoing_text};
 
-use hall_http::{Answer, Moved, Next, Peer, Sockets, Step};
+use hall_http::{Moved, Next, Outgoing, Peer, Sockets, Step};
 use http_server::Log;
 use std::alloc::Global;
 use std::cell::{Cell, RefCell};
 use std::collections::VecDeque;
 use std::io::Read;
+use std::mem;
 
 /// What comes of a client once all its bytes were read.
 #[derive(Clone, Copy, PartialEq, Eq)]
@@ -17,7 +18,7 @@ pub(crate) enum After {
     End,
     /// Nothing.
     Silence,
-    /// The same once more, and so on.
+    /// All its bytes once more, and so on without an end.
     Again,
 }
 
@@ -120,18 +121,24 @@ pub(crate) struct Coming<'a> {
     pub(crate) seen: &'a Seen,
 }
 
-/// The other side of a connection to such a client.
+/// The other side of a connection to such a client, after these places were given to others.
 #[derive(Drop)]
 pub(crate) struct Scripted<'a> {
     coming: Coming<'a>,
+    before: Log<usize, u64>,
     reads: Log<[u8; 4096], usize>,
-    writes: Log<Answer, (usize, usize)>,
+    writes: Log<Outgoing, (usize, usize)>,
+    /// A read told that no more comes.
+    is_over: bool,
 }
 
 impl Peer for Scripted<'_> {
-    ghost came = { λ peer. flat_map (λ read. take read.1 read.0) peer.reads.items };
-
-    ghost went = { λ peer. flat_map (λ write. take write.1.1 (drop write.1.0 (answer_text write.0))) peer.writes.items };
+    ghost traffic = { λ peer. record {
+      number = length peer.before.items;
+      came = flat_map (λ read. take read.1 read.0) peer.reads.items;
+      went = flat_map (λ write. take write.1.1 (drop write.1.0 (outgoing_text write.0))) peer.writes.items;
+      over = peer.is_over;
+    } };
 
     fn receive(&mut self, chunk: &mut [u8; 4096]) -> Moved {
         let Coming { sent, manner, seen } = self.coming;
@@ -151,18 +158,21 @@ impl Peer for Scripted<'_> {
                 Moved::Some(count)
             }
             _ => match manner.after {
-                After::End => Moved::None,
+                After::End => {
+                    self.is_over = true;
+                    Moved::None
+                }
                 After::Silence | After::Again => Moved::Wait,
             },
         }
     }
 
-    fn send(&mut self, answer: &Answer, from: usize) -> Moved {
+    fn send(&mut self, outgoing: &Outgoing, from: usize) -> Moved {
         let Coming { manner, seen, .. } = self.coming;
         if seen.waits(manner) {
             return Moved::Wait;
         }
-        let bytes = &answer.as_bytes()[from..];
+        let bytes = &outgoing.as_bytes()[from..];
         let left = manner.takes.saturating_sub(seen.count());
         let mut count = bytes.len();
         if count > manner.most {
@@ -175,7 +185,7 @@ impl Peer for Scripted<'_> {
             return Moved::None;
         }
         seen.write(&bytes[..count]);
-        self.writes = self.writes.and(answer, &(from, count));
+        self.writes = self.writes.and(outgoing, &(from, count));
         Moved::Some(count)
     }
 
@@ -188,8 +198,8 @@ impl Peer for Scripted<'_> {
     }
 }
 
-/// Lets in the clients of its list, from the last to the first, each at a place of its own, and gives those that are here
-/// their turns. Once so many turns were had, each is let go.
+/// Lets in the clients of its list, from the last to the first, each at a place of its own, and gives those that are
+/// here their turns. Once so many turns were had, each is let go.
 #[derive(Drop)]
 pub(crate) struct Listed<'a> {
     coming: Vec<Coming<'a>>,
@@ -199,6 +209,7 @@ pub(crate) struct Listed<'a> {
     /// Whether who had its turn has the next one too, as long as it can go on.
     is_stubborn: bool,
     nexts: Log<Next<Scripted<'a>>, usize>,
+    seated: Log<usize, u64>,
 }
 
 impl<'a> Listed<'a> {
@@ -215,6 +226,7 @@ impl<'a> Listed<'a> {
             turns,
             is_stubborn,
             nexts: Log::new(),
+            seated: Log::new(),
         }
     }
 
@@ -222,6 +234,7 @@ impl<'a> Listed<'a> {
     fn noted(&mut self, next: Next<Scripted<'a>>) -> Next<Scripted<'a>>
         ensures same { result ≡ next.entry }
         ensures noted { logged self.new.nexts ≡ logged self.old.nexts ++ next.entry ∷ [] }
+        ensures seated { self.new.seated ≡ self.old.seated }
     {
         self.nexts = self.nexts.and(&next, &self.count);
         next
@@ -233,17 +246,20 @@ impl<'a> Sockets for Listed<'a> {
 
     ghost is_over = { λ _. Unit {0} };
 
-    ghost nexts = { λ sockets. logged sockets.nexts };
+    ghost said = { λ sockets. record { nexts = logged sockets.nexts; count = length sockets.seated.items } };
 
     fn next(&mut self) -> Next<Scripted<'a>> {
         if let Some(coming) = self.coming.pop() {
             let place = self.count;
             let _ = self.here.push_back(place);
             self.count = place.saturating_add(1);
+            let seated = self.seated.and(&place, &self.turns);
             let peer = Scripted {
                 coming,
+                before: mem::replace(&mut self.seated, seated),
                 reads: Log::new(),
                 writes: Log::new(),
+                is_over: false,
             };
             return self.noted(Next::Newcomer { place, peer });
         }

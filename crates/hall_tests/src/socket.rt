@@ -1,6 +1,7 @@
 //! Connections over sockets.
 ghost use Rattle.std.specs.Prelude.{◌≡◌, [], ◌∷◌, ◌++◌};
 ghost use Rattle.hall_http.specs.Coming.{logged};
+ghost use Rattle.hall_http.specs.EventLoop.{said_by};
 
 use crate::opening::opening_desk;
 use hall_desk::Desk;
@@ -27,6 +28,7 @@ impl<'r> Brief<'r> {
     fn noted(&mut self, next: Next<Socket>) -> Next<Socket>
         ensures same { result ≡ next }
         ensures noted { logged self.new.nexts ≡ logged self.old.nexts ++ next ∷ [] }
+        ensures inner { self.new.inner ≡ self.old.inner }
     {
         self.has_gone = self.has_gone || matches!(&next, Next::Gone(_));
         self.nexts = self.nexts.and(&next, &self.has_gone);
@@ -39,7 +41,7 @@ impl<'r> Sockets for Brief<'r> {
 
     ghost is_over = { λ _. Unit {0} };
 
-    ghost nexts = { λ sockets. logged sockets.nexts };
+    ghost said = { λ sockets. record { nexts = logged sockets.nexts; count = (said_by sockets.inner).count } };
 
     fn next(&mut self) -> Next<Socket> {
         if self.has_gone {

@@ -1,6 +1,5 @@
 //! The cache before a store: as many copies of each kind as it keeps, and one more.
 use crate::fixtures::{puzzle_key, text};
-use crate::limited::LimitedStore;
 use crate::opening::{MORNING, opening_desk, put};
 use hall_desk::{Desk, Reply};
 use hall_http::Routes;
@@ -8,6 +7,7 @@ use hall_sheet::read_people;
 use hall_store::{CachedStore, MapStore, ReadStore};
 use std::alloc::AllocGlobal;
 use std::process::Abort;
+use test_harness::LimitedStore;
 
 /// What a cache keeps copies of.
 #[derive(Clone, Copy)]
@@ -124,8 +124,9 @@ fn see_told<S: ReadStore>(rt: &(impl AllocGlobal + Abort), store: &mut S, kind: 
 #[test]
 fn a_cache_keeps_so_many_copies_of_a_kind_and_forgets_those_of_no_other(rt: HostRuntime) {
     // Of each kind the store is asked for as many as are kept, for one more, and then for all of these once more.
+    let mut hall = full_hall(&rt);
     let store = LimitedStore {
-        store: full_hall(&rt),
+        store: &mut hall,
         left: 10_002 + 2002 + 2002,
     };
     let mut cached = CachedStore::new(rt.alloc(), store);

@@ -1,13 +1,14 @@
 //! The commands: how they end over devices and stores that fail. Whole inputs stand in examples/.
 use crate::desk::{published_desk, released_desk};
 use crate::devices::{failing_reader, failing_writer};
-use crate::limited::LimitedStore;
+use crate::opening::PEOPLE;
 use hall_desk::Desk;
 use hall_grid::Counted;
 use hall_store::{MapStore, ReadStore, Store};
 use hall_tool::{ToolFault, init_run, judge_run, seed_run, table_run};
 use std::alloc::Global;
 use std::io::{ErrorKind, Read, Write};
+use test_harness::LimitedStore;
 
 #[test]
 fn a_counted_device_is_asked(rt: HostRuntime) {
@@ -53,14 +54,6 @@ fn a_command_ends_at_a_device_fault(rt: HostRuntime) {
         }
     }
 }
-
-const PEOPLE: &[u8] = b"name,key,roles\n\
-    dora,dora-key,director\n\
-    ada,ada-key-1,author+entrant\n\
-    bob,bob-key-1,author\n\
-    eve,eve-key-1,entrant\n\
-    fay,fay-key-1,entrant\n\
-    rex,rex-key-1,referee\n";
 
 const EVE_CHANGED: &[u8] = b"name,key,roles\neve,eve-key-2,entrant\n";
 
@@ -127,8 +120,11 @@ fn a_table_is_written_or_denied(rt: HostRuntime) {
 
 #[test]
 fn a_table_over_a_store_that_fails(rt: HostRuntime) {
-    let store = MapStore::new(rt.alloc());
-    let mut desk = Desk::new(LimitedStore { store, left: 0 });
+    let mut empty = MapStore::new(rt.alloc());
+    let mut desk = Desk::new(LimitedStore {
+        store: &mut empty,
+        left: 0,
+    });
     let (ended, written) = tabled(rt.alloc(), &mut desk, b"r1");
     assert!(rt; ended == Err(ToolFault::Store) && written.is_empty());
     // Bytes that are no round's id don't ask the store.
@@ -171,16 +167,22 @@ fn a_list_is_seeded_over_a_writer_that_fails(rt: HostRuntime) {
 fn a_store_that_fails_is_told(rt: HostRuntime) {
     // Six times a name and a key, six times a name, and the import.
     for left in 0..19 {
-        let store = MapStore::new(rt.alloc());
-        let mut desk = Desk::new(LimitedStore { store, left });
+        let mut empty = MapStore::new(rt.alloc());
+        let mut desk = Desk::new(LimitedStore {
+            store: &mut empty,
+            left,
+        });
         let (ended, written) = seeded(rt.alloc(), &mut desk, PEOPLE);
         assert!(rt;
             ended == Err(ToolFault::Store) && written.is_empty(),
             "calls {left}"
         );
     }
-    let store = MapStore::new(rt.alloc());
-    let mut desk = Desk::new(LimitedStore { store, left: 19 });
+    let mut empty = MapStore::new(rt.alloc());
+    let mut desk = Desk::new(LimitedStore {
+        store: &mut empty,
+        left: 19,
+    });
     let (ended, written) = seeded(rt.alloc(), &mut desk, PEOPLE);
     assert!(rt; ended == Ok(0) && written.is_empty());
 }

@@ -4,7 +4,6 @@
 //! are written as they stand.
 #![tactic(auto)]
 
-mod limited;
 mod limits;
 mod policy;
 mod puzzles;

@@ -1,5 +1,4 @@
 //! Rows of requests: to the world that stands, and to a world made again, whose store answers ever more calls.
-use crate::limited::LimitedStore;
 use crate::words::{Fault, fields_of, number_of, with_lines, within};
 use hall_desk::{Desk, Reply};
 use hall_http::{Routes, answer_bytes};
@@ -7,6 +6,7 @@ use hall_policy::Moment;
 use hall_sheet::read_people;
 use hall_store::MapStore;
 use std::alloc::Global;
+use test_harness::{LimitedStore, request_text};
 
 /// A request at its moment.
 #[derive(Drop)]
@@ -71,8 +71,8 @@ fn reply(alloc: Global, store: &mut MapStore, left: u64, asked: &Asked) -> Resul
     shown(alloc, answer.as_bytes())
 }
 
-/// How many calls the request takes, and its reply: over a store that answers fewer it is answered by 503, and leaves the
-/// world.
+/// How many calls the request takes, and its reply: over a store that answers fewer it is answered by 503, and leaves
+/// the world.
 fn calls_to_reply(alloc: Global, store: &mut MapStore, asked: &Asked) -> Result<String, Fault> {
     for left in 0..AMPLE {
         let reply = reply(alloc, store, left, asked)?;
@@ -92,14 +92,8 @@ fn asked_of(alloc: Global, fields: &[&str]) -> Result<Asked, Fault> {
     let key = if *key == "-" { "" } else { *key };
     let body = if *body == "-" { "" } else { *body };
     let body = with_lines(alloc, body)?;
-    let request = format!(in alloc;
-        "{line} HTTP/1.1\r\nHall-Key: {key}\r\nContent-Length: {}\r\n\r\n{body}",
-        body.len()
-    );
-    Ok(Asked {
-        moment,
-        request: request?,
-    })
+    let request = request_text(alloc, key, line, body.as_str())?;
+    Ok(Asked { moment, request })
 }
 
 fn asked_in(alloc: Global, row: &str) -> Result<Asked, Fault> {

@@ -70,7 +70,8 @@ a line that fails is none|slither/3/1/g1g|?0????/????|?0??0?/????
 a line whose lack fails is one|slither/3/1/g3g|??????/????|?1??1?/????
 no loop closes beside another line in a trial|slither/3/2/j7|?????????/?????1??|?1???????/?????10?";
 
-/// The same for Nurikabe.
+/// The same for Nurikabe, where each row needs the deduction that it names, or a trial of a cell; the last needs a
+/// trial.
 const NURIKABE: &str = "\
 no pool|nurikabe/3/2/.k|.?#?##|..#?##
 a pool|nurikabe/2/2/j|####|dead
@@ -80,13 +81,16 @@ a wall between two groups|nurikabe/3/1/.g.|.?.|.#.
 walls round a full group|nurikabe/3/1/g2g|..?|..#
 too large a group|nurikabe/4/1/g2h|...#|dead
 one way out of a group|nurikabe/3/1/h.|.?.|...
-one way out of walls|nurikabe/3/2/h.i|??.#?#|??.###
+one way out of walls|nurikabe/3/2/h.i|??.#?#|?..###
 a wall where no number comes|nurikabe/3/1/i|?##|###
 a wall where another number's group bars the way|nurikabe/6/2/g4m2h|????????????|..####..#..#
 a wall past what a group may still get|nurikabe/2/3/3k|..????|..??##
 no more room than a number needs|nurikabe/3/1/g3g|?.?|...
 too little room for a number|nurikabe/3/1/g4g|?.?|dead
-a cell that is forced to both|nurikabe/2/2/i2|.??.|dead";
+a cell that is forced to both|nurikabe/2/2/i2|.??.|dead
+a wall where a group would be too large|nurikabe/5/2/2i.k|??.???????|.#....#???
+a cell without which walls fall apart|nurikabe/7/4/i.zj|#??.??#???.??????.??????????|#??.??#???.??????.?????###??
+a value that fails|nurikabe/3/2/h.i|??.###|?..###";
 
 /// The value that a letter of a partial Sudoku says; `?` and all else says none.
 fn digit_of(letter: u8) -> Option<u8> {

@@ -1,5 +1,5 @@
 //! Tests of the puzzle crates, by calls that any crate may make. What the program tells of puzzles is tested by
-//! `tools/puzzles.py`.
+//! `tools/tests/test_puzzles.py`.
 #![tactic(auto)]
 
 #[cfg(test)]

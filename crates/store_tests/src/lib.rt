@@ -6,8 +6,6 @@ mod adopts;
 #[cfg(test)]
 mod files;
 #[cfg(test)]
-mod fixtures;
-#[cfg(test)]
 mod lent;
 #[cfg(test)]
 mod lists;
@@ -23,5 +21,7 @@ mod rows;
 mod stops;
 #[cfg(test)]
 mod tables;
+#[cfg(test)]
+mod work;
 #[cfg(test)]
 mod world;

@@ -1,8 +1,8 @@
-//! Migrations from the tables of the first version: whole, refused, and stopped, where one of the target's two files fails
-//! from some call on.
-use crate::files::{MOST_CALLS, Part, empty_image, images_after, is_blown, migrate_in, stopped};
+//! Migrations from the tables of the first version: whole, refused, and stopped.
+use crate::files::{Image, Stopped, empty_image, migrate_in};
 use crate::stops::world_in;
 use crate::tables::{ROWS, TABLES, connection, over};
+use crate::work::{Work, see_stops};
 use crate::world::world_text;
 use hall_sql::{Declined, Migrated, OldStore, Taken, migrate};
 use hall_store::StoreFault;
@@ -86,68 +86,39 @@ fn a_target_is_filled_once_and_left_where_it_holds_others(rt: HostRuntime) {
     }
 }
 
-/// How many of the targets that were opened again held nothing, and how many all.
-#[derive(Clone, Copy)]
-struct Found {
-    none: u64,
-    all: u64,
+/// A migration into empty files, and what the hall there tells then.
+#[derive(Drop)]
+struct Migrating {
+    told: String,
 }
 
-/// Migrates into files that stop, and sees that what is left holds nothing or all, and all where that was told; and that
-/// the source is as it was. Whether no call was refused.
-fn see_stop(
-    rt: &(impl AllocGlobal + Abort),
-    part: Part,
-    calls: u64,
-    told: &str,
-    found: &mut Found,
-) -> bool {
-    let mut old = source(rt);
-    let mut files = stopped(rt, &empty_image(rt), part, calls);
-    let is_told = match migrate_in(rt, &mut files, &mut old) {
-        Some(migrated) => is_done(&migrated, OLD_ROWS),
-        None => false,
-    };
-    let is_whole = !is_blown(&mut files);
-    assert!(rt; is_told || !is_whole, "call {calls}");
-    for image in &images_after(rt, &mut files) {
-        let world = world_in(rt, image);
-        if world.as_str() == told {
-            found.all = found.all.saturating_add(1);
-        } else {
-            assert!(rt;
-                world.is_empty() && !is_told,
-                "after {calls} calls: {world}"
-            );
-            found.none = found.none.saturating_add(1);
-        }
+impl Work for Migrating {
+    fn name(&self) -> &str {
+        "migrating"
     }
-    let (migrated, world) = migrated_into(rt, &mut old, &[TABLES]);
-    assert!(rt; is_done(&migrated, OLD_ROWS) && world.as_str() == told);
-    is_whole
-}
 
-/// Stops at each call that is made of one of the files.
-fn see_stops(rt: &(impl AllocGlobal + Abort), part: Part) {
-    let told = world_told(rt);
-    let mut found = Found { none: 0, all: 0 };
-    let mut is_whole = false;
-    for calls in 0..MOST_CALLS {
-        is_whole = see_stop(rt, part, calls, told.as_str(), &mut found);
-        if is_whole {
-            break;
-        }
+    /// It sees too that the source is as it was.
+    fn is_told<R: AllocGlobal + Abort>(&self, rt: &R, files: &mut Stopped) -> bool {
+        let mut old = source(rt);
+        let is_told = match migrate_in(rt, files, &mut old) {
+            Some(migrated) => is_done(&migrated, OLD_ROWS),
+            None => false,
+        };
+        let (migrated, world) = migrated_into(rt, &mut old, &[TABLES]);
+        assert!(rt; is_done(&migrated, OLD_ROWS) && world.as_str() == self.told.as_str());
+        is_told
     }
-    assert!(rt;
-        is_whole && found.none != 0 && found.all != 0,
-        "{} and {}",
-        found.none,
-        found.all
-    );
+
+    fn is_kept<R: AllocGlobal + Abort>(&self, rt: &R, left: &Image) -> bool {
+        let world = world_in(rt, left);
+        let is_kept = world.as_str() == self.told.as_str();
+        assert!(rt; is_kept || world.is_empty(), "{world}");
+        is_kept
+    }
 }
 
 #[test]
 fn a_stop_leaves_the_target_empty_or_whole(rt: HostRuntime) {
-    see_stops(&rt, Part::Log);
-    see_stops(&rt, Part::Database);
+    let told = world_told(&rt);
+    see_stops(&rt, &Migrating { told }, &empty_image(&rt));
 }

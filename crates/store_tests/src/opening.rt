@@ -1,11 +1,12 @@
 //! Requests to a hall over any store, and the hall that they find.
-use crate::fixtures::{number, request};
 use hall_desk::{Desk, Reply};
 use hall_http::{Answer, Routes, answer_bytes};
+use hall_policy::Moment;
 use hall_sheet::read_people;
 use hall_store::Store;
 use std::alloc::AllocGlobal;
 use std::process::Abort;
+use test_harness::request_text;
 
 /// A request: the number of its action, the moment, the key that is shown, the method and path, and the body, in which
 /// `~` ends a line.
@@ -81,9 +82,10 @@ pub(crate) fn answered<S: Store>(
         .body
         .replace(rt.alloc(), '~', "\n")
         .expect(rt, "memory");
-    let bytes = request(rt, asked.key, asked.line, body.as_str());
-    let moment = number(rt, asked.moment);
-    answer_bytes(rt.alloc(), routes, desk, moment, bytes.as_bytes())
+    let text = request_text(rt.alloc(), asked.key, asked.line, body.as_str());
+    let moment = Moment::new(asked.moment).expect(rt, "moment");
+    let text = text.expect(rt, "memory");
+    answer_bytes(rt.alloc(), routes, desk, moment, text.as_bytes())
 }
 
 /// Whether the desk does what is asked.

@@ -1,9 +1,8 @@
-//! Rows that are no records of the hall, where no request tells which call of the store failed: a request that asks for the
-//! rounds of a puzzle reads these rounds too, and none asks for all answers of a round at once.
-use crate::fixtures::text;
+//! Rows that are no records of the hall, where no request tells which call of the store failed: a request that asks for
+//! the rounds of a puzzle reads these rounds too, and none asks for all answers of a round at once.
 use crate::tables::{ROWS, TABLES, connection, filled, over};
 use crate::world::world_text;
-use hall_policy::PuzzleKey;
+use hall_policy::{Checked, PuzzleKey, TextKind};
 use hall_store::ReadStore;
 use std::alloc::AllocGlobal;
 use std::process::Abort;
@@ -28,6 +27,11 @@ a|UPDATE answers SET answer = '1\t' WHERE entrant = 'eve' AND round = 'r1'
 a|INSERT INTO answers VALUES ('eve', 'r1', 1, 'K1', 2, 1777712401, '1', 0)
 a|INSERT INTO answers VALUES ('eve', 'r1', 1, '', 2, 1777712401, '1', 0)
 -|UPDATE answers SET n = 50, moment = 4102444800, verdict = 65535 WHERE entrant = 'eve' AND round = 'r1'";
+
+fn text<K: TextKind>(rt: &(impl AllocGlobal + Abort), text: &str) -> Checked<K> {
+    let text = String::from_str(rt.alloc(), text).expect(rt, "memory");
+    Checked::new(text).expect(rt, "text")
+}
 
 fn puzzle_key(rt: &(impl AllocGlobal + Abort), author: &str, label: &str) -> PuzzleKey {
     PuzzleKey {

@@ -1,10 +1,8 @@
-//! Commands that are stopped: one of the two files fails from some call on, and the database is opened again.
-use crate::files::{
-    Image, MOST_CALLS, Part, Stopped, ask_in, empty_image, image_of, images_after, is_blown,
-    stopped, whole,
-};
+//! Commands that are stopped, and the database is opened again.
+use crate::files::{Image, Stopped, ask_in, empty_image, image_of, whole};
 use crate::opening::{Asked, is_done, number_of, request_told, routes, seeded};
 use crate::tables::Ask;
+use crate::work::{Work, image_after, see_stops};
 use crate::world::world_text;
 use hall_desk::Desk;
 use hall_http::Routes;
@@ -23,8 +21,8 @@ const STEPS: &str = "\
 5|0|dora-key|PUT /rounds/r1|version = 3~title = \"Draft\"~start = \"2026-05-02T09:00:00\"~zone = \"UTC0\"~minutes = 20~\
 protest_minutes = 10~mode = \"sealed\"~penalty = 0~bonus = 0~testers = [\"gil\", \"fay\"]~\
 puzzle = [{author = \"bob\", label = \"p2\", points = 30}, {author = \"bob\", label = \"p1\", points = 20}]~
-5|0|dora-key|PUT /rounds/r1|version = 3~title = \"Morning\"~start = \"2026-05-02T09:00:00\"~zone = \"UTC0\"~minutes = 60~\
-protest_minutes = 30~mode = \"instant\"~penalty = 5~bonus = 2~testers = [\"rex\", \"fay\"]~\
+5|0|dora-key|PUT /rounds/r1|version = 3~title = \"Morning\"~start = \"2026-05-02T09:00:00\"~zone = \"UTC0\"~\
+minutes = 60~protest_minutes = 30~mode = \"instant\"~penalty = 5~bonus = 2~testers = [\"rex\", \"fay\"]~\
 puzzle = [{author = \"bob\", label = \"p1\", points = 40}]~
 6|0|dora-key|POST /rounds/r1/release|
 9|1777712500|eve-key-1|PUT /rounds/r1/answers/1/k1|{\"answer\":\"1234341221434321\"}
@@ -126,19 +124,35 @@ impl Ask for Asking<'_> {
     }
 }
 
-/// Whether the command is acknowledged that is asked over the files.
-fn asks_over(
-    rt: &(impl AllocGlobal + Abort),
-    routes: &Routes,
-    files: &mut Stopped,
-    asked: &Asked<'_>,
-) -> bool {
-    let mut asking = Asking {
-        routes,
-        asked: *asked,
-        is_acknowledged: false,
-    };
-    ask_in(rt, files, &mut asking) && asking.is_acknowledged
+/// A command, and how many steps were taken before it.
+#[derive(Clone, Copy)]
+struct Step<'a> {
+    routes: &'a Routes,
+    asked: Asked<'a>,
+    steps: u64,
+}
+
+impl Work for Step<'_> {
+    fn name(&self) -> &str {
+        self.asked.line
+    }
+
+    fn is_told<R: AllocGlobal + Abort>(&self, rt: &R, files: &mut Stopped) -> bool {
+        let mut asking = Asking {
+            routes: self.routes,
+            asked: self.asked,
+            is_acknowledged: false,
+        };
+        ask_in(rt, files, &mut asking) && asking.is_acknowledged
+    }
+
+    fn is_kept<R: AllocGlobal + Abort>(&self, rt: &R, left: &Image) -> bool {
+        let world = world_in(rt, left);
+        let is_kept = is_world(rt, world.as_str(), self.steps.saturating_add(1));
+        let is_before = is_world(rt, world.as_str(), self.steps);
+        assert!(rt; is_kept || is_before, "{}: {world}", self.asked.line);
+        is_kept
+    }
 }
 
 /// Puts the first people into a hall.
@@ -159,109 +173,21 @@ fn first_image(rt: &(impl AllocGlobal + Abort)) -> Image {
     image_of(rt, &files)
 }
 
-/// How many of the files that were opened again held the world before the command, and how many the one after it.
-#[derive(Clone, Copy)]
-struct Found {
-    before: u64,
-    after: u64,
-}
-
-/// A command, the files that it finds, and how many steps were taken before it.
-#[derive(Drop)]
-struct Case {
-    image: Image,
-    asked: Asked<'static>,
-    steps: u64,
-}
-
-/// Opens what a stop left, and sees that it holds the world before the command or the one after it, and this one where
-/// the command was acknowledged.
-fn see_world(
-    rt: &(impl AllocGlobal + Abort),
-    case: &Case,
-    left: &Image,
-    is_acknowledged: bool,
-    found: &mut Found,
-) {
-    let world = world_in(rt, left);
-    if is_world(rt, world.as_str(), case.steps.saturating_add(1)) {
-        found.after = found.after.saturating_add(1);
-    } else {
-        let is_before = is_world(rt, world.as_str(), case.steps);
-        assert!(rt;
-            is_before && !is_acknowledged,
-            "{}: {world}",
-            case.asked.line
-        );
-        found.before = found.before.saturating_add(1);
-    }
-}
-
-/// Asks the command over files of which one serves so many calls, and opens again what is left where the process ends,
-/// and where the machine does. Whether no call was refused.
-fn see_stop(
-    rt: &(impl AllocGlobal + Abort),
-    routes: &Routes,
-    case: &Case,
-    part: Part,
-    calls: u64,
-    found: &mut Found,
-) -> bool {
-    let mut files = stopped(rt, &case.image, part, calls);
-    let is_acknowledged = asks_over(rt, routes, &mut files, &case.asked);
-    let is_whole = !is_blown(&mut files);
-    assert!(rt; is_acknowledged || !is_whole, "{}", case.asked.line);
-    for image in &images_after(rt, &mut files) {
-        see_world(rt, case, image, is_acknowledged, found);
-    }
-    is_whole
-}
-
-/// Stops one of the files at each of the calls that the command makes of it.
-fn see_stops(rt: &(impl AllocGlobal + Abort), routes: &Routes, case: &Case, part: Part) {
-    let mut found = Found {
-        before: 0,
-        after: 0,
-    };
-    let mut is_whole = false;
-    for calls in 0..MOST_CALLS {
-        is_whole = see_stop(rt, routes, case, part, calls, &mut found);
-        if is_whole {
-            break;
-        }
-    }
-    assert!(rt; is_whole, "{} makes more calls", case.asked.line);
-    assert!(rt;
-        found.before != 0 && found.after != 0,
-        "{}",
-        case.asked.line
-    );
-}
-
-/// What the files hold after the command.
-fn image_after(rt: &(impl AllocGlobal + Abort), routes: &Routes, case: &Case) -> Image {
-    let mut files = whole(rt, &case.image);
-    let is_acknowledged = asks_over(rt, routes, &mut files, &case.asked);
-    assert!(rt; is_acknowledged, "{}", case.asked.line);
-    image_of(rt, &files)
-}
-
 /// Takes all steps, and stops those from the first place up to the last one.
 fn see_steps(rt: &(impl AllocGlobal + Abort), first: u64, last: u64) {
     let routes = routes(rt);
     let mut image = first_image(rt);
     let mut steps: u64 = 0;
     for row in STEPS.lines() {
-        let case = Case {
-            image,
+        let step = Step {
+            routes: &routes,
             asked: request_told(rt, row),
             steps,
         };
         if first <= steps && steps <= last {
-            see_stops(rt, &routes, &case, Part::Log);
-            see_stops(rt, &routes, &case, Part::Database);
+            see_stops(rt, &step, &image);
         }
-        image = image_after(rt, &routes, &case);
+        image = image_after(rt, &step, &image);
         steps = steps.saturating_add(1);
     }
 }

@@ -8,11 +8,13 @@ use hall_policy::{
 use hall_store::{MapStore, ReadStore, RoundFlag, Store, StoreFault};
 use std::alloc::Global;
 
-/// A store that answers so many calls, and fails at each further one. It leaves what it was lent.
+/// A store that answers so many calls, and fails at each further one. It hands on to the store that it was lent.
 #[derive(Drop)]
-pub(crate) struct LimitedStore<'a> {
-    pub(crate) store: &'a mut MapStore,
-    pub(crate) left: u64,
+pub struct LimitedStore<'a> {
+    /// What answers the calls.
+    pub store: &'a mut MapStore,
+    /// How many calls are left.
+    pub left: u64,
 }
 
 /// Takes one of the calls that are left.
