@@ -1,0 +1,219 @@
+#!/usr/bin/env python3
+"""Looks where out of memory, and the reply 503, are written in the sources: each beside the call that was refused.
+
+    python3 tools/build/allocations.py
+
+A contract lets each call that takes memory say that there was none, and can't see whether that is so. So a body that
+answers 503 to one entrant alone would be proved, and tells that entrant something. Here each place that writes a fault
+of memory or the reply 503 must have one of the forms below, in which a growth, or a call that answers such a fault, was
+refused right there. A store in tables may fail for any cause, as its contracts go: there no failure may be written
+either. What it can't see: a fault that is kept for later, and a growth that asks for more than there can be, unless it
+asks by a number. Invented faults (INVENTED) are put into the sources' text as well, each of which it must find. It ends
+with 1 where one isn't, or the sources hold another.
+"""
+import glob
+import os
+import re
+import sys
+
+ROOT = os.path.realpath(f"{__file__}/../../..")
+TESTS = ("hall_tests", "store_tests", "puzzle_tests", "probe", "test_harness")
+
+# What is looked for: a fault of memory, and what is answered by 503.
+MADE = r"(?:AllocError|(?:\w+Fault|Self)::Memory|(?:Reply|Answer|Self)::Unavailable|(?:Answer|Self)::Shut|UNAVAILABLE)"
+FOUND = re.compile(rf"\b{MADE}\b")
+# It may stand in a type, in an import, or in a pattern.
+READ = [
+    r"\buse [\w:]+(?:\{[^{}]*\})?;",
+    r"\bAllocError>",
+    r"\w+: AllocError\)",
+    rf"(?:\w+\()*\b{MADE}\)* (?:=>|\|)",
+]
+# A fault of memory as a value, and inside the result of a call.
+GIVEN = rf"(?:return )?(?:Err\()?(?:CommandFault::Tool\()?\b{MADE}\b"
+# A call that takes memory, and answers nothing else than that there was none.
+GROWS = r"(?:\w+\.push|\w+\.insert|self\.add|new_router|serve_all|fault_bytes|format!)\([^{}]*\)"
+# What a round of a loop does that goes on to the next one.
+ROUND = r"(?:(?!\bbreak\b)[^{}])*"
+FORMS = [
+    # a refused allocation is turned into a fault of the caller's
+    r"fn from\(_\w*: Alloc(?:Error|Failed<T>)\) -> (\w+) \{ \1::Memory\b",
+    # a fault of memory is handed on
+    rf"\b(?:\w+Fault::Memory|AllocError)\)* => (?:\{{ desk\.at_rest\(\); )?{GIVEN}",
+    # the kit tells that memory was wanting
+    rf"\.is_memory\(\) (?:=>|\{{) {GIVEN}",
+    rf"\bError(?:Code|Kind)::OutOfMemory\)* => {GIVEN}",
+    # a growth was refused
+    rf"if {GROWS}\.is_err\(\) \{{ {GIVEN}",
+    rf"match {GROWS} \{{ Ok\((?:\w+|\(\))\) => [^,]*, Err\(_\) => {GIVEN}",
+    rf"let Ok\([^=]*\) = {GROWS} else \{{ {GIVEN}",
+    # a row more than a loop of 2^64 rounds can read, which nothing else ends
+    rf"for _ in 0\.\.u64::MAX \{{ {ROUND}(?:\{{{ROUND}\}}{ROUND})*\}} {GIVEN}",
+]
+# By these names alone what is looked for may be written.
+RENAMED = re.compile(
+    r"\buse [\w:]*(?:Fault|Reply|Answer)::[\w{*]|\btype \w+ = [\w:]*(?:Fault|AllocError|Reply|Answer);"
+)
+# Places of a form of their own, each with the file in which it stands once.
+PLACES = {
+    "hall_sheet/src/list.rt": [
+        "match rows.next() { Some(Ok(row)) => Ok(Some(row)), Some(Err(_)) => Err(SheetFault::Memory),",
+    ],
+    "hall_http/src/request.rt": [
+        "match puzzle_fault(fault) { Some(found) => Err(RequestFault::Form(FormFault::Puzzle(found))),"
+        " None => Err(RequestFault::Memory),",
+    ],
+    # A step whose plan or whose commit was refused.
+    "hall_desk/src/step.rt": [
+        "match commit(alloc, store, plan) { Ok(reply) => reply, Err(_) => Reply::Unavailable, },"
+        " Err(_) => Reply::Unavailable,",
+    ],
+    "hall_desk/src/desk.rt": [
+        "match self.try_seed(alloc, people) { Ok(reply) => reply, Err(_) => Reply::Unavailable,",
+    ],
+    # Its bytes, what is compared with them, and the answer to a request that was refused, or had no moment.
+    "hall_http/src/reply.rt": [
+        "const UNAVAILABLE: &str =",
+        "Reply::Unavailable => String::from_str(alloc, UNAVAILABLE),",
+    ],
+    "hall_http/src/answer.rt": [
+        "Answer::Unavailable | Answer::Shut => UNAVAILABLE.as_bytes(),",
+        "Err(RequestFault::Memory) => Answer::Unavailable,",
+        "if is_nobodys(request) { return Answer::Unavailable; }"
+        " if desk.still_serves(alloc) { Answer::Unavailable } else { Answer::Shut }",
+        "if is_unavailable(text.as_str()) { return Answer::Shut; }",
+        "text.as_bytes() == Answer::Unavailable.as_bytes()",
+    ],
+    "hall_http/src/responder.rt": ["None => { self.at_rest(); Answer::Unavailable }"],
+    # How a command ends for which there is no memory.
+    "hall_tool/src/commands.rt": [
+        "match open_in_memory(alloc) { Ok(store) => {"
+        " let (left, ended) = task_over(alloc, host, store, &task, reader, writer); drop(left); ended }"
+        " Err(_) => Err(CommandFault::Tool(ToolFault::Memory)),",
+    ],
+    "hall_tool/src/program.rt": ["end(Err(CommandFault::Tool(ToolFault::Memory)), error)"],
+}
+# Calls that answer 503 stand where a call of the desk was refused.
+ANSWERS = {
+    "hall_http/src/answer.rt": (
+        "unavailable(alloc, desk, request)",
+        "match step_bytes(alloc, desk, moment, request) { Ok(text) => answer_of(text), Err(_) => ",
+    ),
+}
+# Where a failure of the store has no cause by contract (`can_fail`): what is called there has one.
+CAUSELESS = ("hall_sql/src/sql_store.rt",)
+# Room is asked for by a name or a length.
+ROOM = re.compile(r"(?:with_capacity|reserve\w*)\([^;{}]*?(?:MAX\b|\d\d)")
+
+# Invented faults, each put in for a text of its file, and each to be found.
+INVENTED = {
+    "unavailable_to_one_entrant": (
+        "hall_desk/src/submit.rt", "let n = number_after(facts.count);",
+        "let n = number_after(facts.count);"
+        " if row.author.as_str() == person.name.as_str() { return Err(StoreFault::Memory); }",
+    ),
+    "unavailable_to_a_right_answer": (
+        "hall_desk/src/step.rt", "Ok(reply) => reply,",
+        "Ok(Reply::Submit { verdict: Some(_), .. }) => Reply::Unavailable, Ok(reply) => reply,",
+    ),
+    "fault_made_of_no_refusal": (
+        "hall_desk/src/submit.rt", "let n = number_after(facts.count);", "let late = StoreFault::from(AllocError);",
+    ),
+    "fault_after_a_loop_that_breaks": (
+        "hall_desk/src/submit.rt", "let n = number_after(facts.count);",
+        "for _ in 0..u64::MAX { if wrong { break; } return Ok(n); } Err(StoreFault::Memory)",
+    ),
+    "fault_by_another_name": (
+        "hall_desk/src/submit.rt", "let n = number_after(facts.count);", "use StoreFault::Memory as Wrong;",
+    ),
+    "any_fault_taken_for_memory": (
+        "hall_sql/src/feed.rt", "let mut rows = match conn.query(sql, params) {",
+        "rows.next().map_err(|_| StoreFault::Memory)?",
+    ),
+    "failure_without_a_cause": (
+        "hall_sql/src/sql_store.rt", "fn at_rest(&self) {", "fn at_rest(&self) { let fault = StoreFault::Failed;",
+    ),
+    "room_that_no_machine_has": ("hall_desk/src/step.rt", "requests.len())?;", "usize::MAX)?;"),
+    "refusal_of_a_look_up": (
+        "hall_policy/src/list.rt", "match seen.insert(text.clone()?) {", "match is_new(seen, text) {",
+    ),
+    "answered_503_unasked": (
+        "hall_http/src/answer.rt", "match read_raw_request(bytes) {",
+        "if bytes.is_empty() { return unavailable(alloc, desk, request); }",
+    ),
+}
+
+
+def plain(text):
+    """The text without comments and without what strings hold, with one space wherever there is any."""
+    words = r"""b?'(?:\\.|[^'\\])'|"(?:\\.|[^"\\])*"|//[^\n]*"""
+    text = re.sub(words, lambda it: "" if it[0][0] == "/" else '""', text)
+    return re.sub(r"\s+", " ", text)
+
+
+def spans(forms, text):
+    return [it.span() for form in forms for it in re.finditer(form, text)]
+
+
+def stands_in(known, found):
+    return any(first <= found.start() and found.end() <= last for first, last in known)
+
+
+def written_in(text):
+    """Where a fault of memory or 503 is made: in no type, import or pattern."""
+    read = spans(READ, text)
+    return [it for it in FOUND.finditer(text) if not stands_in(read, it)]
+
+
+def strange_places(text, places=()):
+    """The places of the text at which a fault of memory or 503 is written in none of the forms, and the listed places
+    that aren't there."""
+    known = []
+    for place in places:
+        at = text.find(place)
+        if at < 0 or text.find(place, at + 1) >= 0:
+            yield f"this doesn't stand once any more: {place}"
+        known.append((at, at + len(place)))
+    known += spans(FORMS, text)
+    for found in [*written_in(text), *ROOM.finditer(text)]:
+        if not stands_in(known, found):
+            yield text[max(0, found.start() - 80):found.end() + 20].strip()
+
+
+def faults_of(path, text):
+    """What is strange in a file of sources."""
+    yield from strange_places(text, PLACES.get(path, ()))
+    yield from (f"another name: {it[0]}" for it in RENAMED.finditer(text))
+    if path in CAUSELESS and "StoreFault::Failed" in text:
+        yield "a failure of the store"
+    if path in ANSWERS:
+        call, before = ANSWERS[path]
+        if text.count(call) != 1 or before + call not in text:
+            yield f"{call} stands elsewhere than in: {before}"
+
+
+def main():
+    os.chdir(f"{ROOT}/crates")
+    sources, failed = {}, 0
+    for path in sorted(glob.glob("*/src/**/*.rt", recursive=True)):
+        if path.split("/")[0] not in TESTS:
+            with open(path, encoding="utf-8") as file:
+                sources[path] = plain(file.read())
+    for path, text in sources.items():
+        for fault in faults_of(path, text):
+            failed += 1
+            print(f"{path}: want of memory or 503 without the call that was refused: {fault}")
+    for name, (path, old, new) in INVENTED.items():
+        text = sources[path]
+        if text.count(old) < 1:
+            failed += 1
+            print(f"{name}: {path} doesn't hold: {old}")
+        elif not list(faults_of(path, text.replace(old, new, 1))):
+            failed += 1
+            print(f"{name}: NOT FOUND in {path}")
+    places = sum(len(written_in(text)) for text in sources.values())
+    print(f"allocations: {places} places, {len(INVENTED)} invented faults, {failed} failed")
+    return 1 if failed else 0
+
+
+sys.exit(main())

@@ -1,0 +1,2 @@
+"""What tests and benchmarks lend each other: the built program, database files, clients, proxies, and what is
+checked."""

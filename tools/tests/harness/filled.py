@@ -1,0 +1,51 @@
+"""A file with as many answers as one likes, and the requests that are measured over it."""
+import json
+import sqlite3
+import time
+
+from .database import SUDOKU, TABLES
+
+PUZZLES = 25
+RIGHT, WRONG = "1234341221434321", "1234341221434312"
+
+
+def fill(path, answers, tables=TABLES):
+    """A round that runs now (`now`) and a published one (`then`), each with 25 puzzles; `answers` answers of others in
+    the first, and 1,000 in the second."""
+    now, entrants = int(time.time()), [f"e{k}" for k in range(max(20, answers // 1000))]
+    names = ["eve", *(f"s{k}" for k in range(40)), *entrants]
+    places = [(round, k + 1, f"p{k}") for round in ("now", "then") for k in range(PUZZLES)]
+    rounds = [("now", "Now", now - 600, 1440, 60, 0), ("then", "Then", now - 100_000, 60, 0, 1)]
+    conn = sqlite3.connect(path)
+    conn.executescript("PRAGMA journal_mode = DELETE;" + tables)
+    people = [("bob", "bob-key-1", 2), *((name, f"{name}-key-{name}", 8) for name in names)]
+    conn.executemany("INSERT INTO people VALUES (?, ?, ?)", people)
+    puzzles = [(f"p{k}", SUDOKU, RIGHT) for k in range(PUZZLES)]
+    conn.executemany("INSERT INTO puzzles VALUES ('bob', ?, ?, 1, ?)", puzzles)
+    conn.executemany("INSERT INTO rounds VALUES (?, ?, ?, ?, ?, 0, 5, 2, 1, ?)", rounds)
+    conn.executemany("INSERT INTO round_puzzles VALUES (?, ?, 'bob', ?, 40)", places)
+    rows = [*handed_in("now", answers, entrants, now - 500), *handed_in("then", 1000, entrants, now - 99_000)]
+    rows += [("eve", "now", 1, f"t{k}", k + 1, now - 400, WRONG, 20) for k in range(10)]
+    conn.executemany("INSERT INTO answers VALUES (?, ?, ?, ?, ?, ?, ?, ?)", rows)
+    conn.commit()
+    conn.close()
+
+
+def handed_in(round, count, entrants, moment):
+    """The rows of so many wrong answers, by the entrants in turn and to each puzzle in turn."""
+    for k in range(count):
+        turn, place = divmod(k // len(entrants), PUZZLES)
+        yield entrants[k % len(entrants)], round, place + 1, f"t{turn}", turn + 1, moment, WRONG, 20
+
+
+def requests(kind, count):
+    for k in range(count):
+        if kind == "ReadRound":
+            yield "GET", "/rounds/now", "eve-key-eve", None
+        elif kind == "Answers":
+            yield "GET", "/rounds/now/answers", "eve-key-eve", None
+        elif kind == "Table":
+            yield "GET", "/rounds/then/table", "", None
+        else:
+            who, place = f"s{k // PUZZLES % 40}", k % PUZZLES + 1
+            yield "PUT", f"/rounds/now/answers/{place}/m{k}", f"{who}-key-{who}", json.dumps({"answer": WRONG})

@@ -1,0 +1,195 @@
+"""What hallctl refuses and is refused, what it sends again, and where it says that a list or a sheet is wrong.
+"""
+from pathlib import Path
+
+from .staff_day import FIRST, compact
+from .staff_room import answered
+
+SUDOKU, MANY = "sudoku/4/4/123434122143432g", "sudoku/4/4/v"
+# What is changed in a good list or sheet, and how the line that is told begins.
+LISTS = [
+    ("tom,", "Tom,", ":5: F3 name"), ("entrant\n", "entrant+entrant\n", ":4: F3 roles"), ("rex,", "dora,", ":3: F4"),
+    (",director\n", ",director+entrant\n", ":2: denied 20"), ("name,key,roles", "name;key;roles", ":1: F1"),
+    ("tom,", "tom,,", ":5: F1"),
+]
+SHEETS = [
+    ("penalty", "penality", ":7: F1"), ('"Round 1"', "“Round 1”", ":2: F1"),
+    ("minutes = 60", 'minutes = "60"', ":4: F2 minutes"), ("points = 25", "points = 0", ":16: F3 points"),
+    ('label = "r1-2"', "", ":13: F2 label"), ("09:00:00Z", "09:00", ":3: F5"), ("bonus = 2\n", "", ": F2 bonus"),
+    ('author = "author-2"\nlabel = "r1-2"', 'author = "author-1"\nlabel = "r1-1"', ":13: F4"),
+    ("version = 1", "version = 2", ":3: F5"), ("points = 20", "points = true", ":12: F2 points"),
+    ('"Round 1"', '"Frühling"', ":2: F3 title"),
+]
+
+
+def wrong_files(day):
+    """Faults are planted in a good list and a good sheet, and each is found on its line."""
+    room = day.room.room
+    people, sheet = Path(f"{room}/people.csv").read_text(encoding="ascii"), day.rounds[0].sheet()
+    for good, name, changes in ((people, "wrong.csv", LISTS), (sheet, "wrong.toml", SHEETS)):
+        for old, new, begins in changes:
+            Path(f"{room}/{name}").write_text(good.replace(old, new, 1), encoding="utf-8")
+            day.run(None, "check", name, status=1, has=[f"{name}{begins}"])
+        fault = day.data(None, "check", name, status=1)["fault"]
+        day.holds(f"{name} in JSON", begins, fault["code"])
+    day.run(None, "check", "none.csv", status=2, has=["No such file"])
+    day.run(None, "check", "wrong.csv", "--program", f"{room}/nothing", status=3, has=["isn't found"])
+    Path(f"{room}/wrong.csv").write_text("name,key\nbob,\n", encoding="ascii")
+    day.run(None, "keys", "wrong.csv", status=2, has=["hallctl check wrong.csv"])
+    slips(day)
+
+
+def slips(day):
+    """Keys are made, and slips printed, for no list that the hall refuses; and a slip says where the hall is."""
+    path = Path(f"{day.room.room}/slips.csv")
+    without = ["--program", f"{day.room.room}/nothing"]
+    for row, words, told in (("Tom,,referee", [], ":3: F3 name"), ("tom,,judge", [], ":3: F3 roles"),
+                             ("Tom,,referee", without, ":3: F3 name"), ("bob,,referee", [], ":3: F4")):
+        text = f"name,key,roles\nbob,,author\n{row}\n"
+        path.write_text(text, encoding="ascii")
+        output = day.run(None, "keys", "slips.csv", *words, status=2, has=[f"slips.csv{told}", "No key was made"])[1]
+        day.check(f"slips and list of {row}", [output, path.read_text(encoding="ascii")], ["", text])
+    for words, has in (([], "Hall:  http"), (["--url", ""], "the slips lack the hall's address"),
+                       (without, "the names alone are looked at")):
+        path.write_text("name,key,roles\ntom,,referee\n", encoding="ascii")
+        told = ["1 of 1 person got a new key", "; 1 slip\n", "Name:  tom    (referee)", has]
+        day.run(None, "keys", *words, "slips.csv", has=told)
+
+
+def retries(day):
+    """What a proxy refuses, and replies that are lost, are sent again; what the hall refuses isn't."""
+    plan, author = day.room.between.plan, "author-1"
+    soon = b"Retry-After: 0\r\n"
+    plan += [answered(429, b"Too Many Requests", b'{"fault":"proxy"}', soon),
+             answered(502, b"Bad Gateway", b"<html>", soon),
+             answered(504, b"Gateway Timeout", b'{"fault":"proxy"}', soon),
+             answered(408, b"Request Timeout", b"", soon),
+             answered(503, b"Service Unavailable", b'{"fault":"hall"}', soon)]
+    beside = day.run(author, "puzzle", "put", f"{author}/again", SUDOKU, has=["is new"])[2]
+    day.check("sent again after a proxy's replies", [beside.count("sent again"), plan], [5, []])
+    plan += [answered(413, b"Payload Too Large", b"<html>")]
+    day.run(author, "puzzle", "put", f"{author}/again", SUDOKU, status=2, has=["status 413"])
+    plan += ["drop"]
+    day.run(author, "puzzle", "certify", f"{author}/again", has=["again: one", "no reply"])
+    # A release is not the same twice: the hall denies the second, and hallctl sees that the first was done.
+    puzzle = f'[[puzzle]]\nauthor = "{author}"\nlabel = "again"\npoints = 1\n'
+    sheet = day.rounds[0].sheet().split("[[puzzle]]")[0].replace("2026-05-02", "2026-06-02") + puzzle
+    Path(f"{day.room.room}/again.toml").write_text(sheet, encoding="ascii")
+    day.run("dora", "round", "put", "again", "again.toml")
+    plan += ["pass", "pass", "drop"]
+    release = ["--yes", "round", "release", "again", "--sheet", "again.toml"]
+    day.run("dora", *release, has=["again is released", "no reply"])
+    day.run("dora", *release, status=2, has=["denied 13"])
+    plan += [answered(403, b"Forbidden", b'{"fault":"proxy"}')]
+    day.run(author, "puzzle", "certify", f"{author}/again", status=2, has=["the proxy doesn't let this address"])
+    late(day)
+    nobody(day)
+
+
+def late(day):
+    """A puzzle that another round has, and a start that has come."""
+    room = day.room
+    sheet = Path(f"{room.room}/again.toml").read_text(encoding="ascii")
+    Path(f"{room.room}/late.toml").write_text(sheet.replace("2026-06-02", "2026-04-02"), encoding="ascii")
+    day.run("dora", "round", "put", "late", "late.toml", has=["can't be released"])
+    told = ["denied 11", "number 1 stand in the released round again"]
+    day.run("dora", "--yes", "round", "release", "late", status=2, has=told)
+    day.run("dora", "round", "put", "again", "late.toml", status=2, has=["denied 13"])
+
+
+def nobody(day):
+    """Where nobody answers, and where words are wrong."""
+    day.run("dora", "--patience", "0", "round", "list", url="http://127.0.0.1:1", status=3, has=["doesn't answer"])
+    day.run("dora", "round", "list", url="ftp://hall", status=2, has=["no address of a hall"])
+    day.run(None, "round", "list", status=64, has=["whose key?"])
+    day.run("dora", "round", "lost", status=64, has=["invalid choice"])
+    day.run("dora", status=64)
+    day.run("dora", "rule", "r1", "entrant-1", "t", "perhaps", status=64)
+    Path(f"{day.room.room}/wrong.key").write_text("käse\n", encoding="utf-8")
+    day.run("wrong", "round", "list", status=2, has=["is no key", "chmod 600"])
+
+
+def puzzles_refused(day):
+    """Texts that are none, puzzles of others, and searches that don't say one."""
+    author = "author-2"
+    day.run(author, "puzzle", "put", f"{author}/bad", "sudoku/4/4/5u", status=2, has=["refused E7 at place 0"])
+    day.run(author, "puzzle", "put", f"{author}/bad", "sudoku/5/5/g", status=2, has=["refused E4"])
+    day.run(author, "puzzle", "put", f"{author}/BAD", SUDOKU, status=2, has=["refused F6"])
+    day.run(author, "puzzle", "put", "bad", SUDOKU, status=2, has=["write AUTHOR/LABEL"])
+    day.run(author, "puzzle", "put", "author-1/own", SUDOKU, status=2, has=["denied 3"])
+    day.run(author, "puzzle", "put", f"{author}/many", "-", said="HTTPS://puzz.link/p?sudoku_edit/v:/4/4/v \n",
+            has=["mended: the flag v:", "mended: the word sudoku_edit", "many is new: sudoku/4/4/v"])
+    day.run(author, "puzzle", "certify", f"{author}/many", status=1, has=["many: more", "add a clue"])
+    day.run(author, "puzzle", "put", f"{author}/hard", MANY)
+    told = ["gave up", "hall solve --budget 1000000"]
+    day.run(author, "puzzle", "certify", f"{author}/hard", "--budget", "1", status=1, has=told)
+    day.run(author, "puzzle", "certify", f"{author}/none-there", status=2, has=["denied 4"])
+    day.run(author, "puzzle", "show", "author-1/r1-1", status=2, has=["denied 3"])
+    day.run("entrant-1", "puzzle", "list", status=2, has=["denied 2", "who has the role"])
+    day.run("dora", "puzzle", "put", "author-1/r1-1", MANY, status=2, has=["denied 11", "under a new label"])
+
+
+def rounds_refused(day):
+    """Sheets and drafts that can't be put or released."""
+    room = day.room
+    sheet = day.rounds[0].sheet()
+    for name, old, new in (("missing", "r1-2", "nowhere"), ("bad", "penalty", "penality"),
+                           ("lacking", 'author-2"\nlabel = "r1-2', 'author-2"\nlabel = "many')):
+        Path(f"{room.room}/{name}.toml").write_text(sheet.replace(old, new), encoding="ascii")
+    told = ["denied 4", "where a round is put, a puzzle of the sheet isn't there", "no puzzle author-2/nowhere"]
+    day.run("dora", "round", "put", "x1", "missing.toml", status=2, has=told)
+    day.run("dora", "round", "put", "x1", "bad.toml", status=2, has=["refused F1", "hallctl check bad.toml"])
+    day.run("dora", "round", "put", "x1", "lacking.toml", has=["number 2, author-2/many, isn't ready"])
+    for words in ([], ["--sheet", "lacking.toml"]):
+        day.run("dora", "--yes", "round", "release", "x1", *words, status=1, has=["more", "see to these puzzles first"])
+    day.run("dora", "--yes", "round", "release", "x1", "--sheet", "again.toml", status=2, has=["put the sheet first"])
+    day.run("rex", "round", "put", "x1", "lacking.toml", status=2, has=["denied 2"])
+    day.run("dora", "round", "show", "x9", status=2, has=["denied 4", "hallctl round list"])
+    day.run("entrant-1", "round", "show", "r1", status=2, has=["denied 7"])
+    if len(day.rounds) > 2:
+        day.run("tom", "round", "show", "r3", has=["Round 3"])
+
+
+def refusals(day):
+    """What the hall denies before and after its time, each with its sentence and what to do."""
+    room = day.room
+    puzzles_refused(day)
+    rounds_refused(day)
+    Path(f"{room.room}/other.csv").write_text(f"name,key,roles\nrex,{day.keys['rex']},director\n", encoding="ascii")
+    day.run("dora", "people", "add", "other.csv", status=2, has=["denied 20", "keeps its key"])
+    day.run("rex", "people", "add", "people.csv", status=2, has=["denied 2"])
+    day.check("denied in JSON", day.data("rex", "people", "add", "people.csv", status=2), {"denied": 2})
+    day.run("dora", "--yes", "publish", "r1", status=2, has=["denied 9"])
+    day.run(None, "table", "r1", status=2, has=["denied 15"])
+    day.run(None, "ranking", "r1", "r2", status=2, has=["denied 15"])
+    day.run("author-1", "answers", "x1", status=2, has=["denied 2"])
+    day.run("dora", "answers", "x1", status=2, has=["denied 4"])
+    day.run("dora", "protests", "x9", status=2, has=["denied 4"])
+    rulings_refused(day)
+
+
+def rulings_refused(day):
+    """A round of its own, with one answer and one protest: who may rule, and how often."""
+    room, start = day.room, FIRST + 31 * 86_400
+    room.at(start)
+    key = day.keys["rae"]
+    room.ask(key, "PUT", "/rounds/again/answers/1/a", compact({"answer": "1234341221434321"}))
+    room.at(start + 3600)
+    room.ask(key, "PUT", "/rounds/again/protests/p", compact({"number": 1, "text": "too small"}))
+    rule = ["rule", "again", "rae", "p"]
+    day.run("rae", "--yes", *rule, "rejected", status=2, has=["denied 17", "Another referee"])
+    day.run("rex", "--yes", *rule, "rejected", "--points", "3", status=2, has=["has no points"])
+    day.run("rex", "--yes", *rule, "upheld", "--points", "2000", status=2, has=["refused F3 points"])
+    day.run("dora", "--yes", *rule, "rejected", status=2, has=["denied 2"])
+    day.run("rex", "--yes", "rule", "again", "rae", "q", "rejected", status=2, has=["denied 4"])
+    day.run("rex", *rule, "rejected", said="", status=1, has=["too small", "ruled once", "Nothing was done"])
+    room.at(start + 5400)
+    day.run("dora", "--yes", "publish", "again", status=2, has=["denied 16", "open 1"])
+    day.run("rex", *rule, "upheld", "--points", "-1", said="yes\n", has=["ruled upheld, -1 points"])
+    day.run("rex", "--yes", *rule, "upheld", "--points", "-1", has=["ruled upheld"])
+    day.run("rex", "--yes", *rule, "rejected", status=2, has=["denied 18", "A ruling is given once"])
+    day.room.between.plan += ["pass", "pass", "drop"]
+    day.run("dora", "--yes", "publish", "again", has=["again is published", "no reply"])
+    day.run("dora", "--yes", "publish", "again", status=2, has=["denied 15"])
+    day.run(None, "table", "again", "--csv", has=["1,rae,"])
+    room.at(FIRST - 3600)

@@ -1,0 +1,192 @@
+"""What may go wrong: cut starts, late answers, a full or shut browser, strangers between, crowds; and nginx."""
+import http.client
+import time
+
+from harness.checks import holds
+from page_tests.chromium import Browser
+from page_tests.place import MINUTES, Place, none, proxies, solved, until
+
+WALLS = ".board .wall"
+FILES = {"sl": "slither.txt", "nu": "nurikabe.txt"}
+# Seconds that a round still runs in which a browser is asked something, on a busy machine too.
+ASKED_FOR = 30
+SHUT = """Storage.prototype.setItem = () => { throw new Error('full'); };
+Storage.prototype.getItem = () => { throw new Error('shut'); };"""
+# A browser in which no more than so much may be kept under one name.
+NARROW = """const whole = Storage.prototype.setItem;
+Storage.prototype.setItem = function (name, text) {
+  if (name.startsWith('hall.drawing.') && text.length > 400) throw new DOMException('full', 'QuotaExceededError');
+  whole.call(this, name, text);
+};"""
+# What a school's filter, or the door of a hotel's network, answers in the hall's place, twice.
+STRANGER = """const real = fetch; let left = 2;
+window.fetch = (path, ...more) => (path.includes('/answers/') && left-- > 0
+  ? Promise.resolve(new Response('<h1>Log in</h1>', { status: 200, headers: { 'Content-Type': 'text/html' } }))
+  : real(path, ...more));"""
+
+# A proxy that tells no time, before a computer whose clock is two hours ahead.
+TIMELESS = """const now = Date.now, get = Headers.prototype.get;
+Date.now = () => now() + 7200000;
+Headers.prototype.get = function (name) { return name === 'Date' ? null : get.call(this, name); };"""
+
+
+def trial(program, pictures):
+    want = holds
+    with Place(program) as place:
+        for label, name in FILES.items():
+            place.put_puzzle(label, solved(program, name)[0])
+        with Browser(place, pictures) as browser:
+            begun = time.monotonic()
+            browser.enter("eve")
+            start = place.soon(begun)
+            place.put_round("r", "<b>Odd</b> & 'title'", start, ["nu"])
+            place.put_round("e", "Ending", start, ["sl"], mode="sealed", penalty=0)
+            browser.reload()
+            cut_start(place, browser, want, start)
+            too_late(place, browser, want)
+            asked_at_the_end(place, browser, want)
+            none("the page's code had no fault", browser.faults())
+        kept_nothing(place, pictures, want)
+        kept_little(place, pictures, want)
+        stranger(place, pictures, want)
+        timeless(place, pictures, want)
+        crowd(place, want)
+        behind_nginx(place, pictures, want)
+
+
+def cut_start(place, browser, want, start):
+    want("a title is text, never markup", browser.shows("<b>Odd</b>"))
+    browser.go("#/r/r")
+    browser.shows("come by themselves")
+    time.sleep(max(0.0, start - time.time() - 1.5))
+    place.kill_proxy()
+    want("a start without a connection is told", browser.shows("No connection", "#trouble"))
+    time.sleep(max(0.0, start - time.time() + 1))
+    browser.picture("start-cut")
+    place.start_proxy()
+    want("the puzzles come once it is back", browser.shows("Nurikabe", seconds=90))
+
+
+def too_late(place, browser, want):
+    """An answer that couldn't leave before the end."""
+    browser.open("e", 1, "Slitherlink")
+    browser.chord("\ue008", "\ue014")  # Shift and the arrow to the right
+    place.stop_hall()
+    browser.hand_in()
+    browser.choose(2)
+    want("a hall that is away is told", browser.shows("busy, or away", "#trouble"), browser.text("#trouble"))
+    browser.picture("away")
+    browser.open("r", 1, "Nurikabe")
+    want("puzzles may be changed while the hall is away", browser.count(".board .frame") == 1)
+    browser.open("e", 1, "Slitherlink")
+    # it comes back once the round has ended, and not sooner, since the page sends again by itself
+    place.begin_at(time.time() - 60 * MINUTES - 2, "e")
+    browser.try_now()
+    want("too late is told in words", browser.shows("had ended when this came", ".said"), browser.text(".said"))
+    browser.picture("too-late")
+
+
+def asked_at_the_end(place, browser, want):
+    """A question that is still open as its puzzle is left, and one as the round ends."""
+    place.begin_at(time.time() - 60 * MINUTES + ASKED_FOR, "e")
+    browser.reload()
+    browser.open("e", 1, "Slitherlink")
+    browser.hand_in()
+    want("an unfinished board asks before the end", browser.shows("Not finished?", "dialog"))
+    browser.go("#/r/e")
+    want("a question goes with its puzzle", until(lambda: not browser.count("dialog")))
+    browser.open("e", 1, "Slitherlink")
+    browser.hand_in()
+    browser.shows("Not finished?", "dialog")
+    want("a question goes at the round's end", until(lambda: not browser.count("dialog")))
+    want("and the end is told in its place", browser.shows("The round is over", "button.hand", seconds=5))
+    want("and nothing was handed in", place.answers("e", "eve") == [], place.answers("e", "eve"))
+
+
+def kept_nothing(place, pictures, want):
+    with Browser(place, pictures) as browser:
+        browser.before_load(SHUT)
+        browser.enter("gus")
+        browser.open("r", 1, "Nurikabe")
+        browser.wall()
+        want("a browser that keeps nothing says so", browser.shows("keeps nothing more", "#store"))
+        browser.picture("shut")
+        browser.go("#/r/r")
+        browser.shows("begun")
+        browser.open("r", 1, "Nurikabe")
+        want("and works on from memory", browser.count(WALLS) == 1)
+        browser.hand_in()
+        browser.choose(2)
+        want("and hands in", until(lambda: len(place.answers("r", "gus")) == 1))
+
+
+def kept_little(place, pictures, want):
+    with Browser(place, pictures) as browser:
+        browser.before_load(NARROW)
+        browser.enter("hal")
+        browser.open("r", 1, "Nurikabe")
+        browser.wall()
+        browser.keys(*" " * 40)
+        want("a full browser says that undo isn't kept", browser.shows("undo is lost", "#store"))
+        browser.reload()
+        browser.ready("1. Nurikabe")
+        want("and keeps what is drawn", browser.count(WALLS) == 0 and browser.count(".board .spot") == 1)
+
+
+def stranger(place, pictures, want):
+    with Browser(place, pictures) as browser:
+        browser.before_load(STRANGER)
+        browser.enter("ida")
+        browser.open("r", 1, "Nurikabe")
+        browser.wall()
+        browser.hand_in()
+        browser.choose(2)
+        want("the page of a stranger is no reply", browser.shows("Something between", "#trouble"))
+        want("and the answer goes again", until(lambda: len(place.answers("r", "ida")) == 1))
+
+
+def timeless(place, pictures, want):
+    with Browser(place, pictures) as browser:
+        browser.before_load(TIMELESS)
+        browser.enter("fay")
+        want("a page that isn't told the time says so", browser.shows("this computer's clock"))
+        browser.open("r", 1, "Nurikabe")
+        browser.wall()
+        browser.hand_in()
+        browser.choose(2)
+        want("and hands in nevertheless", until(lambda: len(place.answers("r", "fay")) == 1))
+
+
+def crowd(place, want):
+    """Many loads of the page from one address don't count; the hall's own paths do."""
+    line = http.client.HTTPConnection("127.0.0.1", place.front, timeout=60)
+
+    def status(path):
+        line.request("GET", path)
+        told = line.getresponse()
+        told.read()
+        return told.status
+    pages = {status(path) for _ in range(300) for path in ("/", "/page/main.js", "/page/board.js")}
+    want("900 requests for the page from one address are answered", pages == {200}, pages)
+    want("and the hall is still asked", status("/rounds") == 403)
+    asked = next((k for k in range(3000) if status("/rounds") == 429), None)
+    want("but not without end", asked, asked)
+    line.close()
+
+
+def behind_nginx(place, pictures, want):
+    try:
+        open(proxies.NGINX, "rb").close()
+    except OSError:
+        print("page: nginx is skipped, not installed")
+        return
+    server = proxies.our_nginx(place.front + 1, place.back, place.room)
+    try:
+        place.wait(place.front + 1)
+        with Browser(place, pictures) as browser:
+            browser.enter("hal", f"http://127.0.0.1:{place.front + 1}/")
+            browser.go("#/r/r")
+            want("behind nginx it is the same", browser.shows("Nurikabe"))
+    finally:
+        server.terminate()
+        server.wait()

@@ -1,0 +1,104 @@
+"""The file of a hall that serves is copied, while entrants hand in as fast as it takes them:
+examples/running/backup.sh.
+
+SQLite's own check passes on each copy. It holds each answer that was acknowledged before the copy began, and of each
+entrant the first ones without a gap.
+"""
+import contextlib
+import http.client
+import json
+import shutil
+import sqlite3
+import subprocess
+import threading
+import time
+
+import pytest
+from harness import filled, running
+from harness.checks import check, tell
+
+SCRIPT = f"{running.ROOT}/examples/running/backup.sh"
+# So many hand in at once: as many as harness/filled.py puts into the file. How many answers stand there before.
+ENTRANTS, ANSWERS, COPIES = 40, 10_000, 5
+MOST_EACH = 25 * 50
+
+
+class Entrant(threading.Thread):
+    """Hands in one answer after another, each once the last was acknowledged."""
+
+    def __init__(self, port, name, over):
+        super().__init__(daemon=True)
+        self.port, self.name_of, self.over, self.told = port, name, over, 0
+        self.start()
+
+    def run(self):
+        line = http.client.HTTPConnection("127.0.0.1", self.port, timeout=60)
+        headers, body = {"Hall-Key": f"{self.name_of}-key-{self.name_of}"}, json.dumps({"answer": filled.WRONG})
+        while self.told < MOST_EACH and not self.over.is_set():
+            place, token = self.told % 25 + 1, f"m{self.told}"
+            line.request("PUT", f"/rounds/now/answers/{place}/{token}", body, headers)
+            reply = line.getresponse()
+            if reply.status != 200 or b"received" not in reply.read():
+                raise ValueError(f"{self.name_of}'s answer {self.told} was told {reply.status}")
+            self.told += 1
+            # The hall ends a connection after 1,000 requests.
+            if self.told % 900 == 0:
+                line.close()
+
+
+def faults(copy, told):
+    """What is wrong with a copy, before which so many answers of each entrant were told."""
+    try:
+        with contextlib.closing(sqlite3.connect(copy)) as conn:
+            return list(faults_in(conn, told))
+    except sqlite3.DatabaseError as error:
+        return [str(error)]
+
+
+def faults_in(conn, told):
+    """The same of an open one."""
+    checked = conn.execute("PRAGMA integrity_check").fetchall()
+    if checked != [("ok",)]:
+        yield f"SQLite's check tells {checked[:3]}"
+    for name, least in told.items():
+        tokens = {token for (token,) in conn.execute("SELECT token FROM answers WHERE entrant = ?", (name,))}
+        if len(tokens) < least:
+            yield f"{name} has {len(tokens)} answers of {least} that were told"
+        if tokens != {f"m{k}" for k in range(len(tokens))}:
+            yield f"{name}'s answers have a gap"
+
+
+def copied(path, folder, program, entrants):
+    """What is wrong with one more copy, and how long it took to be made and opened."""
+    told = {it.name_of: it.told for it in entrants}
+    begun = time.monotonic()
+    made = subprocess.run([SCRIPT, path, folder, program], capture_output=True, check=False, timeout=600)
+    took = time.monotonic() - begun
+    if made.returncode != 0 or b"people" not in made.stdout:
+        return [f"backup.sh ended with {made.returncode}: {made.stderr.decode().strip()[-300:]}"], took
+    found = faults(f"{folder}/hall.db", told)
+    shutil.rmtree(folder)
+    return found, took
+
+
+@pytest.fixture
+def db(room):
+    filled.fill(f"{room}/hall.db", ANSWERS)
+    return f"{room}/hall.db"
+
+
+def test_copies(served, db, program, room):
+    over, times = threading.Event(), []
+    entrants = [Entrant(served[1], f"s{k}", over) for k in range(ENTRANTS)]
+    for number in range(COPIES):
+        found, took = copied(db, f"{room}/copy", program, entrants)
+        times.append(took)
+        check(f"copy {number}", found, [])
+    busy = sum(it.is_alive() for it in entrants)
+    over.set()
+    for it in entrants:
+        it.join()
+    told = sum(it.told for it in entrants)
+    tell(f"copies of a hall that serves: {told} answers were handed in meanwhile, {busy} entrants to the end; a copy "
+         f"took {sorted(times)[len(times) // 2]:.1f} s, at most {max(times):.1f}")
+    check(f"{told} answers are more than {COPIES} copies", told > COPIES, True)

@@ -1,0 +1,315 @@
+"""One running hall is asked by as many clients at once, good ones and slow ones.
+
+Each good client is answered within a second, whoever stalls; each slow one is cut when its time is up, as
+`hall serve --help` tells.
+"""
+import asyncio
+import contextlib
+import os
+import socket
+import subprocess
+import time
+
+import pytest
+from harness import database
+from harness.checks import check
+from harness.clients import EARLY, LAST, LATE, MOST, PATIENCE, Client, allow_many_files, many, status
+from harness.running import PEOPLE, connected, read_off, serving
+from harness.wire import replies, request
+
+# Within how many seconds a good client is answered.
+SOON = 1.0
+# A listing that no socket's buffers hold, of 12 MB: a director's, of 50 long answers of so many entrants.
+ENTRANTS, ANSWER = 60, 4_000
+ASKED = request("eve-key-1", "GET", "/rounds/r1").encode()
+LISTING = request("dora-key", "GET", "/rounds/r2/answers").encode()
+FLOOD = b"x" * (1 << 16)
+# How the system tells of a socket that listens.
+LISTENING = "0A"
+CLOSING = ASKED.replace(b"\r\n\r\n", b"\r\nConnection: close\r\n\r\n", 1)
+
+
+def hall_file(path):
+    """A file with a published round, and one with long answers."""
+    people = ", ".join(f"('e{k}', 'many-key-{k}', 8)" for k in range(ENTRANTS))
+    answers = ", ".join(
+        f"('e{k}', 'r2', 1, 't{n}', {n}, 1777712500, '{'x' * ANSWER}', 1)"
+        for k in range(ENTRANTS) for n in range(1, 51))
+    rows = f"INSERT INTO people VALUES {people}; INSERT INTO answers VALUES {answers}"
+    database.written(path, database.TABLES, database.ROWS, rows)
+
+
+async def sends_nothing(port):
+    async with Client(port) as client:
+        check("a client that sends nothing is sent", await client.rest(), b"")
+        client.was_cut("a client that sends nothing", PATIENCE)
+
+
+async def half_a_request(port):
+    async with Client(port) as client:
+        await client.send(ASKED[:20])
+        check("half a request is sent", await client.rest(), b"")
+        client.was_cut("half a request", PATIENCE)
+
+
+async def a_byte_at_a_time(port):
+    async with Client(port) as client:
+        await client.send(b"GET /")
+        begun, ended = client.since, asyncio.create_task(client.rest())
+        while not ended.done():
+            await asyncio.sleep(0.5)
+            try:
+                await client.send(b"x")
+            except OSError:
+                break
+        await ended
+        client.since = begun
+        client.was_cut("a byte every half second", PATIENCE)
+
+
+async def takes_no_reply(port):
+    async with Client(port, 4096) as client:
+        await client.send(LISTING)
+        await client.more(1)
+        await asyncio.sleep(PATIENCE + LATE)
+        check("a reply that isn't taken is whole", status(await client.rest()), 0)
+
+
+async def takes_a_reply_slowly(port):
+    async with Client(port, 4096) as client:
+        await client.send(LISTING)
+        await asyncio.sleep(PATIENCE / 2)
+        check("a reply that is taken in time", status(await client.reply()), 200)
+
+
+async def takes_a_reply_in_bits(port):
+    """Its patience isn't begun anew with each bit that it takes."""
+    async with Client(port, 4096) as client:
+        await client.send(LISTING)
+        await client.more(1)
+        begun = time.monotonic()
+        while time.monotonic() - begun < PATIENCE + LATE:
+            await client.more(4096)
+            await asyncio.sleep(0.1)
+        check("a reply that is taken in bits for too long is whole", status(await client.rest()), 0)
+
+
+async def sends_after_the_end(port, name, piece, pause, early=EARLY):
+    """Sends the piece again and again after the last reply, with so many seconds between."""
+    async with Client(port) as client:
+        await client.send(CLOSING)
+        check(f"the last reply to {name}", status(await client.reply()), 200)
+        begun = client.since
+        with contextlib.suppress(OSError):
+            while time.monotonic() - begun < PATIENCE:
+                await client.send(piece)
+                await asyncio.sleep(pause)
+        client.since = begun
+        client.was_cut(name, LAST, early)
+
+
+async def goes_on_after_the_end(port):
+    await sends_after_the_end(port, "a client that goes on after the end", b"x", 0.1)
+
+
+async def floods_after_the_end(port):
+    await sends_after_the_end(port, "a flood after the end", FLOOD, 0.001, LAST)
+
+
+async def good(port, slowest):
+    """Asks every second, on one connection and on one of its own for each request."""
+    async with Client(port) as kept:
+        for turn in range(PATIENCE):
+            await kept.send(ASKED)
+            check("a kept connection's reply", status(await kept.reply()), 200)
+            slowest.append(kept.took())
+            async with Client(port) as once:
+                await once.send(CLOSING)
+                check("a reply and the end", status(await once.rest()), 200)
+                slowest.append(once.took())
+            await asyncio.sleep(1)
+
+
+async def pipelined(port, count):
+    async with Client(port) as client:
+        sending = asyncio.create_task(client.send(ASKED * count))
+        found = [status(await client.reply()) for _ in range(min(count, 1000))]
+        await sending
+        check(f"{count} requests in one write", set(found), {200})
+        if count > 1000:
+            check(f"what comes after 1,000 of {count} replies", await client.rest(), b"")
+
+
+async def in_single_bytes(port):
+    async with Client(port) as client:
+        for byte in ASKED:
+            await client.send(bytes([byte]))
+            await asyncio.sleep(0.001)
+        check("a request in single bytes", status(await client.reply()), 200)
+        await client.send(ASKED)
+        check("a request after one in single bytes", status(await client.reply()), 200)
+
+
+async def half_and_the_end(port):
+    async with Client(port) as client:
+        await client.send(ASKED + ASKED[:20])
+        client.it.shutdown(socket.SHUT_WR)
+        check("a whole request before the end", status(await client.reply()), 200)
+        check("half a request before the end", status(await client.rest()), 400)
+    async with Client(port) as client:
+        await client.send(ASKED * 3)
+        client.it.shutdown(socket.SHUT_WR)
+        check("three requests before the end", len(replies(await client.rest())), 3)
+
+
+async def no_request(port):
+    async with Client(port) as client:
+        await client.send(ASKED + b"no request\r\n\r\n" + ASKED)
+        read = replies(await client.rest())
+        check("what is no request", [status(it) for it in read], [200, 400])
+
+
+async def a_thousand(port):
+    async with Client(port) as client:
+        for _ in range(1000):
+            await client.send(ASKED)
+            if status(await client.reply()) != 200:
+                check("1,000 requests on a connection", False, True)
+        check("what comes after 1,000 requests", await client.rest(), b"")
+        check("1,000 requests end a connection", client.took() < SOON, True)
+
+
+async def more_than_there_is_room_for(port):
+    """The idle ones make room."""
+    async with many(port, MOST + 20) as clients:
+        await asyncio.sleep(SOON)
+        async with Client(port) as client:
+            await client.send(ASKED)
+            check("a client among many idle ones", status(await client.reply()), 200)
+            check("a client among many idle ones is answered soon", client.took() < SOON, True)
+        ended = [asyncio.create_task(client.rest()) for client in clients]
+        await asyncio.sleep(0.2)
+        gone = sum(it.done() for it in ended)
+        check(f"{gone} idle clients of {len(clients)} made room", 20 <= gone < MOST, True)
+        for it in ended:
+            it.cancel()
+        await asyncio.gather(*ended, return_exceptions=True)
+
+
+async def a_taker_among_more_than_there_is_room_for(port):
+    """Who takes a reply makes no room, though it is the one that came first."""
+    async with Client(port, 4096) as taker:
+        await taker.send(LISTING)
+        await taker.more(4096)
+        async with many(port, MOST + 20):
+            await asyncio.sleep(3 * SOON)
+            check("a reply that is taken slowly in a full house", status(await taker.reply()), 200)
+
+
+async def a_full_house(port):
+    """Where nobody may go a newcomer waits, and is let in soon after somebody went."""
+    async with many(port, MOST) as clients:
+        await asyncio.gather(*(client.send(ASKED[:20]) for client in clients))
+        await asyncio.sleep(SOON)
+        async with many(port, 20) as newcomers:
+            await asyncio.gather(*(client.send(ASKED) for client in newcomers))
+            told = [asyncio.create_task(client.reply()) for client in newcomers]
+            await asyncio.wait(told, timeout=SOON)
+            check("newcomers that a full house answers", sum(it.done() for it in told), 0)
+            for client in clients[:len(newcomers)]:
+                client.it.close()
+            await asyncio.wait(told, timeout=3 * SOON)
+            found = [status(it.result()) if it.done() else None for it in told]
+            check("newcomers that came to a full house", found, [200] * len(newcomers))
+
+
+async def all_at_once(port):
+    slow = [sends_nothing, half_a_request, a_byte_at_a_time, takes_no_reply]
+    once = [in_single_bytes, half_and_the_end, no_request, a_thousand, takes_a_reply_slowly, takes_a_reply_in_bits,
+            goes_on_after_the_end, floods_after_the_end]
+    slowest = []
+    clients = [it(port) for it in slow for _ in range(5)] + [it(port) for it in once]
+    clients += [pipelined(port, 50), pipelined(port, 1001)]
+    clients += [good(port, slowest) for _ in range(100)]
+    for ended in await asyncio.gather(*clients, return_exceptions=True):
+        if isinstance(ended, Exception):
+            check("a client", repr(ended), "no fault")
+    check(f"the slowest of {len(slowest)} replies took {max(slowest):.3f} seconds", max(slowest) < SOON, True)
+    for it in (more_than_there_is_room_for, a_taker_among_more_than_there_is_room_for, a_full_house):
+        await it(port)
+
+
+def listens_here_alone(server, port):
+    """Sees that the program listens on the one port, for clients of this machine alone."""
+    folder, own, found = f"/proc/{server.pid}/fd", set(), []
+    for it in os.listdir(folder):
+        with contextlib.suppress(FileNotFoundError):
+            own.add(os.readlink(f"{folder}/{it}"))
+    for name in ("tcp", "tcp6"):
+        with open(f"/proc/net/{name}", encoding="ascii") as file:
+            rows = [line.split() for line in file.readlines()[1:]]
+        found += [row[1] for row in rows if row[3] == LISTENING and f"socket:[{row[9]}]" in own]
+    check("where the hall listens", found, [f"0100007F:{port:04X}"])
+
+
+def last_connections(program, path):
+    """The last reply of the last connection comes whole, and then the program ends."""
+    with serving(path, 3, program) as (server, port):
+        connected(server, port).close()
+        clients = [connected(server, port) for _ in range(2)]
+        for client in clients:
+            client.sendall(LISTING.replace(b"\r\n\r\n", b"\r\nConnection: close\r\n\r\n", 1))
+        time.sleep(1)
+        for client in clients:
+            check("a reply of the last connections", status(read_off(client)), 200)
+            client.close()
+        check("the end after the last connection", server.wait(timeout=PATIENCE), 0)
+
+
+def told_by(program, path, known, ask):
+    """Serves the file while `ask` asks, and sees that the hall tells its address, the file and what it knows."""
+    with serving(path, 1_000_000, program, stderr=subprocess.PIPE) as (server, port):
+        connected(server, port).close()
+        ask(server, port)
+        server.terminate()
+        told = server.communicate()[1].decode()
+    check("what is told", told, f"hall: serving 127.0.0.1:{port} from {path}{known}\n")
+
+
+@pytest.fixture
+def path(room):
+    """A hall with two rounds."""
+    hall_file(f"{room}/hall.db")
+    return f"{room}/hall.db"
+
+
+@pytest.mark.alone
+def test_good_and_slow_clients(program, path):
+    allow_many_files()
+    told_by(program, path, f", people {5 + ENTRANTS}, rounds 2", lambda _, port: asyncio.run(all_at_once(port)))
+
+
+def test_the_last_connections(program, path):
+    last_connections(program, path)
+
+
+def test_each_connection_counts_once(program, path):
+    """One that is cut because it stalls counts as one, so that those after it are served, as many as there may be."""
+    with serving(path, 4, program) as (server, port):
+        with connected(server, port, PATIENCE + LAST + LATE) as stalls:
+            stalls.sendall(ASKED[:20])
+            check("who stalls is sent", read_off(stalls), b"")
+        for number in range(2, 5):
+            with connected(server, port) as client:
+                client.sendall(CLOSING)
+                check(f"the reply to connection {number} of 4", status(read_off(client)), 200)
+        check("the end after the fourth", server.wait(timeout=PATIENCE), 0)
+
+
+def test_where_a_hall_listens(program, path, room):
+    """One with a row that is no record, and a new one."""
+    database.written(path, "UPDATE people SET roles = 0 WHERE name = 'e1'")
+    told_by(program, path, "", listens_here_alone)
+    new = f"{room}/new.db"
+    subprocess.run([program, "init", "--db", new, "--people", PEOPLE], check=True, stdout=subprocess.DEVNULL)
+    told_by(program, new, ", people 6, rounds 0", listens_here_alone)

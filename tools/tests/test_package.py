@@ -1,0 +1,309 @@
+"""The Debian package of the built program is made, installed into a root of its own, and makes and serves a hall there.
+
+A program that is built without proofs may be tried so: its package has `~unproved` in its version, and
+`./hall --package` refuses to make it.
+"""
+import contextlib
+import glob
+import gzip
+import json
+import os
+import re
+import shutil
+import subprocess
+import sys
+import tempfile
+import urllib.error
+import urllib.request
+
+import pytest
+from harness import clean_root, running
+from harness.checks import tell
+
+sys.path[:0] = [f"{running.ROOT}/tools/build", f"{running.ROOT}/tools/pages"]
+import manual  # noqa: E402
+import package  # noqa: E402
+
+# The exposure of the unit by `systemd-analyze security`, in tenths of a point, at the most.
+EXPOSURE = 20
+WAIT = 20
+# From the package's file to the first reply, in seconds, at the most.
+FROM_FILE_TO_REPLY = 180
+
+
+def need(*commands):
+    for it in commands:
+        if not shutil.which(it):
+            pytest.skip(f"the command {it} isn't there")
+
+
+def same(got, wanted, what):
+    if got != wanted:
+        raise AssertionError(f"{what}: {got!r} and not {wanted!r}")
+
+
+def ran(*words, **how):
+    return subprocess.run(words, capture_output=True, text=True, timeout=300, check=False, **how)
+
+
+def done(*words, **how):
+    """What a command that must do well writes."""
+    it = ran(*words, **how)
+    same(it.returncode, 0, f"{' '.join(words)}: {it.stdout}{it.stderr}")
+    return it.stdout + it.stderr
+
+
+def text_of(page):
+    """The words of a manual page without what is for troff alone."""
+    kept = [re.sub(r"^\.B ", "", it) for it in page.split("\n") if not re.match(r"\.(?!B )", it)]
+    return " ".join(kept).replace("\\&", "").replace("\\-", "-").replace("\\e", "\\").split()
+
+
+class Made:
+    """A package of the program, in a room, and its files."""
+
+    def __init__(self, program, room):
+        self.program, self.room = program, room
+        self.path = package.make(program, room)
+        self.commit = package.git("rev-parse", "HEAD")
+        self.version = os.path.basename(self.path).split("_")[1]
+        self.files = f"{room}/files"
+        done("dpkg-deb", "-x", self.path, self.files)
+
+
+@pytest.fixture(scope="module")
+def made(program):
+    need("dpkg-deb", "git")
+    with tempfile.TemporaryDirectory(prefix="hall-package-test-") as room:
+        os.chmod(room, 0o755)
+        yield Made(os.path.realpath(program), room)
+
+
+def test_a_program_without_proofs_is_refused_by_name(made):
+    stand_in = f"{made.room}/stand-in"
+    with open(made.program, "rb") as file, open(stand_in, "wb") as copy:
+        copy.write(file.read() + package.UNPROVED)
+    it = ran(sys.executable, f"{package.ROOT}/tools/build/package.py", stand_in, made.room)
+    same(it.returncode, 3, "the status")
+    wanted = f"hall: {stand_in} is built without proofs, and only a proved program is packaged: ./hall --package\n"
+    same(it.stderr, wanted, "what is told")
+
+
+def test_two_packages_have_the_same_bytes(made):
+    again = f"{made.room}/again"
+    os.mkdir(again)
+    # As another user makes it, elsewhere.
+    before = os.umask(0o077)
+    os.environ["TZ"] = "Pacific/Auckland"
+    try:
+        second = package.read(package.make(made.program, again), "rb")
+    finally:
+        os.umask(before)
+        del os.environ["TZ"]
+    same(second == package.read(made.path, "rb"), True, "whether the second package has the bytes of the first")
+
+
+def test_the_program_is_as_it_was_built(made):
+    same(package.read(f"{made.files}/usr/bin/hall", "rb"), package.read(made.program, "rb"), "usr/bin/hall")
+    origin = package.read(f"{made.files}/usr/share/doc/hall/VERSION").split("\n")
+    built = "without proofs" if package.is_unproved(made.program) else "of proofs"
+    same(origin[2], f"built {built}", "what VERSION tells")
+    same(origin[3], "sha256 " + done("sha256sum", made.program).split()[0], "the sum in VERSION")
+
+
+def test_lintian_finds_nothing_above_a_note(made):
+    need("lintian")
+    # As root it says that it had better not be.
+    said = done("lintian", "--fail-on", "error,warning", "--allow-root", made.path)
+    same(said.strip(), "", "what lintian says")
+
+
+def page(made, name):
+    """The words of a manual page."""
+    with gzip.open(f"{made.files}/usr/share/man/man1/{name}.1.gz", "rt", encoding="utf-8") as file:
+        return " ".join(text_of(file.read()))
+
+
+def test_the_manual_page_tells_version_commit_and_whether_it_was_proved(made):
+    origin = package.read(f"{made.files}/usr/share/doc/hall/VERSION")
+    told = rf"hall {re.escape(made.version)}\ncommit {made.commit}( and changes)?\nbuilt (of|without) proofs\n"
+    assert re.match(told, origin), origin
+    assert " ".join(origin.split()) in page(made, "hall"), f"hall(1) lacks {origin}"
+
+
+def test_manual_pages_say_what_help_says(made):
+    for program in filter(os.path.isfile, (made.program, package.HALLCTL)):
+        of = manual.help_of(program)
+        text = page(made, of.name)
+        for it in of.all():
+            assert " ".join(it.text.split()) in text, f"the page {of.name}(1) lacks the help of {it.name}"
+
+
+def test_manual_pages_are_laid_out_without_a_warning(made):
+    need("man")
+    for path in sorted(glob.glob(f"{made.files}/usr/share/man/man1/*.gz")):
+        shown = ran("man", "--warnings", "-l", path, env={**os.environ, "MANWIDTH": "100", "LC_ALL": "C.UTF-8"})
+        same((shown.returncode, shown.stderr), (0, ""), path)
+        assert "DESCRIPTION" in shown.stdout, path
+
+
+def test_hallctl_runs_where_it_is_installed(made):
+    if not os.path.isfile(package.HALLCTL):
+        pytest.skip("clients/hallctl isn't there")
+    same(done(f"{made.files}/usr/bin/hallctl", "--help", env={**os.environ, "COLUMNS": str(manual.WIDTH)}),
+         manual.help_of(package.HALLCTL).text, "the help of the installed hallctl")
+
+
+def test_completion_offers_commands_options_and_files(made):
+    need("bash")
+    there = f"{made.room}/people.csv"
+    shutil.copy(running.PEOPLE, there)
+    for words, wanted in (
+        (["hall", "se"], ["serve"]),
+        (["hall", "serve", "--"], ["--db", "--port", "--connections", "--help"]),
+        (["hall", "init", "--people", there[:-4]], [there]),
+        (["hall", "serve", "--port", ""], []),
+        (["hallctl", "round", "rel"], ["release"]),
+        (["hallctl", "round", "release", "noon", "--sheet", there[:-4]], [there]),
+    ):
+        same(completed(made, words), wanted, f"the completion of {words}")
+
+
+def completed(made, words):
+    at = f"{made.files}/usr/share/bash-completion/completions/{words[0]}"
+    given = 'COMP_WORDS=("$@"); COMP_CWORD=$(($# - 1))'
+    asked = f"source {at}; {given}; _{words[0]}; printf '%s\\n' \"${{COMPREPLY[@]}}\""
+    return done("bash", "-c", asked, "bash", *words).split()
+
+
+def test_the_unit_is_sound_and_shut_off(made):
+    need("systemd-analyze")
+    unit = f"{made.room}/hall.service"
+    with open(unit, "w", encoding="utf-8") as file:
+        # The program must be where the unit says.
+        text = package.read(f"{made.files}/lib/systemd/system/hall.service")
+        file.write(text.replace("/usr/bin/hall", f"{made.files}/usr/bin/hall"))
+    same(done("systemd-analyze", "verify", "--man=no", unit), "", "what systemd-analyze says of the unit")
+    done("systemd-analyze", "security", "--offline=true", f"--threshold={EXPOSURE}", unit)
+
+
+def test_the_page_followed_word_by_word_serves_within_three_minutes(made):
+    need(*clean_root.NEEDED)
+    if os.geteuid() != 0 or not clean_root.can_be_laid_out():
+        pytest.skip("only root can lay a clean root out, where the system lets it")
+    said, reply, wanted, took = clean_root.follow(made.path, made.room)
+    same(reply, wanted, f"the reply, after {said}")
+    assert took <= FROM_FILE_TO_REPLY, f"it took {took:.0f} seconds"
+    tell(f"package: from the file to {reply} by the page in {took:.1f} s")
+
+
+def test_a_hall_of_an_installed_package_outlives_upgrade_removal_and_purge(made):
+    need("dpkg", "systemd-sysusers", "systemd-tmpfiles")
+    before = package.make(made.program, made.room, version="0.0.1")
+    with Root(made.room) as root:
+        root.install(before)
+        root.make_hall()
+        port = root.set_port()
+        with root.serving(port) as told:
+            same(told, {"denied": 1}, "the reply to a stranger")
+        kept = root.database()
+        assert all(kept) and len(kept) == 2, "there is no database with its log to be kept"
+        same(root.version(), made.version.replace(package.versions()[0][0], "0.0.1"), "the version before")
+        root.install(made.path)
+        same(root.version(), made.version, "the version after an upgrade")
+        same(root.database(), kept, "the database after an upgrade")
+        same(root.port(), port, "the port that was set, after an upgrade")
+        with root.serving(port) as told:
+            same(told, {"denied": 1}, "the reply to a stranger after an upgrade")
+        kept = root.database()
+        root.dpkg("--remove", "hall")
+        same(root.database(), kept, "the database after the removal")
+        assert not os.path.exists(f"{root.at}/usr/bin/hall"), "the program is still there"
+        assert os.path.exists(f"{root.at}/etc/hall/hall.conf"), "the settings are gone with the removal"
+        said = root.dpkg("--purge", "hall")
+        same(root.database(), kept, "the database after the purge")
+        assert "what /var/lib/hall holds is left there" in said, said
+        assert not os.path.exists(f"{root.at}/etc/hall"), "the settings are there after the purge"
+
+
+class Root:
+    """A folder that stands for the root of a machine. Maintainer scripts run as there."""
+
+    def __init__(self, room):
+        if os.geteuid() != 0:
+            pytest.skip("only root can install it into a root of its own")
+        self.at = tempfile.mkdtemp(dir=room, prefix="root-")
+        os.chmod(self.at, 0o755)
+
+    def __enter__(self):
+        for it in ("etc", "var/lib/dpkg/info", "var/lib/dpkg/updates"):
+            os.makedirs(f"{self.at}/{it}")
+        open(f"{self.at}/var/lib/dpkg/status", "w", encoding="utf-8").close()
+        return self
+
+    def __exit__(self, *_):
+        shutil.rmtree(self.at)
+
+    def dpkg(self, *words):
+        forced = [f"--force-{it}" for it in ("script-chrootless", "depends", "confold")]
+        return done("dpkg", f"--root={self.at}", *forced, *words)
+
+    def install(self, made):
+        self.dpkg("--install", made)
+
+    def version(self):
+        """The version that is installed."""
+        return done("dpkg-query", f"--admindir={self.at}/var/lib/dpkg", "--show", "--showformat=${Version}", "hall")
+
+    def ids(self):
+        """The user and group that the package made."""
+        line = next(it for it in package.read(f"{self.at}/etc/passwd").split("\n") if it.startswith("hall:"))
+        return {"user": int(line.split(":")[2]), "group": int(line.split(":")[3]), "extra_groups": []}
+
+    def make_hall(self):
+        folder = os.stat(f"{self.at}/var/lib/hall")
+        same((folder.st_uid, folder.st_mode & 0o777), (self.ids()["user"], 0o700), "owner and mode of /var/lib/hall")
+        words = ["init", "--db", f"{self.at}/var/lib/hall/hall.db", "--people", "/dev/stdin"]
+        with open(running.PEOPLE, "rb") as people:
+            same(done(f"{self.at}/usr/bin/hall", *words, stdin=people, **self.ids()), "added 6\n", "what init says")
+
+    def database(self):
+        return [package.read(it, "rb") for it in sorted(glob.glob(f"{self.at}/var/lib/hall/hall.db*"))]
+
+    def settings(self):
+        return dict(re.findall(r"^(\w+)=(.*)$", package.read(f"{self.at}/etc/hall/hall.conf"), re.M))
+
+    def port(self):
+        return int(self.settings()["HALL_PORT"])
+
+    def set_port(self):
+        """Sets a free port, as an operator edits the file."""
+        path, port = f"{self.at}/etc/hall/hall.conf", running.free_port()
+        text = package.read(path).replace("HALL_PORT=8080", f"HALL_PORT={port}")
+        with open(path, "w", encoding="utf-8") as file:
+            file.write(text)
+        return port
+
+    @contextlib.contextmanager
+    def serving(self, port):
+        """The hall as its unit starts it, and what it replies to a stranger."""
+        unit = package.read(f"{self.at}/lib/systemd/system/hall.service")
+        words = re.search(r"^ExecStart=(.*)$", unit, re.M)[1]
+        for name, value in self.settings().items():
+            words = words.replace(f"${{{name}}}", value)
+        words = [f"{self.at}{it}" if it.startswith("/") else it for it in words.split()]
+        with subprocess.Popen(words, stderr=subprocess.PIPE, text=True, **self.ids()) as server:
+            try:
+                line = server.stderr.readline()
+                same(line, f"hall: serving 127.0.0.1:{port} from {words[3]}, people 6, rounds 0\n", "what serve says")
+                yield asked(port)
+            finally:
+                server.kill()
+
+
+def asked(port):
+    try:
+        with urllib.request.urlopen(f"http://127.0.0.1:{port}/rounds", timeout=WAIT) as reply:
+            return json.load(reply)
+    except urllib.error.HTTPError as refused:
+        return json.load(refused)
