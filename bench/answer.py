@@ -9,18 +9,19 @@ default the one in crates/hall/out. The first table has, for a request of 10,000
 - the desk: a plan and its commit (as bench/desk.py measures them);
 - `replay` over records in memory;
 - `serve` over connections of 500 requests in memory, at most 4,096 bytes or one byte a read;
-- `hall replay` over a pipe, with the people and rounds of bench/replay.py, as that measures it: of its hand-ins all but 250 are denied.
+- `hall replay` over a pipe, with the people and rounds of bench/replay.py, as that measures it: of its hand-ins all but
+  250 are denied.
 
-The second has the time of one request that comes a byte a read. All are the least of ten runs, of `hall replay` of five.
+The second has the time of one request that comes a byte a read. All are the least of ten runs, of `hall replay` of
+five.
 """
 import argparse
 import subprocess
 import sys
 
-import desk
-import replay
+import lent
 from desk_program import build
-from wire import record, request
+from harness.wire import record, request
 
 RUNS = 10
 COUNT = 10000
@@ -70,7 +71,7 @@ def fronts(program, word, rows, requests):
     records = "".join(record(DURING, asked) for asked in requests)
     connections = ["".join(requests[at : at + CONNECTION]) for at in range(0, COUNT, CONNECTION)]
     return {
-        "desk alone": lambda: desk.run(program, word, STORED, rows, COUNT),
+        "desk alone": lambda: lent.run_desk(program, word, STORED, rows, COUNT),
         "replay": lambda: answer(program, "replay", rows, CHUNK, [records], COUNT),
         "serve": lambda: answer(program, "serve", rows, CHUNK, connections, COUNT),
         "a byte a read": lambda: answer(program, "serve", rows, 1, connections, COUNT),
@@ -79,12 +80,12 @@ def fronts(program, word, rows, requests):
 
 def replayed(hall, word, made, stored):
     """The microseconds of a request of `hall replay`."""
-    opening = replay.opening(stored)
+    opening = lent.opening(stored)
     if word == "submit":
-        requests = [replay.submit(place) for place in range(COUNT)]
+        requests = [lent.submit(place) for place in range(COUNT)]
     else:
-        requests = [record(replay.DURING, made(place)) for place in range(COUNT)]
-    return 1e6 * (replay.least_time(hall, opening + requests) - replay.least_time(hall, opening)) / COUNT
+        requests = [record(lent.DURING, made(place)) for place in range(COUNT)]
+    return 1e6 * (lent.least_time(hall, opening + requests) - lent.least_time(hall, opening)) / COUNT
 
 
 def measure_kind(program, hall, kind):
@@ -100,7 +101,8 @@ def measure_kind(program, hall, kind):
 
 
 def long_request(head, body, name=""):
-    """A request of so many bytes of head and of body. The head is filled up by the value of a header, or by its name."""
+    """A request of so many bytes of head and of body. The head is filled up by the value of a header, or by its
+    name."""
     start = f"POST /nothing HTTP/1.1\r\nContent-Length: {body}\r\n"
     filling = "x" * (head - len(start) - len("A: b\r\n\r\n"))
     if filling:
@@ -137,7 +139,7 @@ def measure_long(program):
 def main():
     parser = argparse.ArgumentParser(description=__doc__, formatter_class=argparse.RawDescriptionHelpFormatter)
     parser.add_argument("desk", nargs="?")
-    parser.add_argument("hall", nargs="?", default=replay.PROGRAM)
+    parser.add_argument("hall", nargs="?", default=lent.PROGRAM)
     args = parser.parse_args()
     program = args.desk or build()
     names = ["desk alone", "replay", "serve", "a byte a read", "hall replay"]

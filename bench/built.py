@@ -11,7 +11,7 @@ import tempfile
 
 BENCH = os.path.dirname(os.path.realpath(__file__))
 ROOT = os.path.dirname(BENCH)
-sys.path.insert(0, f"{ROOT}/tools")
+sys.path.insert(0, f"{ROOT}/tools/build")
 import build as builder  # noqa: E402
 
 ENDING = ".rattle"

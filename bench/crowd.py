@@ -12,6 +12,7 @@ answered: within LIMIT seconds. With --stalling 20 clients more trickle, stall, 
 try is lost, or refused by the proxy, tries again after a pause, and its time goes on.
 """
 import argparse
+import http.server
 import itertools
 import json
 import os
@@ -20,17 +21,16 @@ import signal
 import socket
 import sqlite3
 import subprocess
-import sys
 import tempfile
 import threading
 import time
 from dataclasses import dataclass, field
 
-ROOT = os.path.dirname(os.path.dirname(os.path.realpath(__file__)))
-sys.path[:0] = [f"{ROOT}/bench", f"{ROOT}/tools", f"{ROOT}/examples/running"]
-import serve  # noqa: E402
-import proxies  # noqa: E402
-from files import SUDOKU, TABLES  # noqa: E402
+from lent import ROOT, Plain, sized, wait_for
+from harness import proxies
+from harness.database import SUDOKU, TABLES
+from harness.filled import RIGHT, WRONG
+from harness.running import free_port
 
 PUZZLES = {"one": 1, "many": 25}
 
@@ -43,14 +43,14 @@ def fill(path, clients):
     people = [("bob", "bob-key-1", 2), *((f"c{k}", f"c{k}-key-1", 8) for k in range(clients))]
     conn.executemany("INSERT INTO people VALUES (?, ?, ?)", people)
     conn.executemany("INSERT INTO puzzles VALUES ('bob', ?, ?, 1, ?)",
-                     [(f"p{k}", SUDOKU, serve.RIGHT) for k in range(25)])
+                     [(f"p{k}", SUDOKU, RIGHT) for k in range(25)])
     for name, size in PUZZLES.items():
         rounds = [(name, now - 600, 1440, 0), (f"{name}-then", now - 100_000, 60, 1)]
         conn.executemany("INSERT INTO rounds VALUES (?, 'Crowd', ?, ?, 0, 0, 5, 2, 1, ?)", rounds)
         conn.executemany("INSERT INTO round_puzzles VALUES (?, ?, 'bob', ?, 40)",
                          [(round[0], k + 1, f"p{k}") for round in rounds for k in range(size)])
         conn.executemany("INSERT INTO answers VALUES (?, ?, ?, 't', 1, ?, ?, 20)",
-                         [(f"c{k}", f"{name}-then", k % size + 1, now - 99_000, serve.WRONG) for k in range(clients)])
+                         [(f"c{k}", f"{name}-then", k % size + 1, now - 99_000, WRONG) for k in range(clients)])
     conn.commit()
     conn.close()
 
@@ -68,7 +68,7 @@ def asked(kind, round, client, each):
         else:
             # The second one is the first again.
             place, token = (k // 2 if k < 2 else k) % PUZZLES[round] + 1, 0 if k < 2 else k
-            yield "PUT", f"/rounds/{round}/answers/{place}/m{token}", key, json.dumps({"answer": serve.WRONG})
+            yield "PUT", f"/rounds/{round}/answers/{place}/m{token}", key, json.dumps({"answer": WRONG})
 
 
 # What is asked, how often by each client as a part of --each, and at least.
@@ -97,7 +97,7 @@ class Told:
 
 def crowd(client, port, kind, round, clients, each, keep, limit):
     """Has the crowd ask, and tells what came of it: each is to be answered 200, a repeated Submit as the first was."""
-    requests = [(k, serve.record(*request)) for k in range(clients) for request in asked(kind, round, k, each)]
+    requests = [(k, sized(*request)) for k in range(clients) for request in asked(kind, round, k, each)]
     text = "".join(f"{k} {text if keep else closing(text)}" for k, text in requests)
     before = processor_time()
     ran = subprocess.run([client, str(port), str(int(keep)), "0", str(limit)], input=text.encode(),
@@ -253,10 +253,10 @@ def plain_server(path, port):
     if made:
         return made
     os.dup2(os.open(os.devnull, os.O_WRONLY), 2)
-    serve.Plain.conn = sqlite3.connect(path)
-    serve.Plain.conn.execute("PRAGMA synchronous = FULL")
-    serve.http.server.HTTPServer.request_queue_size = 128
-    server = serve.http.server.HTTPServer(("127.0.0.1", port), serve.Plain)
+    Plain.conn = sqlite3.connect(path)
+    Plain.conn.execute("PRAGMA synchronous = FULL")
+    http.server.HTTPServer.request_queue_size = 128
+    server = http.server.HTTPServer(("127.0.0.1", port), Plain)
     server.socket.setsockopt(socket.IPPROTO_TCP, socket.TCP_NODELAY, 1)
     server.serve_forever()
     os._exit(0)
@@ -265,7 +265,7 @@ def plain_server(path, port):
 def measure(tools, name, setting, args):
     with tempfile.TemporaryDirectory(prefix="hall-crowd-", dir=args.folder) as room:
         fill(f"{room}/hall.db", args.clients)
-        back = front = serve.free_port()
+        back = front = free_port()
         if setting.plain:
             server = plain_server(f"{room}/hall.db", back)
         else:
@@ -273,11 +273,11 @@ def measure(tools, name, setting, args):
             server = subprocess.Popen(words, stderr=subprocess.DEVNULL).pid
         proxy = stalling = None
         try:
-            serve.wait_for(back)
+            wait_for(back)
             if setting.proxy:
-                front = serve.free_port()
+                front = free_port()
                 proxy = setting.proxy(front, back, room)
-                serve.wait_for(front)
+                wait_for(front)
             if args.stalling:
                 stalling = Stalling(front)
                 stalling.start()

@@ -11,10 +11,9 @@ rounds, the one of the hand-ins among them. The time is the processor time of th
 the least of ten runs. The script checks that all replies are as wanted.
 """
 import argparse
-import subprocess
-import sys
 
 from desk_program import build
+from lent import run_desk
 
 RUNS = 10
 # What is measured, the word for it, the rows of a listing, and how many requests.
@@ -27,18 +26,6 @@ MEASURES = [
 ]
 
 
-def run(program, word, stored, rows, count):
-    """The nanoseconds of processor time that the requests took."""
-    words = [program, word, str(stored), str(rows), str(count)]
-    done = subprocess.run(words, capture_output=True, text=True, check=False)
-    if done.returncode:
-        sys.exit(f"{' '.join(words)} ended with status {done.returncode}")
-    wanted, spent = map(int, done.stdout.split())
-    if wanted != count:
-        sys.exit(f"{' '.join(words)}: {wanted} of {count} replies were as wanted")
-    return spent
-
-
 def measure_all(program, numbers):
     """Prints the least times. The runs of a measure stand apart, so that a busy moment doesn't spoil all of them."""
     cells = [(measure, stored) for measure in MEASURES for stored in numbers]
@@ -46,7 +33,7 @@ def measure_all(program, numbers):
     for _ in range(RUNS):
         for measure, stored in cells:
             _, word, rows, count = measure
-            spent = run(program, word, stored, rows, count) / 1000 / count
+            spent = run_desk(program, word, stored, rows, count) / 1000 / count
             least[measure, stored] = min(spent, least.get((measure, stored), spent))
     print(" " * 25 + "".join(f"{stored:>14,}" for stored in numbers) + "  answers of others")
     for measure in MEASURES:

@@ -8,19 +8,16 @@ For a round of 25 puzzles where others have stored 1,000 answers, as bench/serve
 proved one.
 """
 import argparse
-import os
 import re
 import socket
 import subprocess
-import sys
 import tempfile
 import time
 
-ROOT = os.path.dirname(os.path.dirname(os.path.realpath(__file__)))
-sys.path[:0] = [f"{ROOT}/bench", f"{ROOT}/tools"]
-from running import free_port, is_whole  # noqa: E402
-from serve import fill, requests  # noqa: E402
-from wire import request  # noqa: E402
+from lent import PROGRAM
+from harness.running import free_port, is_whole
+from harness.filled import fill, requests
+from harness.wire import request
 
 FEW = 20
 KINDS = ("ReadRound", "Submit")
@@ -56,7 +53,7 @@ def instructions(program, path, kind, count):
 def main():
     parser = argparse.ArgumentParser(description=__doc__, formatter_class=argparse.RawDescriptionHelpFormatter)
     parser.add_argument("--requests", type=int, default=200)
-    parser.add_argument("programs", nargs="*", default=[f"{ROOT}/crates/hall/out/hall"], metavar="PROGRAM")
+    parser.add_argument("programs", nargs="*", default=[PROGRAM], metavar="PROGRAM")
     asked = parser.parse_args()
     for program in asked.programs:
         for kind in KINDS:

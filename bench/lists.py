@@ -9,15 +9,14 @@ runs of each.
 An import is by `--people`, into an empty world, and then by the same list's requests in parts, which add nobody. The
 script checks that all replies are as wanted.
 """
-import os
 import resource
 import subprocess
 import sys
 import tempfile
 
-from wire import record, replies, request
+from lent import PROGRAM
+from harness.wire import record, replies, request
 
-PROGRAM = os.path.join(os.path.dirname(os.path.abspath(__file__)), "..", "crates", "hall", "out", "hall")
 RUNS = 9
 MOMENT = 1777700000
 HEAD = "name,key,roles\n"

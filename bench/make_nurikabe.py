@@ -1,6 +1,8 @@
 """Makes Nurikabe texts whose solution is known by construction.
 
-Usage: make_nurikabe.py COLS ROWS COUNT SEED MOST SHARE: the size of the largest island, and how many walls are tried to be taken away, in hundredths. Each line is a puzzle text, a space and the answer; a solver has to tell which have one solution.
+Usage: make_nurikabe.py COLS ROWS COUNT SEED MOST SHARE: the size of the largest island, and how many walls are tried to
+be taken away, in hundredths. Each line is a puzzle text, a space and the answer; a solver has to tell which have one
+solution.
 """
 import random
 import sys
@@ -75,7 +77,8 @@ def is_joined(wall, cols, rows):
 
 
 def merge(wall, cols, rows, most, share, rng):
-    """Takes walls away while they stay joined and no island grows past the most; tries this share of the cells, in hundredths."""
+    """Takes walls away while they stay joined and no island grows past the most; tries this share of the cells, in
+    hundredths."""
     for cell in rng.sample(range(cols * rows), cols * rows * share // 100):
         if not wall[cell]:
             continue

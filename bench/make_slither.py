@@ -20,7 +20,10 @@ from real.slither import STEPS, keeps_a_loop
 
 PROGRAM = os.path.join(os.path.dirname(os.path.abspath(__file__)), "..", "crates", "hall", "out", "hall")
 # the side, how many boards, and the least share of cells with a number
-BOARDS = [(7, 12, 0.0), (8, 6, 0.5), (10, 12, 0.0), (10, 6, 0.5), (12, 6, 0.0), (13, 4, 0.5), (15, 4, 0.0), (15, 4, 0.5), (20, 2, 0.2)]
+BOARDS = [
+    (7, 12, 0.0), (8, 6, 0.5), (10, 12, 0.0), (10, 6, 0.5), (12, 6, 0.0), (13, 4, 0.5), (15, 4, 0.0), (15, 4, 0.5),
+    (20, 2, 0.2),
+]
 
 
 def region_of(side, rng):

@@ -12,73 +12,16 @@ requests, less that of a run over the first part alone: the least of five runs o
 checks the status of each reply.
 """
 import argparse
-import os
-import resource
-import subprocess
 import sys
 
-from wire import record, replies, request
+from lent import DURING, MOST, PROGRAM, least_time, opening, run_replay, submit
+from harness.wire import record, request
 
-ROOT = os.path.dirname(os.path.dirname(os.path.abspath(__file__)))
-sys.path.append(os.path.join(ROOT, "examples", "rounds"))
-import setting  # noqa: E402
-
-PROGRAM = os.path.join(ROOT, "crates", "hall", "out", "hall")
-PEOPLE = os.path.join(ROOT, "examples", "people.csv")
-RUNS = 5
-BEFORE = 1777700000
-DURING = 1777714300
-LIMIT = 50
-# Who may hand in, to which round, and the right answer.
-PAIRS = [
-    ("ada-key-1", "r1", "1234341221434321"),
-    ("eve-key-1", "r2", ".###"),
-    ("fay-key-1", "r1", "1234341221434321"),
-    ("fay-key-1", "r2", ".###"),
-    ("eve-key-1", "r1", "1234341221434321"),
-]
 RECEIVED, LIMITED, SERVED = b'{"received":', b'{"denied":19}', b"{"
-MOST = LIMIT * len(PAIRS)
-
-
-def submit(place):
-    """The hand-in at this place, by the entrants in turn: its token stands nowhere else."""
-    key, round_id, answer = PAIRS[place % len(PAIRS)]
-    return record(DURING, request(key, "PUT", f"/rounds/{round_id}/answers/1/k{place}", '{"answer":"%s"}' % answer))
-
-
-def opening(stored):
-    """Puts puzzles and drafts, certifies two puzzles, releases their rounds, and stores so many answers."""
-    return [
-        *[it.decode() for it in setting.records()],
-        record(BEFORE, request("bob-key-1", "POST", "/puzzles/bob/p1/certificate", '{"budget":200000}')),
-        record(BEFORE, request("ada-key-1", "POST", "/puzzles/ada/q1/certificate", '{"budget":200000}')),
-        record(BEFORE, request("dora-key", "POST", "/rounds/r1/release")),
-        record(BEFORE, request("dora-key", "POST", "/rounds/r2/release")),
-        *[submit(place) for place in range(stored)],
-    ]
-
-
-def run(program, records):
-    """The replies that are written, and the seconds of processor time."""
-    before = resource.getrusage(resource.RUSAGE_CHILDREN)
-    words = [program, "replay", "--people", PEOPLE]
-    done = subprocess.run(words, input="".join(records).encode(), capture_output=True, check=False)
-    after = resource.getrusage(resource.RUSAGE_CHILDREN)
-    if done.returncode:
-        sys.exit(f"the replay ended with status {done.returncode}")
-    spent = after.ru_utime + after.ru_stime - before.ru_utime - before.ru_stime
-    return replies(done.stdout), spent
-
-
-def least_time(program, records):
-    return min(run(program, records)[1] for _ in range(RUNS))
-
-
 def measure(program, stored, name, requests, begins):
     """Prints the time of a request, and how many replies begin with each of these."""
     records = opening(stored)
-    written, _ = run(program, records + requests)
+    written, _ = run_replay(program, records + requests)
     bodies = [reply.partition(b"\r\n\r\n")[2] for reply in written[len(records) :]]
     wrong = [reply for reply in written[: len(records)] if not reply.startswith(b"HTTP/1.1 200 ")]
     wrong += [body for body in bodies if not body.startswith(tuple(begins))]
@@ -98,7 +41,8 @@ def measure_all(program, stored):
     if stored:
         measure(program, stored, "retries", [submit(place % stored) for place in range(10000)], taken)
     measure(program, stored, "rounds read", [record(DURING, request("eve-key-1", "GET", "/rounds/r1"))] * 10000, served)
-    measure(program, stored, "listings", [record(DURING, request("dora-key", "GET", "/rounds/r1/answers"))] * 1000, served)
+    listing = record(DURING, request("dora-key", "GET", "/rounds/r1/answers"))
+    measure(program, stored, "listings", [listing] * 1000, served)
 
 
 def main():

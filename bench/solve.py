@@ -23,7 +23,8 @@ DEFAULT_BUDGET = 200000
 def solve(program, text, budget):
     """The line that the program writes, and the seconds that it took."""
     began = time.perf_counter()
-    done = subprocess.run([program, "solve", "--budget", str(budget)], input=text + "\n", capture_output=True, text=True)
+    words = [program, "solve", "--budget", str(budget)]
+    done = subprocess.run(words, input=text + "\n", capture_output=True, text=True)
     return done.stdout.rstrip("\n"), time.perf_counter() - began
 
 

@@ -12,15 +12,14 @@ these answers, which holds each row.
 The script checks that every reply is 200 and that the table has a line for each entrant.
 """
 import argparse
-import os
 import subprocess
 import sys
 import tempfile
 import time
 
-from wire import record, request
+from lent import PROGRAM
+from harness.wire import record, request
 
-PROGRAM = os.path.join(os.path.dirname(os.path.abspath(__file__)), "..", "crates", "hall", "out", "hall")
 RUNS = 9
 # Records sent at once: they and their replies fit the pipes.
 BATCH = 150

@@ -23,13 +23,12 @@ import tempfile
 import time
 from dataclasses import dataclass
 
-ROOT = os.path.dirname(os.path.dirname(os.path.realpath(__file__)))
-sys.path[:0] = [f"{ROOT}/bench", f"{ROOT}/tools"]
-import beside  # noqa: E402
-from beside import DIRECTOR, ENTRANTS, HARD, Entrants, board, certify, hard, real  # noqa: E402
-from clients import allow_many_files  # noqa: E402
-from running import PROGRAM, connected, serving  # noqa: E402
-from wire import REPLY, request  # noqa: E402
+from lent import PROGRAM
+from harness import beside
+from harness.beside import DIRECTOR, ENTRANTS, HARD, Entrants, board, certify, hard, real
+from harness.clients import allow_many_files
+from harness.running import connected, serving
+from harness.wire import REPLY, request
 
 MOST_VISITS = 1_000_000
 # Beside a request that isn't a search, how long the entrants ask before it and after it.

@@ -80,7 +80,8 @@ class Nurikabe:
         return {other for cell in group for other in self.near[cell]} - inside
 
     def cut(self, solver, solution):
-        """Groups of walls that are apart, and groups of white cells without their number: each reaches on through its rim."""
+        """Groups of walls that are apart, and groups of white cells without their number: each reaches on through its
+        rim."""
         found = False
         walls = list(self.groups([c for c in range(self.cells) if solution[c]]))
         for i, group in enumerate(walls if len(walls) > 1 else []):
@@ -208,7 +209,8 @@ class LargeNurikabe(Nurikabe):
         return True
 
     def mend(self, solution, second, most, moved, rng):
-        """Moves a number to a cell that is wall in the second solution, once a cell, or else takes one of its cells over."""
+        """Moves a number to a cell that is wall in the second solution, once a cell, or else takes one of its cells
+        over."""
         lost = [c for c, on in enumerate(solution) if second[c] and not on]
         for cell in rng.sample(lost, len(lost)):
             if self.clues[cell] is None and cell not in moved and not solution[cell]:

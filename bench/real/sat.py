@@ -90,7 +90,8 @@ class Solver:
 
 
 def search(kind, solver, blocked, assumed=()):
-    """A solution of the clauses that is whole by the kind's own test, which adds clauses where one isn't; other than the blocked ones."""
+    """A solution of the clauses that is whole by the kind's own test, which adds clauses where one isn't; other than
+    the blocked ones."""
     for solution in blocked:
         kind.block(solver, solution)
     while True:

@@ -62,13 +62,15 @@ class Slither:
             yield loop
 
     def cut(self, solver, solution):
-        """Where there are several loops, some side crosses out of the dots of each: or it has no line, or the others have none."""
+        """Where there are several loops, some side crosses out of the dots of each: or it has no line, or the others
+        have none."""
         loops = list(self.loops(solution))
         if len(loops) == 1:
             return False
         for i, loop in enumerate(loops):
             inside = {dot for side in loop for dot in self.ends[side]}
-            crossing = [self.line[s] for s in range(self.sides) if (self.ends[s][0] in inside) != (self.ends[s][1] in inside)]
+            are_in = [[dot in inside for dot in self.ends[s]] for s in range(self.sides)]
+            crossing = [self.line[s] for s, (one, other) in enumerate(are_in) if one != other]
             other = loops[(i + 1) % len(loops)]
             solver.add([-self.line[loop[0]], -self.line[other[0]], *crossing])
         return True
