@@ -1,8 +1,10 @@
 #!/bin/bash
-# The round of README.md, "A round in ten minutes": its commands against a server on a free port of 127.0.0.1, each reply compared with what README.md
-# tells. The moments are the system's, so the round begins a few seconds after now; it ends a minute later, and is closed after one more.
+# The round of README.md, "A round in ten minutes": its commands against a server on a free port of 127.0.0.1, each reply
+# compared with what README.md tells. The moments are the system's, so the round begins a few seconds after now; it ends
+# a minute later, and is closed after one more.
 # HALL names another program than ./hall.
-# With the words PORT URL [OPTION..] the server listens on that port, and curl is asked at the URL with these options: examples/running/try.py has a proxy there.
+# With the words PORT URL [OPTION..] the server listens on that port, and curl is asked at the URL with these options:
+# tools/tests/test_proxies.py has a proxy there.
 cd "$(dirname "${BASH_SOURCE[0]}")/../.." || exit 1
 room=$(mktemp -d)
 hall=${HALL:-./hall}

@@ -1,4 +1,5 @@
-// The hall's codes in sentences for entrants, with what to do. tools/page.py compares the codes with docs/HTTP.md.
+// The hall's codes in sentences for entrants, with what to do. tools/tests/test_page.py compares the codes with
+// docs/HTTP.md.
 
 export const DENIED = {
   1: ["The hall doesn't know this key.", "Compare it with your slip, letter by letter; or ask a director."],
