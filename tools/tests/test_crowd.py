@@ -1,6 +1,6 @@
 """One running hall is asked by as many clients at once, good ones and slow ones.
 
-Each good client is answered within a second, whoever stalls; each slow one is cut when its time is up, as
+Each good client is answered within two seconds, whoever stalls; each slow one is cut when its time is up, as
 `hall serve --help` tells.
 """
 import asyncio
@@ -18,7 +18,7 @@ from harness.running import PEOPLE, connected, read_off, serving
 from harness.wire import replies, request
 
 # Within how many seconds a good client is answered.
-SOON = 1.0
+SOON = 2.0
 # A listing that no socket's buffers hold, of 12 MB: a director's, of 50 long answers of so many entrants.
 ENTRANTS, ANSWER = 60, 4_000
 ASKED = request("eve-key-1", "GET", "/rounds/r1").encode()

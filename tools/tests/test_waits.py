@@ -38,6 +38,8 @@ PLACES = 500
 # A client goes when so much of its search is made, so that a second search would make 1.6 times the work of one. What
 # is taken for one search's. (The same search takes a fifth more beside other work than without.)
 LEAVES, ONE_SEARCH = 0.6, 1.45
+# After so many seconds of a processor a search of VISITS visits has begun, and has most of its work before it.
+BEGUN = 0.05
 # Small puzzles, and their solution.
 SMALL, OTHER, SOLVED = "sudoku/4/4/1234341221434321", database.SUDOKU, RIGHT
 GAVE_UP, ONE = b'{"state":"gave up"}', b'{"state":"one"}'
@@ -213,8 +215,8 @@ async def gone_for_good(server, port):
     """Nobody waits for the search any more, and it comes to its end all the same."""
     async with Client(port) as client:
         since = processor_time(server.pid)
-        await client.send(certify(3, "left", FEW))
-        check("the search begins", await until_it_takes(server.pid, 0.1, since), True)
+        await client.send(certify(3, "left", VISITS))
+        check("the search begins", await until_it_takes(server.pid, BEGUN, since), True)
         client.reset()
     begun, got = time.monotonic(), b'"new"'
     while b'"new"' in got and time.monotonic() - begun < SOON:
@@ -229,7 +231,7 @@ async def gone_in_the_way(server, port):
     async with Client(port) as client:
         since = processor_time(server.pid)
         await client.send(certify(6, "stuck", ENDLESS))
-        check("the search begins", await until_it_takes(server.pid, 0.1, since), True)
+        check("the search begins", await until_it_takes(server.pid, BEGUN, since), True)
     following = Asked(port, certify(6, "next", ENDLESS))
     await following.isnt_answered("an author's next search, behind one whose client is gone")
     got, _ = await asks(port, puts(6, "stuck", SMALL))
@@ -291,17 +293,18 @@ async def clients_that_go(program, room):
     beside.written(path, [*puzzles, (6, "stuck", hard(6)), (6, "next", OTHER)])
     with serving(path, 10_000, program) as (server, port):
         connected(server, port).close()
-        alone = await one_search(server, "a search", lambda: asks_all(port, [certify(0, "first", VISITS)]))
+        alone = [await one_search(server, "a search", lambda n=n: asks_all(port, [certify(0, "first", VISITS + n)]))
+                 for n in range(3)]
         again = await one_search(server, "a client that went and came back", lambda: gone_and_back(
-            server, port, certify(1, "again", VISITS + 1), alone))
+            server, port, certify(1, "again", VISITS + 1), min(alone)))
         both = await one_search(server, "two clients with one request", lambda: asks_all(
             port, [certify(2, "both", VISITS + 2), certify(2, "both", VISITS + 2, DIRECTOR)]))
         await gone_for_good(server, port)
         await asyncio.gather(half_closed(port), asks_behind(port))
         await gone_in_the_way(server, port)
     for name, took in (("gone and back", again), ("two with one request", both)):
-        tell(f"{name}: {took:.1f} s of processor time, where a search takes {alone:.1f} s")
-        check(f"one search is made for {name}", took < ONE_SEARCH * alone, True)
+        tell(f"{name}: {took:.1f} s of processor time, where a search takes {min(alone):.1f} to {max(alone):.1f} s")
+        check(f"one search is made for {name}", took < ONE_SEARCH * max(alone), True)
 
 
 async def asks_all(port, requests):
@@ -360,10 +363,10 @@ async def nine_searches(program, room):
     check("outcomes of the nine boards", sorted(set(state for state, _ in known)), sorted(STATES))
 
 
-# The first measures.
+# Those that measure have the machine for themselves.
 SCENES = [
-    pytest.param(prompt_and_killed, marks=pytest.mark.alone), at_an_end, nine_searches, clients_that_go, full_house,
-    last_connection,
+    *(pytest.param(it, marks=pytest.mark.alone) for it in (prompt_and_killed, clients_that_go)),
+    at_an_end, nine_searches, full_house, last_connection,
 ]
 
 
