@@ -3,10 +3,13 @@
 #
 #     backup.sh FILE FOLDER [HALL]
 #
-# FOLDER is made, and must not be there yet. Ends with 1 where there is no whole copy. docs/RUNNING.md tells why it is
-# whole.
+# FOLDER is made, and must not be there yet. HALL is the program, by default the one that stands where it was installed
+# by hand, or that of the package. Ends with 1 where there is no whole copy. docs/RUNNING.md tells why it is whole.
 set -u
-file=${1:?FILE} folder=${2:?FOLDER} hall=${3:-/usr/local/bin/hall}
+file=${1:?FILE} folder=${2:?FOLDER}
+# cron's path has no /usr/local/bin.
+PATH=/usr/local/bin:$PATH
+hall=$(command -v "${3:-hall}") || hall=
 umask 077
 copy=$folder/$(basename "$file")
 
@@ -17,7 +20,7 @@ fails() {
 
 # The head of a log: it begins with 7, and is another one after the log was emptied into the file.
 head_of() {
-    head -c 32 "$1" | od -A n -t x1 -v | tr -d ' \n'
+    head -c 32 "$1" 2>/dev/null | od -A n -t x1 -v | tr -d ' \n'
 }
 
 # First the file, then the log. What the file lacks is in the log, as long as that wasn't emptied meanwhile.
@@ -52,6 +55,7 @@ opens() {
 }
 
 [ -f "$file" ] || fails "there is no $file"
+[ -n "$hall" ] || fails "there is no program ${3:-hall} to open the copy: name it as the third word"
 mkdir "$folder" || fails "$folder can't be made"
 for try in 1 2 3 4 5 6 7 8 9 10 11 12 13 14 15 16 17 18 19 20; do
     if copies; then
@@ -62,4 +66,4 @@ for try in 1 2 3 4 5 6 7 8 9 10 11 12 13 14 15 16 17 18 19 20; do
     fi
     sleep 0.1
 done
-fails "no copy in $try tries: the log was emptied each time, or isn't there"
+fails "no copy in $try tries: the log was emptied each time, or isn't there (where nothing serves the file, use cp)"

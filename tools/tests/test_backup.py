@@ -7,6 +7,7 @@ entrant the first ones without a gap.
 import contextlib
 import http.client
 import json
+import os
 import shutil
 import sqlite3
 import subprocess
@@ -102,3 +103,16 @@ def test_copies(served, db, program, room):
     tell(f"copies of a hall that serves: {told} answers were handed in meanwhile, {busy} entrants to the end; a copy "
          f"took {sorted(times)[len(times) // 2]:.1f} s, at most {max(times):.1f}")
     check(f"{told} answers are more than {COPIES} copies", told > COPIES, True)
+
+
+def test_which_program_opens_the_copy(served, db, program, room):
+    """The one of the path where none is named, as after the package; and where there is none, nothing is copied."""
+    os.mkdir(f"{room}/bin")
+    os.symlink(program, f"{room}/bin/hall")
+    env = {**os.environ, "PATH": f"{room}/bin:/usr/bin:/bin"}
+    for folder, words, status, told in (("found", [], 0, "people"), ("none", [f"{room}/nothing"], 1, "no program")):
+        asked = [SCRIPT, db, f"{room}/{folder}", *words]
+        ran = subprocess.run(asked, env=env, capture_output=True, text=True, check=False)
+        check(f"{folder}, its status", (ran.returncode, ran.stderr if status == 0 else ""), (status, ""))
+        check(f"{folder}, what is told", told in ran.stdout + ran.stderr, True)
+    check("a folder without a copy", os.path.exists(f"{room}/none"), False)
