@@ -60,7 +60,8 @@ def main():
         return SKIPPED_STATUS
     files = files_in(words)
     words = words if "xdist" in modules else one_by_one(words)
-    words = [placed(it) if it in files else it for it in words] + ([] if files else [HERE])
+    # The files stand first, where pytest looks for what knows the other words.
+    words = [*([placed(it) for it in files] or [HERE]), *[it for it in words if it not in files]]
     how = ["-c", f"{HERE}/pytest.ini", "--rootdir", HERE]
     os.execv(python, [python, "-B", "-m", "pytest", *how, *words])
 

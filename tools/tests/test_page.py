@@ -11,7 +11,7 @@ import pytest
 
 NEEDED = {"chromium": "/usr/bin/chromium", "chromium-driver": "/usr/bin/chromedriver", "haproxy": "/usr/sbin/haproxy"}
 # Each is a module of page_tests with trial(program, pictures); the longest first.
-TRIALS = ("course", "hands", "troubles", "firefox", "texts", "tabs", "files")
+TRIALS = ("course", "hands", "troubles", "slips", "firefox", "texts", "tabs", "files")
 
 
 @pytest.fixture

@@ -143,13 +143,14 @@ export class Board {
 
   // --- zoom
 
-  fit() {
+  // Lays the board out so that it is legible, or with `whole` so that all of it is seen.
+  fit(whole = this.whole) {
     const { cols, rows } = this.puzzle, wide = this.element.clientWidth - 4, high = this.element.clientHeight - 4;
     if (wide <= 0) return;
-    const whole = (cells) => cells + 2 * EDGE / UNIT;
-    const least = Math.min(wide / whole(cols), high / whole(rows));
-    this.zoomTo(Math.min(60, Math.max(least, Math.min(LEGIBLE, wide / 8))));
-    this.fitted = true;
+    const withEdge = (cells) => cells + 2 * EDGE / UNIT;
+    const least = Math.min(wide / withEdge(cols), high / withEdge(rows));
+    this.zoomTo(Math.min(60, whole ? least : Math.max(least, Math.min(LEGIBLE, wide / 8))));
+    Object.assign(this, { fitted: true, whole });
   }
 
   // Makes a cell so many pixels wide; what is at the point (of the window) stays there.

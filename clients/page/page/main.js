@@ -24,12 +24,13 @@ const EARLY = 5; // so many seconds before the start by the page's clock a sheet
 const main = document.querySelector("main");
 
 class App extends EventTarget {
-  rounds = []; sheets = new Map(); names = new Map();
+  rounds = []; told = false; sheets = new Map(); names = new Map();
   key = null; person = null; letters = null; leaving = null; session = null; refreshing = null;
 
-  enter(key, rounds = []) {
+  enter(key, rounds) {
     keepKey(key);
-    Object.assign(this, { key, person: personOf(key), rounds, session: new AbortController() });
+    Object.assign(this, { key, person: personOf(key), rounds: rounds ?? [], told: Boolean(rounds),
+      session: new AbortController() });
     this.letters = new Letters(key, this.person);
     document.body.classList.add("in");
     every(REFRESH, this.session.signal, this.refresh);
@@ -59,7 +60,7 @@ class App extends EventTarget {
     const reply = await ask("GET", "/rounds", { key: this.key, signal: this.session.signal });
     if (reply?.denied === 1) this.leave(DENIED[1].join(" "));
     if (!reply?.ok) return;
-    this.rounds = reply.value.rounds;
+    Object.assign(this, { rounds: reply.value.rounds, told: true });
     sweep();
     this.dispatchEvent(new Event("rounds"));
   }

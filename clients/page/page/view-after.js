@@ -6,7 +6,7 @@ import { ask } from "./requests.js";
 import { readAnswer, readPuzzle } from "./texts.js";
 import { every, exact } from "./times.js";
 import { chip } from "./view-puzzle.js";
-import { failed, frame, note, refused } from "./view-round.js";
+import { failed, frame, note, refused, refusedAnswers } from "./view-round.js";
 import { NO_TABLE, verdict } from "./words.js";
 
 // --- the own answers
@@ -28,14 +28,17 @@ function outcome({ number, text, points }, own, solution) {
 export function answersView(app, left, id) {
   return frame(app, left, id, "answers", async (box, { sheet, now, signal }) => {
     if (now === "before") { box.append(html("p", { class: "lead" }, "There are none before the start.")); return; }
+    const said = html("div", { "aria-live": "polite" }), list = html("div");
     const renew = async () => {
+      refill(said, refusedAnswers(app, id));
       const answers = await app.answers(id, signal) ?? [];
       const reply = now !== "running" ? await ask("GET", `/rounds/${id}/solutions`, { key: app.key, signal }) : null;
       if (signal.aborted) return;
       const solutions = reply?.ok ? reply.value.solutions : [];
-      box.replaceChildren(...sheet.puzzles.map((entry, i) =>
+      list.replaceChildren(...sheet.puzzles.map((entry, i) =>
         outcome(entry, answers.filter((answer) => answer.number === entry.number), solutions[i])));
     };
+    box.append(said, list);
     app.letters.addEventListener("change", renew, { signal });
     await renew();
   });
@@ -43,25 +46,42 @@ export function answersView(app, left, id) {
 
 // --- protests
 
+const MOST = 200; // signs of a protest's text
+
+// A protest as the hall takes it: on one line, with plain signs for those that keyboards put in their place.
+const plain = (text) => text.trim().replace(/\s/g, " ").replace(/[\u2018\u2019]/g, "'")
+  .replace(/[\u201c-\u201f]/g, '"').replace(/[\u2010-\u2015\u2212]/g, "-").replace(/\u2026/g, "...");
+
+// Why the hall wouldn't take a text, or "".
+function wrongText(text) {
+  const strange = /[^ -~]/u.exec(text)?.[0];
+  if (!text) return "Please say what is wrong.";
+  if (strange) return `“${strange}” can't be sent: please use plain letters, digits and signs alone.`;
+  return text.length > MOST ? `These are ${text.length} signs, and at most ${MOST} can be sent.` : "";
+}
+
 function protestForm(app, id, sheet) {
   const which = html("select", { id: "which" }, sheet.puzzles.map(({ number, text }) =>
     html("option", { value: number }, `${number}. ${nameOf(text)}`)));
-  const words = html("textarea", { id: "words", maxlength: 200, rows: 3, required: true, "aria-describedby": "left" });
-  const left = html("span", { class: "small", id: "left" }, "200 left");
-  words.addEventListener("input", () => {
-    const plain = /^[ -~]*$/.test(words.value);
-    words.setCustomValidity(plain ? "" : "Please use plain letters, digits and signs alone, on one line.");
-    left.textContent = `${200 - words.value.length} left`;
-  });
+  const words = html("textarea", { id: "words", rows: 3, required: true, "aria-describedby": "left" });
+  const left = html("span", { class: "small", id: "left" });
+  const look = () => {
+    const text = plain(words.value), why = wrongText(text);
+    words.setCustomValidity(why);
+    left.textContent = text && why || `${MOST - text.length} left`;
+    left.classList.toggle("bad", Boolean(text && why));
+  };
+  words.addEventListener("input", look);
   const send = (event) => {
     event.preventDefault();
-    app.letters.protest(id, Number(which.value), words.value);
+    app.letters.protest(id, Number(which.value), plain(words.value));
     words.value = "";
-    left.textContent = "200 left";
+    look();
   };
+  look();
   return html("form", { class: "form", onsubmit: send }, html("h2", {}, "A protest"),
     html("label", { for: "which" }, "Puzzle"), which,
-    html("label", { for: "words" }, "What is wrong, in at most 200 signs"), words, left,
+    html("label", { for: "words" }, `What is wrong, in at most ${MOST} signs`), words, left,
     html("button", { class: "main" }, "Make the protest"));
 }
 

@@ -4,10 +4,20 @@ import { html } from "./elements.js";
 import { ask } from "./requests.js";
 import { refusal } from "./words.js";
 
+// The key in what is pasted: of a slip the word behind `Key:`. Programs of texts make dashes of their own kinds.
+const keyIn = (text) =>
+  (/Key:\s*(\S+)/i.exec(text)?.[1] ?? text).replace(/\s/g, "").replace(/[\u2010-\u2015\u2212]/g, "-");
+
 export function doorView(app, signal, note = "") {
   const field = html("input", { id: "key", type: "password", autocomplete: "off", autocapitalize: "off",
-    spellcheck: "false", minlength: 8, maxlength: 64, pattern: "[A-Za-z0-9\\-]+", required: true,
-    "aria-describedby": "slip" });
+    spellcheck: "false", pattern: "[A-Za-z0-9\\-]{8,64}", required: true, "aria-describedby": "slip",
+    title: "8 to 64 letters, digits and dashes",
+    oninput: () => { if (keyIn(field.value) !== field.value) field.value = keyIn(field.value); },
+    onpaste: (event) => { // a line's end would be gone once it is in the field
+      event.preventDefault();
+      const key = keyIn(event.clipboardData.getData("text"));
+      field.setRangeText(key, field.selectionStart, field.selectionEnd, "end");
+    } });
   const show = html("button", { type: "button", class: "quiet", onclick: () => {
     field.type = field.type === "text" ? "password" : "text";
     show.textContent = field.type === "text" ? "hide" : "show";
@@ -16,7 +26,7 @@ export function doorView(app, signal, note = "") {
   const go = html("button", { class: "main" }, "Enter the hall");
   const enter = async (event) => {
     event.preventDefault();
-    const key = field.value.trim();
+    const key = field.value;
     go.disabled = true;
     said.textContent = "";
     const reply = await ask("GET", "/rounds", { key, signal });

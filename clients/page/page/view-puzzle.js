@@ -7,7 +7,7 @@ import { kindOf } from "./picture.js";
 import { Drawing, keepOption, readOption } from "./store.js";
 import { readPuzzle, writeAnswer } from "./texts.js";
 import { countdown, endOf, every, exact } from "./times.js";
-import { failed, refused } from "./view-round.js";
+import { failed, refused, wait } from "./view-round.js";
 import { verdict } from "./words.js";
 
 const LOOK = 3; // seconds between two looks whether the end is past for sure
@@ -15,12 +15,19 @@ const SHADES = { slither: "Dim satisfied numbers", sudoku: "Shade equal numbers"
 
 export function puzzleView(app, signal, id, wanted) {
   const element = html("section", { class: "play" }, html("p", { class: "lead" }, "Asking the hall …"));
-  open(app, signal, id, Number(wanted)).then((view) => signal.aborted || element.replaceChildren(...view));
+  const show = async () => {
+    const view = await open(app, signal, id, Number(wanted), show);
+    if (!signal.aborted) element.replaceChildren(...view);
+  };
+  show();
   return element;
 }
 
-async function open(app, signal, id, number) {
-  const round = await app.round(id), reply = round && await app.sheet(id, signal);
+// `again` opens it anew, at the start of its round.
+async function open(app, signal, id, number, again) {
+  const round = await app.round(id);
+  if (round && !signal.aborted && clock.now() < round.start) return [wait(round, signal, again)];
+  const reply = round && await app.sheet(id, signal);
   if (signal.aborted) return [];
   if (reply && !reply.ok) return [failed(reply)];
   const entry = reply?.value.puzzles.find((puzzle) => puzzle.number === number);
@@ -147,7 +154,8 @@ class Desk {
     this.undo = tool("↶", "Undo (Ctrl+Z)", () => board.undo());
     this.redo = tool("↷", "Redo (Ctrl+Y)", () => board.redo());
     this.zoom = [tool("−", "Smaller", () => board.zoomTo(board.scale / 1.25)),
-      tool("Fit", "The whole board", () => board.fit()), tool("+", "Larger", () => board.zoomTo(board.scale * 1.25))];
+      tool("Fit", "The whole board", () => board.fit(true)),
+      tool("+", "Larger", () => board.zoomTo(board.scale * 1.25))];
     if (puzzle.kind !== "sudoku") return;
     this.pencil = tool("✎", "Pencil marks (Space)", () => {
       board.pencil = !board.pencil;

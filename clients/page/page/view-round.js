@@ -1,7 +1,7 @@
 // A round: the wait before its start, then its puzzles; and the frame with title, clock and tabs of all its pages.
 
 import { clock } from "./clock.js";
-import { html } from "./elements.js";
+import { html, refill } from "./elements.js";
 import { kindOf, nameOf, picture } from "./picture.js";
 import { Drawing } from "./store.js";
 import { readPuzzle } from "./texts.js";
@@ -16,8 +16,15 @@ export const note = (look, [what, then], ...more) =>
 export const failed = (reply) => note("note bad", refusal(reply));
 
 // A refused letter, until the reader has seen it.
-export const refused = (app, letter) => note("note bad", refusal(letter.reply),
-  html("button", { class: "quiet", "data-letter": letter.id, onclick: () => app.letters.drop(letter) }, "OK"));
+export const refused = (app, letter, begin = "") => {
+  const [what, then] = refusal(letter.reply);
+  return note("note bad", [begin + what, then],
+    html("button", { class: "quiet", "data-letter": letter.id, onclick: () => app.letters.drop(letter) }, "OK"));
+};
+
+// The refused answers of a round, wherever its reader is when they come back.
+export const refusedAnswers = (app, id) => app.letters.of(id, "answer").filter((letter) => letter.reply)
+  .map((letter) => refused(app, letter, `Puzzle ${letter.number}: your last answer wasn't taken. `));
 
 // --- the frame
 
@@ -84,11 +91,12 @@ const isSame = (app, round) => app.rounds.some((now) => now.id === round.id && n
 // How a puzzle stands: [class, words].
 function standing(app, id, number, answers, begun) {
   const own = answers.filter((answer) => answer.number === number), last = own.at(-1);
-  const going = app.letters.of(id, "answer").some((letter) => letter.number === number && !letter.reply);
-  if (going) return ["wait", "on its way"];
+  const letters = app.letters.of(id, "answer").filter((letter) => letter.number === number);
+  if (letters.some((letter) => !letter.reply)) return ["wait", "on its way"];
   if (own.some((answer) => answer.verdict === "right")) return ["good", "right"];
   if (last && !last.verdict) return ["wait", `handed in ${exact(last.moment)}`];
   if (last) return ["bad", own.length > 1 ? `wrong, ${own.length} times` : "wrong"];
+  if (letters.length) return ["bad", "not taken"];
   return ["", begun ? "begun" : ""];
 }
 
@@ -108,7 +116,7 @@ function card(app, round, { number, points, text }, answers) {
       words && html("span", { class: `chip ${look}` }, words)));
 }
 
-function wait(round, signal, again) {
+export function wait(round, signal, again) {
   return html("div", { class: "wait" }, countdown(round.start, signal, again),
     html("p", { class: "lead" }, "The puzzles come by themselves. Leave this page open."),
     html("p", { class: "small" }, `${lengthOf(round)}; ${MODES[round.mode]}.`));
@@ -117,14 +125,15 @@ function wait(round, signal, again) {
 export function roundView(app, left, id) {
   return frame(app, left, id, "", async (box, { round, sheet, now, signal, again }) => {
     if (now === "before") { box.append(wait(round, signal, again)); return; }
-    const cards = html("div", { class: "cards puzzles" });
+    const cards = html("div", { class: "cards puzzles" }), said = html("div", { "aria-live": "polite" });
     const draw = (answers) => cards.replaceChildren(...sheet.puzzles.map((entry) => card(app, round, entry, answers)));
     const renew = async () => {
+      refill(said, refusedAnswers(app, id));
       const answers = await app.answers(id, signal);
       if (answers) draw(answers);
     };
     const printer = html("button", { onclick: () => print() }, "Print the puzzles");
-    box.append(cards, html("div", { class: "row screen" }, printer));
+    box.append(said, cards, html("div", { class: "row screen" }, printer));
     draw([]);
     app.letters.addEventListener("change", renew, { signal });
     await renew();

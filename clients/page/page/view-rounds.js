@@ -21,7 +21,7 @@ export function roundsView(app, signal) {
   const element = html("section", { class: "page" });
   let shown = "";
   const draw = () => {
-    const state = JSON.stringify([clock.known, app.rounds.map((round) => [round, stage(round)])]);
+    const state = JSON.stringify([clock.known, app.told, app.rounds.map((round) => [round, stage(round)])]);
     if (state === shown) return; // so that the list isn't taken from under a reader's hand
     shown = state;
     const groups = GROUPS.map(([name, title]) => {
@@ -30,7 +30,8 @@ export function roundsView(app, signal) {
         html("div", { class: "cards" }, rounds.map((round) => card(app, signal, round, name)))];
     });
     element.replaceChildren(html("h1", {}, "Rounds"), ...groups.filter(Boolean).flat(),
-      app.rounds.length ? "" : html("p", { class: "lead" }, "No round is announced yet. This list renews itself."),
+      app.rounds.length ? "" : html("p", { class: "lead" },
+        app.told ? "No round is announced yet. This list renews itself." : "Asking the hall …"),
       html("p", { class: "small" }, `Times are in your zone (${zone}); countdowns go by `
         + `${clock.known ? "the hall's" : "this computer's"} clock.`));
   };

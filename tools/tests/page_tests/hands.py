@@ -193,6 +193,10 @@ def phone(browser, want):
     want("the page doesn't scroll sideways on a phone", wide[0] <= wide[1], wide)
     browser.open("k", 5, "Sudoku")
     browser.picture("phone-sudoku25")
+    browser.push("button[aria-label='The whole board']")
+    sizes = "const e = document.querySelector('.board'); return [e.scrollWidth, e.clientWidth]"
+    whole = until(lambda: len(set(browser.js(sizes))) == 1, 10)
+    want("the whole board is seen where it is asked for", whole, browser.js(sizes))
     browser.go("#/r/k")
     browser.shows("Print the puzzles")
     browser.picture("phone-round")
