@@ -17,6 +17,24 @@ OF_A_PUZZLE = ("author", "label", "points")
 ANY_TEXT = b'{"text":"sudoku/4/4/v"}'
 
 
+# What a field is to be, beside what the hall's own reader says of it.
+FORMS = {
+    "name": "a name is 1 to 24 of a-z, 0-9 and the dash", "author": "the name of a person, 1 to 24 of a-z, 0-9 and -",
+    "label": "1 to 24 of a-z, 0-9 and the dash", "key": "a key is 8 to 64 letters, digits and dashes",
+    "roles": "roles are director, author, referee and entrant, joined by +, as author+entrant",
+    "title": "a title is 1 to 60 plain signs, without accents", "mode": 'a mode is "instant" or "sealed"',
+    "minutes": "a whole number without quotes, 1 to 1440",
+    "protest_minutes": "a whole number without quotes, 0 to 10080",
+    "penalty": "a whole number without quotes, 0 to 1000", "bonus": "a whole number without quotes, 0 to 1000",
+    "points": "a whole number without quotes, 1 to 1000", "testers": 'names, as ["rex", "tom"], or [] for none',
+    "start": 'a start is written as "2026-05-02T11:00:00", and in version 1 as "2026-05-02T09:00:00Z"',
+    "zone": 'a zone is a rule, as "CET-1CEST,M3.5.0,M10.5.0/3" for most of Central Europe: docs/STAFF.md has others',
+}
+# How a file begins that a spreadsheet or an editor saved in another form, and what it is.
+OTHERS = [(b"PK", "a spreadsheet's own file: save it as `CSV UTF-8`"), (b"\xff\xfe", "UTF-16: save it as UTF-8"),
+          (b"\xd0\xcf", "a spreadsheet's own file: save it as `CSV UTF-8`"), (b"\xfe\xff", "UTF-16: save it as UTF-8")]
+
+
 class Found:
     """A fault, the line that it is on where that is known, and what is told besides."""
 
@@ -95,17 +113,42 @@ def wrong_in_list(reader, lines):
     elif fault[1] and last > 1:
         more = value_of(lines[last - 1], fault[1])
     elif fault[0] == "F1":
-        more = "the first line is name,key,roles" if last == 1 else "a line has three fields and two commas"
-    return Found(*fault, last, more)
+        more = form_of(lines, last)
+    return Found(*fault, last if lines else None, more)
+
+
+def form_of(lines, number):
+    """What is wrong with the form of a line of a list."""
+    if not lines:
+        return "the file is empty"
+    line = lines[number - 1]
+    other = next((told for begin, told in OTHERS if lines[0].startswith(begin)), None)
+    if other:
+        return f"this is {other}"
+    try:
+        line.decode()
+    except UnicodeDecodeError:
+        return "the line is no text in UTF-8: save the list as `CSV UTF-8`"
+    if number > 1:
+        return "a line has three fields and two commas"
+    between = next((sign for sign in (b";", b"\t") if sign in line), None)
+    told = {b";": "; the fields are parted by semicolons here: save it with commas",
+            b"\t": "; the fields are parted by tabs here: save it with commas"}.get(between, "")
+    return f"the first line is name,key,roles, in small letters and no more{told}"
 
 
 def value_of(line, field):
-    """What stands in a field of a line; a key isn't shown."""
-    cells = next(csv.reader([shown(line)]), [])
-    at = ["name", "key", "roles"].index(field) if field in ("name", "key", "roles") else 3
-    if field == "key" or at >= len(cells):
-        return f"the {field} is empty or has a byte or a length that isn't allowed" if field == "key" else ""
-    return f"{field}: {cells[at]!r}, of {counted(len(cells[at]), 'letter')}"
+    """What stands in a field of a line, and what it is to be; a key isn't shown."""
+    cells = [*next(csv.reader([shown(line)]), []), "", "", ""]
+    if not any(cell.strip() for cell in cells):
+        return "the line has commas alone: take it out"
+    if field not in ("name", "key", "roles"):
+        return ""
+    it = cells[["name", "key", "roles"].index(field)]
+    if not it:
+        return f"the {field} is empty" + (": `hallctl keys` fills it in" if field == "key" else f": {FORMS[field]}")
+    value = f"of {counted(len(it), 'letter')}" if field == "key" else f"{it!r}, of {counted(len(it), 'letter')}"
+    return f"{field}: {value}; {FORMS[field]}"
 
 
 class SheetReader:
@@ -170,7 +213,7 @@ def wrong_puzzle(reader, lines, fault):
     if fault[0] != "F4":
         line = next((n for n in range(starts[at], starts[at + 1])
                      if re.match(rb"\s*" + (fault[1] or "").encode() + rb"\s*=", lines[n - 1])), starts[at])
-        return Found(*fault, line, f"it is puzzle {at + 1} of the sheet")
+        return Found(*fault, line, f"it is puzzle {at + 1} of the sheet; {FORMS[fault[1]]}")
     if at == 0:
         return Found(*fault, line_of(lines, "testers"), "a name stands twice among the testers")
     pairs = list(reader.verdicts([cut(lines, starts, [n, at]) for n in range(at)]))
@@ -190,19 +233,33 @@ def wrong_in_sheet(reader, lines):
         # An array that goes over lines is no TOML where it is cut, so the last good front counts.
         fronts = list(reader.verdicts([b"".join(lines[:n]) for n in range(len(lines) + 1)]))
         good = max((n for n, it in enumerate(fronts) if it is None or it[0] != "F1"), default=0)
-        more = "no TOML, or a key that isn't listed for this version (docs/USING.md has the list)"
-        return Found(code, field, min(good + 1, len(lines)), more)
+        number = min(good + 1, len(lines))
+        return Found(code, field, number if lines else None, no_toml(lines, number))
     if code == "F4" or field in OF_A_PUZZLE:
         return wrong_puzzle(reader, lines, fault)
-    line = line_of(lines, "start" if code == "F5" else field)
-    more = "" if line else f"there is no line {field} = .. in front of the puzzles"
+    field_is = "start" if code == "F5" else field
+    line = line_of(lines, field_is)
+    more = FORMS.get(field_is, "")
+    if not line:
+        more = f"there is no line {field_is} = .. in front of the puzzles{f': {more}' if more else ''}"
     if field == "puzzle":
         line, more = None, f"the sheet has {counted(len(blocks_of(lines)) - 1, 'puzzle')}, and may have 1 to 40"
     return Found(code, field, line, more)
 
 
+def no_toml(lines, number):
+    """Why a line is no TOML of a sheet, as far as it can be seen."""
+    if not lines:
+        return "the file is empty"
+    if {"“", "”", "„"} & set(shown(lines[number - 1])):
+        return 'the quotes are those of a printed page: write plain ones, "'
+    return "no TOML, or a key that isn't listed for this version (docs/USING.md has the list)"
+
+
 def is_list(path, content):
-    """Whether the file is to be an entry list: by its ending, or by its first line."""
+    """Whether the file is to be an entry list: by its ending, or by its first bytes."""
+    if content.startswith(tuple(begin for begin, _ in OTHERS)):
+        return True
     if path.endswith((".csv", ".toml")):
         return path.endswith(".csv")
     return content.removeprefix(b"\xef\xbb\xbf").lstrip(b"\r\n").lower().startswith(b"name")

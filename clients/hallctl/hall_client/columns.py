@@ -4,6 +4,7 @@ import datetime
 import io
 import json
 import sys
+from pathlib import Path
 
 
 def columns(head, rows):
@@ -53,6 +54,15 @@ def when(moment, now):
     """The moment in UTC, in the zone of this machine, and how far away it is."""
     far = f"in {told_in(moment - now)}" if moment > now else f"{told_in(now - moment)} ago"
     return f"{utc(moment)}, here {here(moment)}, {far}"
+
+
+def text_of(path):
+    """The text of a file, as editors and spreadsheets save it."""
+    content = Path(path).read_bytes()
+    try:
+        return content.decode("utf-8-sig")
+    except UnicodeDecodeError:
+        raise ValueError(f"{path} is no text in UTF-8: save it as that; in a spreadsheet as `CSV UTF-8`") from None
 
 
 class Out:

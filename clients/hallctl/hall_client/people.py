@@ -7,7 +7,7 @@ import secrets
 import tempfile
 
 from . import check, told, wire
-from .columns import counted, note
+from .columns import counted, note, text_of
 from .local_hall import NoProgram, program
 
 HEAD = ["name", "key", "roles"]
@@ -19,9 +19,8 @@ LETTERS = "abcdefghjkmnpqrstuvwxyz23456789"
 
 def rows_of(path):
     """The rows of a list, with the line that each begins on."""
-    with open(path, encoding="utf-8-sig", newline="") as file:
-        reader = csv.reader(file)
-        return [(reader.line_num, row) for row in reader if row]
+    reader = csv.reader(io.StringIO(text_of(path), newline=""))
+    return [(reader.line_num, row) for row in reader if row]
 
 
 def as_csv(rows):
@@ -58,7 +57,11 @@ def add(args, hall, out):
              f" it is added in {len(parts)} parts, each of them whole or not at all")
     added, is_again = 0, False
     for part in parts:
-        reply = hall.done("POST", "/people", part)
+        try:
+            reply = hall.done("POST", "/people", part)
+        except wire.Refused as refused:
+            explain(args.list, refused.reply.data() or {})
+            raise
         added += reply.data()["added"]
         is_again = is_again or reply.tries > 1
     out.say(f"added {added}")
@@ -66,6 +69,14 @@ def add(args, hall, out):
         out.say("It was sent more than once, so they may have been added the first time: all of them stand there now.")
     out.value({"added": added})
     return told.DONE
+
+
+def explain(path, data):
+    """Says where the fault of a list is to be looked for."""
+    if data.get("form") == "F2" and data.get("field") == "key":
+        note(f"`hallctl keys {path}` fills in the keys that are missing")
+    elif data.get("form"):
+        note(f"`hallctl check {path}` says on which line, and what to do")
 
 
 def new_key():
@@ -112,7 +123,9 @@ def keys(args, _, out):
     if rows[:1] != [HEAD] or any(len(row) != 3 for row in rows):
         note(f"{args.list} is no list of the columns name, key and roles: `hallctl check {args.list}` says where")
         return told.REFUSED
-    rows = rows[1:]
+    # Spreadsheets write lines of commas alone behind the last one.
+    numbered = [(at, row) for at, row in numbered if any(cell.strip() for cell in row)]
+    has_empty, rows = len(numbered) < len(rows), [row for _, row in numbered[1:]]
     filled = [row for row in rows if not row[1].strip()]
     for row in filled:
         row[1] = new_key()
@@ -120,7 +133,7 @@ def keys(args, _, out):
     if fault:
         note(*fault.lines(args.list, [lines[0], *map(check.without_key, lines[1:])]), "No key was made.")
         return told.REFUSED
-    if filled:
+    if filled or has_empty:
         written(args.list, rows)
     shown = rows if args.all else filled
     note(f"{len(filled)} of {counted(len(rows), 'person', 'people')} got a new key, which stands in {args.list};"

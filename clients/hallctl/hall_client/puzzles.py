@@ -1,9 +1,9 @@
 """Puzzles: putting them, having their solutions counted, and seeing how they stand."""
 import sys
-from pathlib import Path
 
 from . import told
 from .columns import note
+from .columns import text_of as text_of_file
 from .mend import mended
 from .wire import Refused, as_json
 
@@ -36,7 +36,7 @@ def text_of(word):
     """The text that a word names: itself, that of @FILE, or of the input."""
     if word == "-":
         return sys.stdin.read()
-    return Path(word[1:]).read_text(encoding="utf-8") if word.startswith("@") else word
+    return text_of_file(word[1:]) if word.startswith("@") else word
 
 
 def put(args, hall, out):
@@ -44,7 +44,12 @@ def put(args, hall, out):
     given = text_of(args.text)
     text, notes = mended(given)
     note(*[f"mended: {it}" for it in notes], *([f"asked for: {text}"] if notes else []))
-    data = hall.put(of(args.puzzle), {"text": text})
+    try:
+        data = hall.put(of(args.puzzle), {"text": text})
+    except Refused as refused:
+        if (refused.reply.data() or {}).get("denied") == 4:
+            note(f"{args.puzzle.partition('/')[0]} is no person with the role author: see the spelling, and the list")
+        raise
     out.say(f"{args.puzzle} is {data['state']}: {data['text']}")
     if data["text"] != text and not notes:
         out.say("This is how the hall writes it; it is the same puzzle.")
@@ -55,8 +60,14 @@ def put(args, hall, out):
 def certify(args, hall, out):
     """Has the solutions of puzzles counted, one after another."""
     found = {}
-    for place in args.puzzle:
-        found[place] = hall.done("POST", f"{of(place)}/certificate", as_json({"budget": args.budget})).data()["state"]
+    paths = {place: of(place) for place in args.puzzle}
+    for place, path in paths.items():
+        try:
+            reply = hall.done("POST", f"{path}/certificate", as_json({"budget": args.budget}))
+        except Refused:
+            note(f"{place} wasn't certified:")
+            raise
+        found[place] = reply.data()["state"]
         out.say(f"{place}: {found[place]} - {MEANING[found[place]]}")
     for state, lines in TRY.items():
         if state in found.values():

@@ -1,8 +1,9 @@
 """What comes of a round: answers, protests and rulings, its publication, tables, and sums of tables."""
 import csv
+import io
 
 from . import told
-from .columns import agreed, columns, counted, csv_text, note, utc
+from .columns import agreed, columns, counted, csv_text, note, text_of, utc
 from .rounds import is_so, times
 from .wire import Refused
 
@@ -95,8 +96,26 @@ def table(args, hall, out):
 
 def spoken(path):
     """The spoken name and the country of each login name: CSV with the first line name,spoken,country."""
-    with open(path, encoding="utf-8-sig", newline="") as file:
-        return {row["name"]: (row.get("spoken") or "", row.get("country") or "") for row in csv.DictReader(file)}
+    reader = csv.DictReader(io.StringIO(text_of(path), newline=""))
+    if not {"name", "spoken"} <= set(reader.fieldnames or []):
+        first = ",".join(reader.fieldnames or [])
+        raise ValueError(f"the first line of {path} is to be name,spoken,country, with commas, and is {first}")
+    return {row["name"]: (row.get("spoken") or "", row.get("country") or "") for row in reader}
+
+
+def tables_of(hall, rounds):
+    """The totals of each of these rounds, by name."""
+    twice = next((name for name in rounds if rounds.count(name) > 1), None)
+    if twice:
+        raise ValueError(f"{twice} is named twice: a table is added once")
+    found = {}
+    for name in rounds:
+        try:
+            found[name] = {who: total for _, who, total in lines_of_table(table_text(hall, name))}
+        except Refused:
+            note(f"there is no table of {name}")
+            raise
+    return found
 
 
 def ranked(totals):
@@ -110,10 +129,12 @@ def ranked(totals):
 
 def ranking(args, hall, out):
     """Adds the tables of rounds up."""
-    tables = {name: {who: total for _, who, total in lines_of_table(table_text(hall, name))} for name in args.round}
+    tables = tables_of(hall, args.round)
     everybody = {who for of in tables.values() for who in of}
     totals = {who: sum(of.get(who, 0) for of in tables.values()) for who in everybody}
     names = spoken(args.names) if args.names else None
+    nameless = sorted(everybody - set(names)) if names is not None else []
+    note(*[f"{args.names} has no line for {', '.join(nameless)}"] * bool(nameless))
     head = ["rank", "name", *(["spoken", "country"] if names is not None else []), *args.round, "total"]
     rows = [[rank, who, *(names.get(who, ("", "")) if names is not None else []),
              *[tables[it].get(who, "") for it in args.round], totals[who]] for rank, who in ranked(totals)]

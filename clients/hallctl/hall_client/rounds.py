@@ -53,6 +53,7 @@ def put(args, hall, out):
     data = hall.get(f"/rounds/{args.round}")
     out.say(f"{args.round} is a draft: {data['title']}, {data['mode']}")
     say_times(data, hall, out)
+    out.say(f"testers {', '.join(sheet_of(content).get('testers', [])) or 'none'}")
     if data["start"] <= hall.now():
         out.say("Its start has come already, so it can't be released: put it again with a later one.")
     states = states_of(hall)
@@ -66,13 +67,13 @@ def put(args, hall, out):
 def explain_put(hall, content, refused, args):
     """Says which puzzle or tester of a sheet isn't there, or where its fault is to be looked for."""
     data = refused.reply.data() or {}
-    if data.get("form"):
-        note(f"`hallctl check {args.sheet}` says on which line")
+    if data.get("form", "F6") != "F6":
+        note(f"`hallctl check {args.sheet}` says on which line, and what to do")
     if data.get("denied") == 4:
         sheet, states = sheet_of(content), states_of(hall)
         missing = [f"{author}/{label}" for author, label in places_of(sheet) if (author, label) not in states]
         note(*([f"there is no puzzle {', '.join(missing)}"] if missing else
-               [f"a tester is no entrant and no referee: {', '.join(map(str, sheet.get('testers', [])))}"]))
+               [f"not all testers are entrants or referees: {', '.join(map(str, sheet.get('testers', [])))}"]))
 
 
 def say_lacking(rows, out):

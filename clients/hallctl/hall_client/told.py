@@ -5,6 +5,7 @@ from pathlib import Path
 
 DONE, OTHERWISE, REFUSED, FAULT, WRONG_WORDS = 0, 1, 2, 3, 64
 
+STRANGER = "the answer isn't a hall's: see --url, and what stands between, as the login of a network"
 DENIAL_ADVICE = {
     1: "See that the key file holds the key of the entry list, and that --url is the right hall.",
     2: "Ask with the key of a person who has the role: docs/HTTP.md says which role each route wants.",
@@ -31,34 +32,55 @@ def codes():
     return json.loads(Path(__file__).with_name("codes.json").read_text(encoding="utf-8"))
 
 
-def sentence_of_form(data):
-    """What a fault of form says."""
+FORM_ADVICE = {
+    "F6": "A name, a label or an id has 1 to 24 of a-z, 0-9 and the dash; see the words after the command.",
+    "E2": "The hall knows sudoku, slither and nurikabe. Take the address that puzz.link shows, or KIND/COLS/ROWS/BODY.",
+    "E3": "Behind the kind come columns and rows, as in slither/10/10/BODY.",
+    "E4": "A Sudoku has side 4, 6, 9, 16 or 25; the others at most 50 columns, 50 rows and 1,000 cells.",
+}
+FORM_ADVICE.update(dict.fromkeys(
+    ["E5", "E6", "E7", "E8"], "Take the address from puzz.link once more: docs/USING.md says what each byte means."))
+# What each says of whom a 503 comes from.
+BUSY = {
+    "hall": "status 503: the hall couldn't do it just now: its disk or its memory is full, which whoever runs it sees",
+    "proxy": "status 503: the hall is down, or too many wait for it",
+}
+
+
+def sentence_of_form(data, of_file):
+    """What a fault of form says, of a list or a sheet or of another request."""
     code = data["form"]
     told = codes()["forms"].get(code) or codes()["texts"].get(code) or {"sentence": ""}
     where = f" {data['field']}" if "field" in data else ""
     place = f" at place {data['place']} of the text's body, counted from 0" if "place" in data else ""
-    inside = told.get("in_a_list_or_sheet")
-    both = f" Of a list or sheet: {inside}" if inside and inside != told["sentence"] else ""
-    return f"{code}{where}{place}: {told['sentence']}{both}"
+    inside = told.get("in_a_list_or_sheet") if of_file else None
+    return f"{code}{where}{place}: {inside or told['sentence']}"
 
 
-def lines_of(data, status):
+def is_of_hall(data):
+    """Whether these are words of the hall, or of the proxy that comes with it."""
+    return isinstance(data, dict) and bool({"denied", "form", "fault"} & set(data))
+
+
+def lines_of(data, status, of_file=False):
     """What a reply says that isn't 200, in lines: the code and its sentence, and then what to do."""
-    if isinstance(data, dict) and data.get("fault") == "proxy" and status == 403:
+    if is_of_hall(data) and data.get("fault") == "proxy" and status == 403:
         yield "status 403: the proxy doesn't let this address ask for it"
         yield "Ask whoever runs the hall to name your address in the proxy's file, or to ask in your place."
-    elif isinstance(data, dict) and "denied" in data:
+    elif is_of_hall(data) and "denied" in data:
         number = data["denied"]
         yield f"denied {number}: {codes()['denials'].get(str(number), {'sentence': ''})['sentence']}"
         if number in DENIAL_ADVICE:
             yield DENIAL_ADVICE[number]
-    elif isinstance(data, dict) and "form" in data:
-        yield f"refused {sentence_of_form(data)}"
-        if data["form"] == "F6":
-            yield "A name, a label or an id has 1 to 24 of a-z, 0-9 and the dash; see the words after the command."
+    elif is_of_hall(data) and "form" in data:
+        yield f"refused {sentence_of_form(data, of_file)}"
+        yield from [FORM_ADVICE[data["form"]]] if data["form"] in FORM_ADVICE else []
+    elif status == 503 and is_of_hall(data):
+        yield BUSY.get(data["fault"], "status 503")
+    elif str(status) in codes()["statuses"] and status not in (400, 403, 404):
+        yield f"status {status}: {codes()['statuses'][str(status)]['sentence']}"
     else:
-        told = codes()["statuses"].get(str(status), {"sentence": "An answer that isn't the hall's."})
-        yield f"status {status}: {told['sentence']}"
+        yield f"status {status}: {STRANGER}"
 
 
 def waits_of(status):

@@ -16,6 +16,15 @@ TIMEOUT, TIMEOUT_OF_CERTIFICATE = 200, 7300
 LARGEST_BODY = 65_536
 
 
+# The hosts that nobody stands before.
+LOCAL = ("localhost", "127.0.0.1", "::1")
+
+
+def scheme_of(url):
+    """How a hall is asked whose address says nothing of it: in secret, but on this machine."""
+    return "http" if urllib.parse.urlsplit(f"//{url}").hostname in LOCAL else "https"
+
+
 class NoReply(Exception):
     """Nobody answered, or only that the request should be sent again, for as long as was to be waited."""
 
@@ -32,7 +41,8 @@ class Reply:
     """A reply: its status, body, and the moment that it tells, where a proxy does."""
 
     def __init__(self, status, body, headers):
-        self.status, self.body, self.tries = status, body, 1
+        self.status, self.body, self.tries, self.of_file = status, body, 1, False
+        self.kind, self.place = headers.get("Content-Type", ""), headers.get("Location", "")
         date = email.utils.parsedate_to_datetime(headers["Date"]) if headers.get("Date") else None
         self.moment = date.timestamp() if date else None
         self.retry_after = headers.get("Retry-After", "")
@@ -43,6 +53,10 @@ class Reply:
             return json.loads(self.body)
         except ValueError:
             return None
+
+    def is_of_hall(self):
+        """Whether a reply of 200 is a hall's: JSON, or the plain text of a table."""
+        return self.kind.startswith("text/plain") or self.data() is not None
 
     def pause(self, last):
         """How long to wait before the request is sent again; none where it isn't."""
@@ -58,12 +72,15 @@ class Hall:
     """A hall at a URL, asked under a key."""
 
     def __init__(self, url, key, patience=300, say=lambda text: print(text, file=sys.stderr)):
-        parts = urllib.parse.urlsplit(url if "://" in url else f"http://{url}")
+        url = url if "://" in url else f"{scheme_of(url)}://{url}"
+        parts = urllib.parse.urlsplit(url)
         if parts.scheme not in ("http", "https") or not parts.hostname:
             raise ValueError(f"{url} is no address of a hall, as https://your.name or http://127.0.0.1:8080")
         self.url, self.key, self.patience, self.say = url, key, patience, say
         self.is_secret, self.host, self.front = parts.scheme == "https", parts.hostname, parts.path.rstrip("/")
         self.port = parts.port or (443 if self.is_secret else 80)
+        if key and not self.is_secret and parts.hostname not in LOCAL:
+            say(f"whoever stands between can read your key on its way to {url}: ask by https://")
         # The hall's clock less this machine's, by the last reply that told a moment.
         self.ahead = 0
 
@@ -98,7 +115,7 @@ class Hall:
             tries += 1
             waited = reply.pause(pause) if reply else min(2 * pause or 1, told.longest_wait())
             if waited is None:
-                self.note(reply, tries)
+                self.note(reply, tries, body)
                 return reply
             pause = waited
             why = why or next(told.lines_of(reply.data(), reply.status)).rstrip(".")
@@ -107,9 +124,12 @@ class Hall:
             self.say(f"{why}; it is sent again in {pause} s")
             time.sleep(pause * random.uniform(0.8, 1.2))
 
-    def note(self, reply, tries):
-        """Keeps what a reply tells beside its body."""
-        reply.tries = tries
+    def note(self, reply, tries, body):
+        """Keeps what a reply tells beside its body. What only looks like a reply is none."""
+        if reply.place or reply.status == 200 and not reply.is_of_hall():
+            where = f", and leads to {reply.place}" if reply.place else ""
+            raise NoReply(f"{self.url} doesn't answer: status {reply.status}{where}: {told.STRANGER}")
+        reply.tries, reply.of_file = tries, not body.startswith(b"{")
         if reply.moment:
             self.ahead = reply.moment - time.time()
 

@@ -1,10 +1,11 @@
 """The command line of hallctl."""
 import argparse
 import os
+import re
 import sys
 
 from . import archive, check, people, puzzles, rehearse, results, rounds, told
-from .columns import Out, note
+from .columns import Out, note, text_of
 from .local_hall import NoProgram
 from .wire import Hall, NoReply, Refused
 
@@ -24,6 +25,10 @@ examples:
 
 A key is never a word of the command line, where other users of the machine would see it. docs/STAFF.md tells how a
 day is held."""
+
+
+# Another one is nobody's; of a slip the key alone is meant.
+KEY = re.compile(r"[A-Za-z0-9-]{8,64}")
 
 
 class WrongWords(Exception):
@@ -144,11 +149,10 @@ def key_of(args):
         raise WrongWords("whose key? Name a file that holds it by --key-file, or in the variable HALL_KEY_FILE")
     if os.stat(args.key_file).st_mode & 0o077:
         note(f"others of this machine may read {args.key_file}: chmod 600 {args.key_file}")
-    with open(args.key_file, encoding="utf-8") as file:
-        key = file.readline().strip()
-    if not key.isascii() or not key.isprintable():
-        raise ValueError(f"the first line of {args.key_file} is no key: it has 8 to 64 letters, digits and dashes")
-    return key
+    first, *_ = text_of(args.key_file).splitlines() or [""]
+    if not KEY.fullmatch(first.strip()):
+        raise ValueError(f"the first line of {args.key_file} is no key: 8 to 64 letters, digits and dashes alone")
+    return first.strip()
 
 
 def hall_of(args):
@@ -162,7 +166,7 @@ def hall_of(args):
 def refused(args, reply):
     """Tells of a reply that isn't 200."""
     data = reply.data()
-    note(*told.lines_of(data, reply.status))
+    note(*told.lines_of(data, reply.status, reply.of_file))
     Out(args.json).value(data if data is not None else {"status": reply.status})
     return told.REFUSED
 

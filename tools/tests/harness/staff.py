@@ -177,6 +177,9 @@ def ranking(day, totals):
     Path(f"{day.room.room}/names.csv").write_text(spoken, encoding="utf-8")
     text = day.run(None, "ranking", *names, "--names", "names.csv", "--csv")[1]
     day.holds("the ranking with names", text, "rank,name,spoken,country,r1,", "entrant-1,Žofie Nováková,CZ,")
+    day.run(None, "ranking", *names, "--names", "names.csv", has=["names.csv has no line for entrant-10, entrant-11"])
+    Path(f"{day.room.room}/names.csv").write_text(spoken.replace(",", ";"), encoding="utf-8")
+    day.run(None, "ranking", *names, "--names", "names.csv", status=2, has=["is to be name,spoken,country"])
 
 
 def archive(day):

@@ -22,6 +22,22 @@ SHEETS = [
 ]
 
 
+# Files as spreadsheets and editors save them, and what `check` says is to be done.
+LIST = "name,key,roles\nbob,bob-key-1,author\n"
+SAVED = [
+    ("semicolons.csv", LIST.replace(",", ";").encode(), "save it with commas"),
+    ("tabs.csv", LIST.replace(",", "\t").encode(), "save it with commas"),
+    ("sheet.xlsx", b"PK\3\4\24\0", "a spreadsheet's own file"), ("wide.csv", LIST.encode("utf-16"), "save it as UTF-8"),
+    ("latin.csv", LIST.replace("bob,", "böb,").encode("latin-1"), "no text in UTF-8"), ("empty.csv", b"", "is empty"),
+    ("keyless.csv", LIST.replace("bob-key-1", "").encode(), "`hallctl keys` fills it in"),
+    ("commas.csv", f"{LIST},,\n".encode(), "commas alone"), ("capital.csv", LIST.replace("author", "Author").encode(),
+                                                             "joined by +"),
+    ("curly.toml", 'version = 2\ntitle = “Noon”\n'.encode(), "write plain ones"),
+    ("zone.toml", b'version = 2\ntitle = "Noon"\nstart = "2026-05-02T09:00:00"\nzone = "Europe/Berlin"\n',
+     "CET-1CEST"),
+]
+
+
 def wrong_files(day):
     """Faults are planted in a good list and a good sheet, and each is found on its line."""
     room = day.room.room
@@ -36,7 +52,23 @@ def wrong_files(day):
     day.run(None, "check", "wrong.csv", "--program", f"{room}/nothing", status=3, has=["isn't found"])
     Path(f"{room}/wrong.csv").write_text("name,key\nbob,\n", encoding="ascii")
     day.run(None, "keys", "wrong.csv", status=2, has=["hallctl check wrong.csv"])
+    saved(day)
     slips(day)
+
+
+def saved(day):
+    """What spreadsheets and editors make of a list or a sheet, and how it is told."""
+    room = day.room.room
+    for name, content, told in SAVED:
+        Path(f"{room}/{name}").write_bytes(content)
+        day.run(None, "check", name, status=1, has=[told])
+    for name, told in (("semicolons.csv", "hallctl check semicolons.csv"), ("keyless.csv", "hallctl keys keyless.csv")):
+        got = day.run("dora", "people", "add", name, status=2, has=[told])
+        day.check(f"the body of {name}", "JSON" in got[2], False)
+    day.run(None, "keys", "latin.csv", status=2, has=["latin.csv is no text in UTF-8"])
+    Path(f"{room}/marked.csv").write_bytes(b"\xef\xbb\xbfname,key,roles\r\nbob,,author\r\n,,\r\n")
+    day.run(None, "keys", "marked.csv", has=["1 of 1 person got a new key"])
+    day.run(None, "check", "marked.csv", has=["is an entry list, of 1 line"])
 
 
 def slips(day):
@@ -84,6 +116,25 @@ def retries(day):
     day.run(author, "puzzle", "certify", f"{author}/again", status=2, has=["the proxy doesn't let this address"])
     late(day)
     nobody(day)
+    strangers(day)
+
+
+def strangers(day):
+    """What answers in a hall's place, and addresses that say nothing of how they are asked."""
+    plan, page = day.room.between.plan, b"Content-Type: text/html\r\n"
+    plan += [answered(200, b"OK", b"<h1>Log in</h1>", page)]
+    day.run("dora", "round", "list", status=3, has=["the answer isn't a hall's"])
+    plan += [answered(301, b"Moved", b"", b"Location: https://elsewhere.example/\r\n")]
+    day.run("dora", "round", "list", status=3, has=["leads to https://elsewhere.example/"])
+    plan += [answered(404, b"Not Found", b"<html>", page)]
+    day.run("dora", "round", "list", status=2, has=["the answer isn't a hall's"])
+    day.run("dora", "round", "list", url=day.room.between.url().removeprefix("http://"), has=["start here"])
+    silent = {"status": 3, "url": "no-such-name.invalid"}
+    day.run("dora", "--patience", "0", "round", "list", **silent, has=["https://no-such-name.invalid doesn't answer"])
+    silent["url"] = f"http://{silent['url']}"
+    day.run("dora", "--patience", "0", "round", "list", **silent, has=["can read your key"])
+    plan += [answered(503, b"Service Unavailable", b'{"fault":"hall"}')]
+    day.run("dora", "--patience", "0", "round", "list", status=3, has=["its disk or its memory is full"])
 
 
 def late(day):
@@ -107,13 +158,22 @@ def nobody(day):
     day.run("dora", "rule", "r1", "entrant-1", "t", "perhaps", status=64)
     Path(f"{day.room.room}/wrong.key").write_text("käse\n", encoding="utf-8")
     day.run("wrong", "round", "list", status=2, has=["is no key", "chmod 600"])
+    for name, content, status in (("slip", "Name:  dora\nKey:   dora-key-1\n", 2), ("none", "", 2),
+                                  ("marked", f"\ufeff{day.keys['dora']}\r\n", 0)):
+        path = Path(f"{day.room.room}/{name}.key")
+        path.write_text(content, encoding="utf-8")
+        path.chmod(0o600)
+        day.run(name, "round", "list", status=status, has=["is no key"] if status else ["start here"])
 
 
 def puzzles_refused(day):
     """Texts that are none, puzzles of others, and searches that don't say one."""
     author = "author-2"
     day.run(author, "puzzle", "put", f"{author}/bad", "sudoku/4/4/5u", status=2, has=["refused E7 at place 0"])
-    day.run(author, "puzzle", "put", f"{author}/bad", "sudoku/5/5/g", status=2, has=["refused E4"])
+    day.run(author, "puzzle", "put", f"{author}/bad", "sudoku/5/5/g", status=2, has=["refused E4", "side 4, 6, 9"])
+    day.run(author, "puzzle", "put", f"{author}/bad", "tatami/5/5", status=2, has=["refused E2", "nurikabe"])
+    told = ["entrant-1 is no person with the role author"]
+    day.run("dora", "puzzle", "put", "entrant-1/p", SUDOKU, status=2, has=told)
     day.run(author, "puzzle", "put", f"{author}/BAD", SUDOKU, status=2, has=["refused F6"])
     day.run(author, "puzzle", "put", "bad", SUDOKU, status=2, has=["write AUTHOR/LABEL"])
     day.run(author, "puzzle", "put", "author-1/own", SUDOKU, status=2, has=["denied 3"])
@@ -123,7 +183,8 @@ def puzzles_refused(day):
     day.run(author, "puzzle", "put", f"{author}/hard", MANY)
     told = ["gave up", "hall solve --budget 1000000"]
     day.run(author, "puzzle", "certify", f"{author}/hard", "--budget", "1", status=1, has=told)
-    day.run(author, "puzzle", "certify", f"{author}/none-there", status=2, has=["denied 4"])
+    told = ["denied 4", f"{author}/none-there wasn't certified"]
+    day.run(author, "puzzle", "certify", f"{author}/none-there", status=2, has=told)
     day.run(author, "puzzle", "show", "author-1/r1-1", status=2, has=["denied 3"])
     day.run("entrant-1", "puzzle", "list", status=2, has=["denied 2", "who has the role"])
     day.run("dora", "puzzle", "put", "author-1/r1-1", MANY, status=2, has=["denied 11", "under a new label"])
@@ -139,7 +200,10 @@ def rounds_refused(day):
     told = ["denied 4", "where a round is put, a puzzle of the sheet isn't there", "no puzzle author-2/nowhere"]
     day.run("dora", "round", "put", "x1", "missing.toml", status=2, has=told)
     day.run("dora", "round", "put", "x1", "bad.toml", status=2, has=["refused F1", "hallctl check bad.toml"])
-    day.run("dora", "round", "put", "x1", "lacking.toml", has=["number 2, author-2/many, isn't ready"])
+    beside = day.run("dora", "round", "put", "X1", "lacking.toml", status=2, has=["refused F6"])[2]
+    day.check("the sheet isn't looked at for a wrong id", "hallctl check" in beside, False)
+    told = ["number 2, author-2/many, isn't ready", "testers none"]
+    day.run("dora", "round", "put", "x1", "lacking.toml", has=told)
     for words in ([], ["--sheet", "lacking.toml"]):
         day.run("dora", "--yes", "round", "release", "x1", *words, status=1, has=["more", "see to these puzzles first"])
     day.run("dora", "--yes", "round", "release", "x1", "--sheet", "again.toml", status=2, has=["put the sheet first"])
@@ -161,7 +225,8 @@ def refusals(day):
     day.check("denied in JSON", day.data("rex", "people", "add", "people.csv", status=2), {"denied": 2})
     day.run("dora", "--yes", "publish", "r1", status=2, has=["denied 9"])
     day.run(None, "table", "r1", status=2, has=["denied 15"])
-    day.run(None, "ranking", "r1", "r2", status=2, has=["denied 15"])
+    day.run(None, "ranking", "r1", "r2", status=2, has=["denied 15", "there is no table of r1"])
+    day.run(None, "ranking", "r1", "r1", status=2, has=["r1 is named twice"])
     day.run("author-1", "answers", "x1", status=2, has=["denied 2"])
     day.run("dora", "answers", "x1", status=2, has=["denied 4"])
     day.run("dora", "protests", "x9", status=2, has=["denied 4"])
