@@ -1,9 +1,9 @@
 // Answers and protests on their way. A letter gets its token and is kept before it leaves, so that whatever happens
 // (a cut connection, a closed tab, a dead battery) the same letter goes again, and the hall takes it once.
 //
-// A letter: {id: its token, path, body, round, number, kind: "answer" or "protest", made, reply}. Without `reply` it
-// is on its way. Taken ones are dropped (the hall's own list shows them); refused ones stay until the reader has seen
-// them.
+// A letter: {id: its token, path, body, round and its start, number, kind: "answer" or "protest", made, reply}.
+// Without `reply` it is on its way. Taken ones are dropped (the hall's own list shows them); refused ones stay until
+// the reader has seen them.
 // Each has a name of its own in the browser's store, so two tabs of one person don't overwrite each other's.
 
 import { clock } from "./clock.js";
@@ -17,16 +17,25 @@ export class Letters extends EventTarget {
     super();
     Object.assign(this, { key, person, stop: new AbortController() });
     this.all = new Map(readLetters(person).map((letter) => [letter.id, letter]));
-    for (const letter of this.all.values()) this.send(letter);
     followLetters(person, this.stop.signal, (id, letter) => this.hear(id, letter));
   }
 
-  answer(round, number, answer) {
-    this.post({ kind: "answer", round, number, body: { answer } }, (token) => `answers/${number}/${token}`);
+  // Sends what was kept, once the hall has told of its rounds. What was written to another round of the same name, as
+  // of a rehearsal at this address, is thrown away.
+  begin(rounds) {
+    for (const letter of this.all.values()) {
+      const round = rounds.find(({ id }) => id === letter.round);
+      if (round && (letter.start ?? round.start) !== round.start) this.drop(letter);
+      else this.send(letter);
+    }
   }
 
-  protest(round, number, text) {
-    this.post({ kind: "protest", round, number, body: { number, text } }, (token) => `protests/${token}`);
+  answer({ id, start }, number, answer) {
+    this.post({ kind: "answer", round: id, start, number, body: { answer } }, (token) => `answers/${number}/${token}`);
+  }
+
+  protest({ id, start }, number, text) {
+    this.post({ kind: "protest", round: id, start, number, body: { number, text } }, (token) => `protests/${token}`);
   }
 
   post(content, path) {

@@ -32,6 +32,7 @@ class App extends EventTarget {
     Object.assign(this, { key, person: personOf(key), rounds: rounds ?? [], told: Boolean(rounds),
       session: new AbortController() });
     this.letters = new Letters(key, this.person);
+    if (rounds) this.letters.begin(rounds);
     document.body.classList.add("in");
     every(REFRESH, this.session.signal, this.refresh);
     this.show();
@@ -60,6 +61,7 @@ class App extends EventTarget {
     const reply = await ask("GET", "/rounds", { key: this.key, signal: this.session.signal });
     if (reply?.denied === 1) this.leave(DENIED[1].join(" "));
     if (!reply?.ok) return;
+    if (!this.told) this.letters.begin(reply.value.rounds);
     Object.assign(this, { rounds: reply.value.rounds, told: true });
     sweep();
     this.dispatchEvent(new Event("rounds"));
@@ -72,9 +74,11 @@ class App extends EventTarget {
     return find();
   }
 
-  // The sheet with the puzzles, which never changes. Asked a little before the start by the page's clock, it waits.
+  // The sheet with the puzzles, which never changes, but where a tab outlives a hall, as after a rehearsal. Asked a
+  // little before the start by the page's clock, it waits.
   async sheet(id, signal) {
-    if (this.sheets.has(id)) return { ok: true, value: this.sheets.get(id) };
+    const kept = this.sheets.get(id);
+    if (kept && kept.start === this.rounds.find((round) => round.id === id)?.start) return { ok: true, value: kept };
     for (let pause = 300; ; pause = Math.min(15000, 1.1 * pause)) {
       const reply = await ask("GET", `/rounds/${id}`, { key: this.key, signal });
       if (reply?.ok) this.sheets.set(id, reply.value);

@@ -60,7 +60,7 @@ function wrongText(text) {
   return text.length > MOST ? `These are ${text.length} signs, and at most ${MOST} can be sent.` : "";
 }
 
-function protestForm(app, id, sheet) {
+function protestForm(app, round, sheet) {
   const which = html("select", { id: "which" }, sheet.puzzles.map(({ number, text }) =>
     html("option", { value: number }, `${number}. ${nameOf(text)}`)));
   const words = html("textarea", { id: "words", rows: 3, required: true, "aria-describedby": "left" });
@@ -74,7 +74,7 @@ function protestForm(app, id, sheet) {
   words.addEventListener("input", look);
   const send = (event) => {
     event.preventDefault();
-    app.letters.protest(id, Number(which.value), plain(words.value));
+    app.letters.protest(round, Number(which.value), plain(words.value));
     words.value = "";
     look();
   };
@@ -96,7 +96,7 @@ const NO_FORM = { before: "Protests are taken from the end on.", running: "Prote
   closed: "The time for protests is over.", published: "The time for protests is over." };
 
 export function protestsView(app, left, id) {
-  return frame(app, left, id, "protests", (box, { sheet, now, signal }) => {
+  return frame(app, left, id, "protests", (box, { round, sheet, now, signal }) => {
     const list = html("div"), said = html("div", { "aria-live": "polite" });
     const renew = async () => {
       said.replaceChildren(...app.letters.of(id, "protest").map((letter) =>
@@ -106,7 +106,7 @@ export function protestsView(app, left, id) {
       const own = app.own(id, reply.value.protests);
       refill(list, own.length ? own.map(protestLine) : html("p", { class: "small" }, "You made no protest."));
     };
-    const form = now === "protests" ? protestForm(app, id, sheet) : html("p", { class: "lead" }, NO_FORM[now]);
+    const form = now === "protests" ? protestForm(app, round, sheet) : html("p", { class: "lead" }, NO_FORM[now]);
     box.append(form, said, list);
     app.letters.addEventListener("change", renew, { signal });
     if (now !== "before") every(20, signal, renew);

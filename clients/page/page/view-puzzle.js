@@ -81,7 +81,7 @@ class Desk {
     if (why && !await sure("Not finished?", why, "Hand it in as it is")) return;
     if (!why && this.answers.some((old) => old.answer === answer)
       && !await sure("The same again?", "You handed in just this before.", "Hand it in again")) return;
-    this.app.letters.answer(this.round.id, this.number, answer);
+    this.app.letters.answer(this.round, this.number, answer);
   }
 
   async renew() {

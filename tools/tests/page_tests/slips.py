@@ -20,6 +20,13 @@ field.value = '';
 field.focus();
 document.execCommand('insertText', false, text);
 return [field.value, field.validationMessage]"""
+# Answers of eve's that a closed tab left on their way, to rounds that began at these moments.
+LEFT = """const [key, starts] = arguments, done = arguments[arguments.length - 1];
+import('/page/store.js').then(({ keepLetter, personOf }) => {
+  starts.forEach((start, i) => keepLetter(personOf(key), { id: `left-${i}`, path: `/rounds/m/answers/1/left-${i}`,
+    made: start, kind: 'answer', round: 'm', start, number: 1, body: { answer: `00${i}` } }));
+  done(1);
+});"""
 LONG, FOREIGN, CURLY = "It is unclear. " * 20, "La troisième ligne", "The “3” isn’t clear –\nsee row 3 …"
 
 
@@ -32,6 +39,7 @@ def trial(program, pictures):
         browser.give_key("eve-key-1")
         until(lambda: browser.count("body.in"))
         early(place, browser, holds, begun)
+        rehearsed(place, browser, holds)
         away(place, browser, holds)
         elsewhere(place, browser, holds)
         protest(place, browser, holds)
@@ -56,6 +64,17 @@ def early(place, browser, want, begun):
     want("a puzzle's address waits for the start", browser.shows("come by themselves"), browser.text())
     browser.ready("1. Slitherlink")
     want("and the puzzle comes by itself", browser.count(".board svg") == 1, browser.text())
+
+
+def rehearsed(place, browser, want):
+    """An answer that was left on its way to another hall's round of the same name, as in a rehearsal."""
+    start = place.ask("GET", "/rounds/m", "dora")["start"]
+    browser.driver.execute_async_script(LEFT, "eve-key-1", [start - 86_400, start])
+    browser.reload()
+    want("what was left on its way is sent", until(lambda: place.answers("m", "eve")))
+    want("and nothing is kept", until(lambda: not browser.kept("hall.letter.")), browser.kept("hall.letter."))
+    tokens = [answer["token"] for answer in place.answers("m", "eve")]
+    want("but not to another round of that name", tokens == ["left-1"], tokens)
 
 
 def away(place, browser, want):
