@@ -11,6 +11,7 @@ import { failed, refused, wait } from "./view-round.js";
 import { verdict } from "./words.js";
 
 const LOOK = 3; // seconds between two looks whether the end is past for sure
+const SOON = 120; // seconds before the end from which on is told what isn't handed in
 const SHADES = { slither: "Dim satisfied numbers", sudoku: "Shade equal numbers" };
 
 export function puzzleView(app, signal, id, wanted) {
@@ -113,8 +114,16 @@ class Desk {
     this.hand.textContent = waiting ? "On its way …" : over ? "The round is over"
       : right && this.round.mode === "instant" ? "Solved" : `Hand in · ${this.worth()} points`;
     refill(this.said, letters.filter((letter) => letter.reply).map((letter) => refused(app, letter)),
-      this.news(waiting, over, right));
+      this.hand.disabled ? "" : this.reminder(), this.news(waiting, over, right));
     refill(this.past, answers.map((answer) => html("li", {}, `${exact(answer.moment)} `, chip(answer))));
+  }
+
+  // Near the end, that what is drawn here isn't handed in.
+  reminder() {
+    const { board, answers, puzzle } = this, drawn = writeAnswer(puzzle, board.marks);
+    const isSoon = endOf(this.round) - clock.now() < SOON;
+    if (!isSoon || !board.past.length || answers.some(({ answer }) => answer === drawn)) return "";
+    return html("p", { class: "note" }, "The end is near, and what is drawn here isn't handed in.");
   }
 
   // What a right answer gives now: each wrong one in an instant round costs the penalty.

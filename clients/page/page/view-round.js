@@ -89,7 +89,7 @@ const isSame = (app, round) => app.rounds.some((now) => now.id === round.id && n
 // --- the puzzles
 
 // How a puzzle stands: [class, words].
-function standing(app, id, number, answers, begun) {
+function standing(app, id, number, answers, begun, now) {
   const own = answers.filter((answer) => answer.number === number), last = own.at(-1);
   const letters = app.letters.of(id, "answer").filter((letter) => letter.number === number);
   if (letters.some((letter) => !letter.reply)) return ["wait", "on its way"];
@@ -97,7 +97,7 @@ function standing(app, id, number, answers, begun) {
   if (last && !last.verdict) return ["wait", `handed in ${exact(last.moment)}`];
   if (last) return ["bad", own.length > 1 ? `wrong, ${own.length} times` : "wrong"];
   if (letters.length) return ["bad", "not taken"];
-  return ["", begun ? "begun" : ""];
+  return ["", begun ? (now === "running" ? "begun" : "not handed in") : ""];
 }
 
 function card(app, round, { number, points, text }, answers) {
@@ -108,7 +108,7 @@ function card(app, round, { number, points, text }, answers) {
     return html("div", { class: "card" }, `${number}. This page can't draw this puzzle: ${text}`);
   }
   const kept = new Drawing(app.person, round.id, number, text, endOf(round)).value;
-  const [look, words] = standing(app, round.id, number, answers, kept?.past.length);
+  const [look, words] = standing(app, round.id, number, answers, kept?.past.length, stage(round));
   return html("a", { class: "card", href: `#/r/${round.id}/${number}` },
     html("div", { class: "thumb" }, picture(puzzle, kept?.marks)),
     html("h3", {}, `${number}. ${kindOf(puzzle).name}`),

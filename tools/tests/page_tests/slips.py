@@ -6,7 +6,7 @@ from harness.checks import holds
 from page_tests.chromium import Browser
 from page_tests.place import MINUTES, Place, none, solved, until
 
-SLIP = "Name:  eve    (entrant)\nKey:   eve-key-1\nHall:  https://hall.example.org\nWhoever shows this key is taken ..\n"
+SLIP = "Name:  eve    (entrant)\nKey:   eve-key-1\nHall:  https://hall.example.org\nWhoever shows this key ..\n"
 # What is pasted as the key; a telephone's keyboard hands it to the field without the event of a paste.
 PASTED = {"a whole slip": SLIP, "a key with spaces": " eve-key-1 \n", "a key with other dashes": "eve–key—1"}
 PASTE = """const [text] = arguments, field = document.querySelector('#key'), clipboardData = new DataTransfer();
@@ -107,6 +107,8 @@ def elsewhere(place, browser, want):
     browser.push("button[data-letter]")
     gone = until(lambda: not browser.kept("hall.letter.") and "wasn't taken" not in browser.text())
     want("until it is seen", gone, browser.text())
+    browser.go("#/r/m")
+    want("after the end what was only drawn is told", browser.shows("not handed in", ".cards"), browser.text(".cards"))
 
 
 def protest(place, browser, want):

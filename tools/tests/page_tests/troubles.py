@@ -93,6 +93,7 @@ def asked_at_the_end(place, browser, want):
     browser.open("e", 1, "Slitherlink")
     browser.hand_in()
     want("an unfinished board asks before the end", browser.shows("Not finished?", "dialog"))
+    want("near the end is told what isn't handed in", browser.shows("The end is near", ".said"), browser.text(".said"))
     browser.go("#/r/e")
     want("a question goes with its puzzle", until(lambda: not browser.count("dialog")))
     browser.open("e", 1, "Slitherlink")
@@ -100,6 +101,7 @@ def asked_at_the_end(place, browser, want):
     browser.shows("Not finished?", "dialog")
     want("a question goes at the round's end", until(lambda: not browser.count("dialog")))
     want("and the end is told in its place", browser.shows("The round is over", "button.hand", seconds=5))
+    want("and nothing is near any more", "The end is near" not in browser.text(".said"), browser.text(".said"))
     want("and nothing was handed in", place.answers("e", "eve") == [], place.answers("e", "eve"))
 
 
