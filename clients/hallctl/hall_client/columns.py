@@ -3,6 +3,7 @@ import csv
 import datetime
 import io
 import json
+import re
 import sys
 from pathlib import Path
 
@@ -17,10 +18,15 @@ def columns(head, rows):
                         for cell, width, right in zip(row, widths, is_right)).rstrip()
 
 
+# What a spreadsheet would take for a formula; a name may begin with a dash.
+FORMULA = re.compile(r"[=+@]|-.*[^a-z0-9-]", re.DOTALL)
+
+
 def csv_text(head, rows):
-    """The same as CSV."""
+    """The same as CSV. What an entrant wrote as a formula has a mark before it, by which a spreadsheet shows it."""
     text = io.StringIO()
-    csv.writer(text, lineterminator="\n").writerows([head, *rows])
+    told = [[f"'{it}" if isinstance(it, str) and FORMULA.match(it) else it for it in row] for row in rows]
+    csv.writer(text, lineterminator="\n").writerows([head, *told])
     return text.getvalue()
 
 

@@ -99,8 +99,8 @@ class Hall:
             got = conn.getresponse()
             return Reply(got.status, got.read(), got.headers), None
         except ssl.SSLCertVerificationError as fault:
-            raise NoReply(f"the certificate of {self.host} can't be trusted: {fault.verify_message}. Where it signs itself"
-                          " and you have its file, name that in the variable SSL_CERT_FILE") from None
+            raise NoReply(f"the certificate of {self.host} can't be trusted: {fault.verify_message}. Where it signs"
+                          " itself and you have its file, name that in the variable SSL_CERT_FILE") from None
         except ssl.SSLError:
             return None, f"there is no TLS at {self.host}:{self.port}"
         except socket.gaierror:
