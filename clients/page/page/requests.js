@@ -43,9 +43,11 @@ async function once(method, path, { key, body, signal }) {
       cache: "no-store", credentials: "omit", redirect: "error" });
     const text = await reply.text();
     clock.learn(reply.headers.get("Date"), sent, performance.now());
-    return understood(reply.status, reply.headers.get("Content-Type") ?? "", text);
+    // Each request beyond a proxy's limit counts too, so its word on when to ask again is kept.
+    const after = reply.status === 429 ? Number(reply.headers.get("Retry-After")) || 0 : 0;
+    return { ...understood(reply.status, reply.headers.get("Content-Type") ?? "", text), after };
   } catch {
-    return { lost: true, status: 0 }; // no network, no whole reply, or no JSON: all the same to the sender
+    return { lost: true, status: 0, after: 0 }; // no network, no whole reply, or no JSON: all the same to the sender
   } finally {
     clearTimeout(timer);
     signal?.removeEventListener("abort", stop);
@@ -70,7 +72,8 @@ export async function ask(method, path, { key, body, signal } = {}) {
     const reply = await once(method, path, { key, body, signal });
     if (signal?.aborted) break;
     if (!reply.lost) { tell("well"); return reply; }
-    const again = PAUSES[Math.min(tries, PAUSES.length - 1)] * (0.8 + 0.4 * Math.random());
+    const least = Math.max(reply.after, PAUSES[Math.min(tries, PAUSES.length - 1)]);
+    const again = least * (0.8 + 0.4 * Math.random());
     tell("trouble", { again, status: reply.status });
     await pause(again, signal);
   }

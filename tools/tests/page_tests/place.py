@@ -14,7 +14,7 @@ from harness import proxies
 from harness.checks import holds
 from harness.running import ROOT, free_port
 
-ENTRANTS = ("eve", "fay", "gus", "hal", "ida")
+ENTRANTS = ("dan", "eve", "fay", "gus", "hal", "ida")
 PEOPLE = "name,key,roles\n" + "".join(f"{name},{name}-key-1,{role}\n" for name, role in [
     ("dora", "director"), ("bob", "author"), ("rex", "referee"), *((name, "entrant") for name in ENTRANTS)])
 MINUTES = 30  # how long the rounds run, and then how long protests are taken

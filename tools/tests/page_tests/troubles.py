@@ -1,5 +1,6 @@
 """What may go wrong: cut starts, late answers, a full or shut browser, strangers between, crowds; and nginx."""
 import http.client
+import re
 import time
 
 from harness.checks import holds
@@ -23,6 +24,11 @@ STRANGER = """const real = fetch; let left = 2;
 window.fetch = (path, ...more) => (path.includes('/answers/') && left-- > 0
   ? Promise.resolve(new Response('<h1>Log in</h1>', { status: 200, headers: { 'Content-Type': 'text/html' } }))
   : real(path, ...more));"""
+# A proxy whose limit of an address is passed, once.
+CROWDED = """const real = fetch; let left = 1;
+const headers = { 'Content-Type': 'application/json', 'Retry-After': '10' };
+window.fetch = (path, ...more) => (path.includes('/answers/') && left-- > 0
+  ? Promise.resolve(new Response('{"fault":"proxy"}', { status: 429, headers })) : real(path, ...more));"""
 
 # A proxy that tells no time, before a computer whose clock is two hours ahead.
 TIMELESS = """const now = Date.now, get = Headers.prototype.get;
@@ -49,6 +55,7 @@ def trial(program, pictures):
         kept_nothing(place, pictures, want)
         kept_little(place, pictures, want)
         stranger(place, pictures, want)
+        crowded(place, pictures, want)
         timeless(place, pictures, want)
         crowd(place, want)
         behind_nginx(place, pictures, want)
@@ -145,6 +152,21 @@ def stranger(place, pictures, want):
         browser.choose(2)
         want("the page of a stranger is no reply", browser.shows("Something between", "#trouble"))
         want("and the answer goes again", until(lambda: len(place.answers("r", "ida")) == 1))
+
+
+def crowded(place, pictures, want):
+    with Browser(place, pictures) as browser:
+        browser.before_load(CROWDED)
+        browser.enter("dan")
+        browser.open("r", 1, "Nurikabe")
+        browser.wall()
+        browser.hand_in()
+        browser.choose(2)
+        want("a limit that is passed is told", browser.shows("Too many requests", "#trouble"))
+        seconds = re.search(r"again in (\d+) s", browser.text("#trouble"))
+        want("and kept: asked again when the proxy says", seconds and 8 <= int(seconds[1]) <= 12, seconds)
+        browser.try_now()
+        want("or where the reader wants it", until(lambda: len(place.answers("r", "dan")) == 1))
 
 
 def timeless(place, pictures, want):
