@@ -21,7 +21,7 @@ const ROUTES = [[/^#\/r\/([a-z0-9-]+)\/(\d+)$/, puzzleView], [/^#\/r\/([a-z0-9-]
 const WITHOUT_KEY = [tableView, aboutView];
 const REFRESH = 30; // seconds between two looks at the list of rounds
 const EARLY = 5; // so many seconds before the start by the page's clock a sheet is asked for again and again
-const main = document.querySelector("main");
+const main = document.querySelector("main"), whose = document.querySelector("#whose");
 
 class App extends EventTarget {
   rounds = []; told = false; sheets = new Map(); names = new Map();
@@ -34,6 +34,7 @@ class App extends EventTarget {
     this.letters = new Letters(key, this.person);
     if (rounds) this.letters.begin(rounds);
     document.body.classList.add("in");
+    whose.textContent = `Key …${key.slice(-3)}`;
     every(REFRESH, this.session.signal, this.refresh);
     this.show();
   }
@@ -46,6 +47,7 @@ class App extends EventTarget {
     this.sheets.clear();
     this.names.clear();
     document.body.classList.remove("in");
+    whose.textContent = "";
     network.dispatchEvent(new Event("well"));
     this.show(note);
   }

@@ -6,7 +6,7 @@ import { ask } from "./requests.js";
 import { readAnswer, readPuzzle } from "./texts.js";
 import { every, exact } from "./times.js";
 import { chip } from "./view-puzzle.js";
-import { failed, frame, note, refused, refusedAnswers } from "./view-round.js";
+import { failed, frame, note, refusals, refused } from "./view-round.js";
 import { NO_TABLE, verdict } from "./words.js";
 
 // --- the own answers
@@ -30,7 +30,7 @@ export function answersView(app, left, id) {
     if (now === "before") { box.append(html("p", { class: "lead" }, "There are none before the start.")); return; }
     const said = html("div", { "aria-live": "polite" }), list = html("div");
     const renew = async () => {
-      refill(said, refusedAnswers(app, id));
+      refill(said, refusals(app, id));
       const answers = await app.answers(id, signal) ?? [];
       const reply = now !== "running" ? await ask("GET", `/rounds/${id}/solutions`, { key: app.key, signal }) : null;
       if (signal.aborted) return;

@@ -22,9 +22,12 @@ export const refused = (app, letter, begin = "") => {
     html("button", { class: "quiet", "data-letter": letter.id, onclick: () => app.letters.drop(letter) }, "OK"));
 };
 
-// The refused answers of a round, wherever its reader is when they come back.
-export const refusedAnswers = (app, id) => app.letters.of(id, "answer").filter((letter) => letter.reply)
-  .map((letter) => refused(app, letter, `Puzzle ${letter.number}: your last answer wasn't taken. `));
+// The refused letters of a round, wherever its reader is when they come back.
+export function refusals(app, id) {
+  const words = { answer: "your last answer wasn't taken", protest: "your protest wasn't taken" };
+  return Object.keys(words).flatMap((kind) => app.letters.of(id, kind)).filter((letter) => letter.reply)
+    .map((letter) => refused(app, letter, `Puzzle ${letter.number}: ${words[letter.kind]}. `));
+}
 
 // --- the frame
 
@@ -128,7 +131,7 @@ export function roundView(app, left, id) {
     const cards = html("div", { class: "cards puzzles" }), said = html("div", { "aria-live": "polite" });
     const draw = (answers) => cards.replaceChildren(...sheet.puzzles.map((entry) => card(app, round, entry, answers)));
     const renew = async () => {
-      refill(said, refusedAnswers(app, id));
+      refill(said, refusals(app, id));
       const answers = await app.answers(id, signal);
       if (answers) draw(answers);
     };

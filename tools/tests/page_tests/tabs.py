@@ -36,11 +36,13 @@ def two_people(browser, want):
     want("eve's wall is drawn", browser.count(WALLS) == 1)
     for who, walls in (("fay", 0), ("eve", 1)):
         browser.leave()
+        want("no key's end is told any more", browser.text("#whose") == "", browser.text("#whose"))
         browser.go("#/")
         browser.give_key(f"{who}-key-1")
         until(lambda: browser.count("body.in"))
         browser.open("r", 1, "Nurikabe")
         want(f"{who} of the same browser sees {walls} walls", browser.count(WALLS) == walls, browser.count(WALLS))
+        want("and how the key ends", browser.text("#whose") == "Key …y-1", browser.text("#whose"))
 
 
 class Tabs:
