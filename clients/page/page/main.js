@@ -13,7 +13,7 @@ import { doorView } from "./view-door.js";
 import { puzzleView } from "./view-puzzle.js";
 import { paper, roundView } from "./view-round.js";
 import { roundsView } from "./view-rounds.js";
-import { DENIED, trouble } from "./words.js";
+import { trouble } from "./words.js";
 
 const ROUTES = [[/^#\/r\/([a-z0-9-]+)\/(\d+)$/, puzzleView], [/^#\/r\/([a-z0-9-]+)$/, roundView],
   [/^#\/r\/([a-z0-9-]+)\/answers$/, answersView], [/^#\/r\/([a-z0-9-]+)\/protests$/, protestsView],
@@ -39,7 +39,7 @@ class App extends EventTarget {
     this.show();
   }
 
-  leave(note) {
+  leave() {
     this.session?.abort();
     this.letters?.stop.abort();
     keepKey(null);
@@ -49,7 +49,7 @@ class App extends EventTarget {
     document.body.classList.remove("in");
     whose.textContent = "";
     network.dispatchEvent(new Event("well"));
-    this.show(note);
+    this.show();
   }
 
   // Asks for the list of rounds anew, which also tells the hall's time; once at a time.
@@ -61,7 +61,6 @@ class App extends EventTarget {
   async askRounds() {
     if (!this.key) return;
     const reply = await ask("GET", "/rounds", { key: this.key, signal: this.session.signal });
-    if (reply?.denied === 1) this.leave(DENIED[1].join(" "));
     if (!reply?.ok) return;
     if (!this.told) this.letters.begin(reply.value.rounds);
     Object.assign(this, { rounds: reply.value.rounds, told: true });
@@ -103,14 +102,14 @@ class App extends EventTarget {
   // One's own answers or protests: an entrant who is a referee too is told those of all.
   own(id, list) { return list.filter(({ entrant }) => entrant === (this.nameIn(id) ?? entrant)); }
 
-  show(note) {
+  show() {
     this.leaving?.abort();
     this.leaving = new AbortController();
     document.title = "Contest hall";
     const [pattern, view] = ROUTES.find(([route]) => route.test(location.hash));
     const words = location.hash.match(pattern).slice(1), { signal } = this.leaving;
-    const open = this.key || !note && WITHOUT_KEY.includes(view);
-    main.replaceChildren(open ? view(this, signal, ...words) : doorView(this, signal, note));
+    const open = this.key || WITHOUT_KEY.includes(view);
+    main.replaceChildren(open ? view(this, signal, ...words) : doorView(this, signal));
   }
 }
 

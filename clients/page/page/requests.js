@@ -23,17 +23,19 @@ export function newToken() {
 
 // The hall's reply as {ok: true, value} or {ok: false, denied, form, field}; {lost: true, status} where it isn't the
 // hall's. The hall writes JSON, but for a table, which is plain text. A `fault` is the proxy's, or passes.
-function understood(status, type, text) {
+function understood(status, type, text, isNew) {
   const lost = { lost: true, status };
   if (!FOR_GOOD.includes(status)) return lost;
   if (type.startsWith("text/plain") && status === 200) return { ok: true, value: text };
   if (!type.startsWith("application/json")) return lost;
   const value = JSON.parse(text);
   if (value.fault) return lost;
+  // A key is known for good: a hall that doesn't know one that was let in serves another file just now.
+  if (value.denied === 1 && !isNew) return { lost: true, status: "key" };
   return status === 200 ? { ok: true, value } : { ...value, ok: false };
 }
 
-async function once(method, path, { key, body, signal }) {
+async function once(method, path, { key, isNew, body, signal }) {
   const patience = new AbortController(), stop = () => patience.abort();
   const timer = setTimeout(stop, PATIENCE * 1000), sent = performance.now();
   signal?.addEventListener("abort", stop);
@@ -45,7 +47,7 @@ async function once(method, path, { key, body, signal }) {
     clock.learn(reply.headers.get("Date"), sent, performance.now());
     // Each request beyond a proxy's limit counts too, so its word on when to ask again is kept.
     const after = reply.status === 429 ? Number(reply.headers.get("Retry-After")) || 0 : 0;
-    return { ...understood(reply.status, reply.headers.get("Content-Type") ?? "", text), after };
+    return { ...understood(reply.status, reply.headers.get("Content-Type") ?? "", text, isNew), after };
   } catch {
     return { lost: true, status: 0, after: 0 }; // no network, no whole reply, or no JSON: all the same to the sender
   } finally {
@@ -66,10 +68,11 @@ function pause(seconds, signal) {
   });
 }
 
-// The hall's reply to a request. Only a caller's `signal` ends the trying; then the reply is null.
-export async function ask(method, path, { key, body, signal } = {}) {
+// The hall's reply to a request; `isNew` where the key wasn't let in yet. Only a caller's `signal` ends the trying;
+// then the reply is null.
+export async function ask(method, path, { key, isNew, body, signal } = {}) {
   for (let tries = 0; !signal?.aborted; tries++) {
-    const reply = await once(method, path, { key, body, signal });
+    const reply = await once(method, path, { key, isNew, body, signal });
     if (signal?.aborted) break;
     if (!reply.lost) { tell("well"); return reply; }
     const least = Math.max(reply.after, PAUSES[Math.min(tries, PAUSES.length - 1)]);

@@ -8,7 +8,7 @@ import { refusal } from "./words.js";
 const keyIn = (text) =>
   (/Key:\s*(\S+)/i.exec(text)?.[1] ?? text).replace(/\s/g, "").replace(/[\u2010-\u2015\u2212]/g, "-");
 
-export function doorView(app, signal, note = "") {
+export function doorView(app, signal) {
   const field = html("input", { id: "key", type: "password", autocomplete: "off", autocapitalize: "off",
     spellcheck: "false", pattern: "[A-Za-z0-9\\-]{8,64}", required: true, "aria-describedby": "slip",
     title: "8 to 64 letters, digits and dashes",
@@ -22,14 +22,14 @@ export function doorView(app, signal, note = "") {
     field.type = field.type === "text" ? "password" : "text";
     show.textContent = field.type === "text" ? "hide" : "show";
   } }, "show");
-  const said = html("p", { class: "note bad", role: "alert" }, note);
+  const said = html("p", { class: "note bad", role: "alert" });
   const go = html("button", { class: "main" }, "Enter the hall");
   const enter = async (event) => {
     event.preventDefault();
     const key = field.value;
     go.disabled = true;
     said.textContent = "";
-    const reply = await ask("GET", "/rounds", { key, signal });
+    const reply = await ask("GET", "/rounds", { key, isNew: true, signal });
     go.disabled = false;
     if (reply?.ok) app.enter(key, reply.value.rounds);
     else if (reply) said.textContent = refusal(reply).join(" ");

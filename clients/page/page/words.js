@@ -53,9 +53,10 @@ export function verdict(text) {
   return { right: first === "right", reasons: names.map((name) => BROKEN[name] ?? name) };
 }
 
-// What stands in the banner while the hall can't be reached.
+// What stands in the banner while the hall can't be reached, or doesn't know a key that it knew.
 export function trouble(status) {
   if (status === 0) return "No connection to the hall.";
+  if (status === "key") return "The hall doesn't know your key just now: ask a director, or press Leave.";
   if (status === 429) return "Too many requests from your place.";
   if (status >= 500) return "The hall is busy, or away.";
   return `Something between this page and the hall answers in its place (status ${status}).`;

@@ -1,6 +1,9 @@
 """What entrants do that isn't foreseen: a whole slip in the place of the key, a puzzle's address before the start, a
 reload while the hall is away, a walk to another page while an answer is on its way, and a protest from elsewhere."""
+import subprocess
 import time
+
+from selenium.webdriver.common.keys import Keys
 
 from harness.checks import holds
 from page_tests.chromium import Browser
@@ -34,6 +37,8 @@ def trial(program, pictures):
     with Place(program) as place, Browser(place, pictures) as browser:
         for label, name in (("sl", "slither.txt"), ("nu", "nurikabe.txt")):
             place.put_puzzle(label, solved(program, name)[0])
+        with open(f"{place.room}/nobody.csv", "w", encoding="ascii") as file:
+            file.write("name,key,roles\n")
         pasted(place, browser, holds)
         begun = time.monotonic()
         browser.give_key("eve-key-1")
@@ -42,6 +47,7 @@ def trial(program, pictures):
         rehearsed(place, browser, holds)
         away(place, browser, holds)
         elsewhere(place, browser, holds)
+        other_file(place, browser, holds)
         protest(place, browser, holds)
         none("the page's code had no fault", browser.faults())
 
@@ -109,6 +115,34 @@ def elsewhere(place, browser, want):
     want("until it is seen", gone, browser.text())
     browser.go("#/r/m")
     want("after the end what was only drawn is told", browser.shows("not handed in", ".cards"), browser.text(".cards"))
+
+
+def other_file(place, browser, want):
+    """A hall that was started over another file, and doesn't know anybody: nobody is sent away, and nothing is lost."""
+    place.begin_at(time.time() - 60)
+    browser.reload()
+    browser.open("m", 2, "Nurikabe")
+    stood, right = len(place.answers("m", "eve")), place.database
+    place.stop_hall()
+    place.database = f"{place.room}/empty.db"
+    words = ["init", "--db", place.database, "--people", f"{place.room}/nobody.csv"]
+    subprocess.run([place.program, *words], check=True, stdout=subprocess.DEVNULL)
+    place.start_hall()
+    browser.hand_in()
+    browser.choose(2)
+    want("a hall that knows nobody is told", browser.shows("doesn't know your key just now", "#trouble"))
+    browser.keys(Keys.ARROW_DOWN)  # a browser asks whether to reload only whom it has seen to do something
+    browser.reload()
+    time.sleep(1)
+    want("and the key stays in the tab", browser.count("body.in") and browser.count("#key") == 0, browser.text())
+    place.stop_hall()
+    place.database = right
+    place.start_hall()
+    browser.try_now()
+    want("once it has its file again, the answer is received",
+         until(lambda: len(place.answers("m", "eve")) == stood + 1), place.answers("m", "eve"))
+    place.begin_at(time.time() - 60 * MINUTES - 2)
+    browser.reload()
 
 
 def protest(place, browser, want):
