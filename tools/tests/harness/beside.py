@@ -10,7 +10,7 @@ import time
 from typing import NamedTuple
 
 from . import database
-from .clients import Client, body, status
+from .clients import Client, body, scheduled, status
 from .running import ROOT
 from .wire import request
 
@@ -91,8 +91,7 @@ async def told(client, sent, patience=PATIENCE):
 
 def processor_time(pid):
     """The seconds of a processor that a process has taken."""
-    with open(f"/proc/{pid}/schedstat", encoding="ascii") as file:
-        return int(file.read().split()[0]) / 1e9
+    return scheduled(pid)[0]
 
 
 class Wait(NamedTuple):
