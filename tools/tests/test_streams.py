@@ -18,8 +18,8 @@ UNKNOWN = b'HTTP/1.1 403 Forbidden\r\nContent-Type: application/json\r\nContent-
 NO_ROUTE = b'HTTP/1.1 404 Not Found\r\nContent-Type: application/json\r\nContent-Length: 13\r\n\r\n{"form":"F6"}'
 ROUNDS = b"GET /rounds HTTP/1.1\r\n\r\n"
 WORKED = b"GET /rounds/r1 HTTP/1.1\r\nHall-Key: eve-key-1\r\n\r\n"
-# How many seconds a client waits to be let in.
-WHILE = 3
+# After how many seconds a client isn't let in.
+WHILE = 20
 PAIR = b"sudoku/4/4/123434122143432g\n1234341221434321\n"
 ASKED = record(1, request("dora-key", "GET", "/rounds")).encode()
 

@@ -56,9 +56,9 @@ class Trial:
 
 
 def is_now(headers):
-    """Whether there is one date, of this moment."""
+    """Whether there is one date, of the last minute."""
     told = headers.get_all("Date") or []
-    return len(told) == 1 and abs(email.utils.parsedate_to_datetime(told[0]).timestamp() - time.time()) < 10
+    return len(told) == 1 and -1 < time.time() - email.utils.parsedate_to_datetime(told[0]).timestamp() < 60
 
 
 class Stalled(threading.Thread):
