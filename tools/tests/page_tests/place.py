@@ -106,6 +106,14 @@ class Place:
         if not until(answers):
             raise OSError(f"nothing answers at port {port}")
 
+    def holds_requests(self):
+        """Whether bytes wait that a hall which stands still hasn't read: so many of each connection as its fifth column
+        says behind the colon."""
+        with open("/proc/net/tcp", encoding="ascii") as file:
+            rows = [line.split() for line in file.readlines()[1:]]
+        own = f":{self.back:04X}"
+        return any(row[1].endswith(own) and int(row[4].partition(":")[2], 16) for row in rows)
+
     # --- the hall's own matters, asked past the proxy
 
     def ask(self, method, path, who, body=None):
@@ -143,8 +151,13 @@ class Place:
         if told != {"released": round_id}:
             raise ValueError(f"{round_id}: {told}")
 
+    def put_begun_round(self, round_id, title, labels, **sheet):
+        """The same of a round that has begun, however long the hall took to release it."""
+        self.put_round(round_id, title, time.time() + 3600, labels, **sheet)
+        self.begin_at(time.time() - 1, round_id)
+
     def begin_at(self, start, round_id=None):
-        """Rewrites the file while nothing serves it, as if the rounds had begun at another moment."""
+        """Rewrites the file while nothing serves it, as if the rounds had begun at another moment, or began then."""
         self.stop_hall()
         with contextlib.closing(sqlite3.connect(self.database)) as rows, rows:
             rows.execute("update rounds set start = ? where ? is null or id = ?", (int(start), round_id, round_id))
