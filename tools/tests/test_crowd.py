@@ -16,8 +16,8 @@ import pytest
 from harness import database, running
 from harness.checks import check
 from harness.clients import EARLY, LAST, LATE, MOST, PATIENCE, Client, allow_many_files, clock_beside, many, status
-from harness.running import PEOPLE, connected, read_off, serving
-from harness.wire import replies, request
+from harness.running import connected, read_off, serving, with_people
+from harness.wire import closing, replies, request
 
 # Within how many seconds a good client is answered, and how often a scene is played.
 SOON, TRIES = 2.0, 5
@@ -28,7 +28,7 @@ LISTING = request("dora-key", "GET", "/rounds/r2/answers").encode()
 FLOOD = b"x" * (1 << 16)
 # How the system tells of a socket that listens.
 LISTENING = "0A"
-CLOSING = ASKED.replace(b"\r\n\r\n", b"\r\nConnection: close\r\n\r\n", 1)
+CLOSING = closing(ASKED)
 
 
 def hall_file(path):
@@ -301,7 +301,7 @@ def last_connections(program, path):
         connected(server, port).close()
         clients = [connected(server, port) for _ in range(2)]
         for client in clients:
-            client.sendall(LISTING.replace(b"\r\n\r\n", b"\r\nConnection: close\r\n\r\n", 1))
+            client.sendall(closing(LISTING))
         time.sleep(1)
         for client in clients:
             check("a reply of the last connections", status(read_off(client)), 200)
@@ -357,6 +357,4 @@ def test_where_a_hall_listens(program, path, room):
     """One with a row that is no record, and a new one."""
     database.written(path, "UPDATE people SET roles = 0 WHERE name = 'e1'")
     told_by(program, path, "", listens_here_alone)
-    new = f"{room}/new.db"
-    subprocess.run([program, "init", "--db", new, "--people", PEOPLE], check=True, stdout=subprocess.DEVNULL)
-    told_by(program, new, ", people 6, rounds 0", listens_here_alone)
+    told_by(program, with_people(program, f"{room}/new.db"), ", people 6, rounds 0", listens_here_alone)

@@ -12,7 +12,7 @@ import time
 import pytest
 from harness import proxies, trial
 from harness.checks import tell
-from harness.running import PEOPLE, ROOT, free_port
+from harness.running import PEOPLE, ROOT, free_port, wait_for
 from harness.trial import Stalled, StandIn, Trial
 
 F7, FAULT = '{"fault":"proxy","form":"F7"}', '{"fault":"proxy"}'
@@ -276,7 +276,7 @@ def test_before_a_hall(proxy, program, room):
     with open(f"{room}/log", "wb") as log:
         how = {"log": log} if proxy.name == "HAProxy" else {}
         with trial.ended_after(proxy.start(front, back, room, tls=True, **how)):
-            trial.wait_for(front)
+            wait_for(front)
             with trial.serving(program, room, PEOPLE, back):
                 beside(it, *BESIDE[proxy.name])
     if how:
@@ -296,7 +296,7 @@ def test_in_the_place_of_a_hall(proxy, room):
     front, back = free_port(), free_port()
     stand_in = StandIn(back)
     with trial.ended_after(proxy.start(front, back, room, change=quick)):
-        trial.wait_for(front)
+        wait_for(front)
         in_its_place(Trial(proxy.name, front), stand_in)
 
 
@@ -308,7 +308,7 @@ def test_port_80(proxy, room):
     stand_in = StandIn(back)
     it = Trial(proxy.name, front)
     with trial.ended_after(ACME[proxy.name](front, back, room)):
-        trial.wait_for(front)
+        wait_for(front)
         challenges(it)
     stand_in.end()
     if proxy.name == "HAProxy":
@@ -321,7 +321,7 @@ def test_the_round_of_the_readme(proxy, program, room):
     front, back = free_port(), free_port()
     it = Trial(proxy.name, front, f"{room}/hall.crt")
     with open(f"{room}/log", "wb") as log, trial.ended_after(proxy.start(front, back, room, tls=True, log=log)):
-        trial.wait_for(front)
+        wait_for(front)
         stall(it)
         words = [str(back), f"https://localhost:{front}", "--cacert", f"{room}/hall.crt"]
         played = subprocess.run([f"{ROOT}/examples/rounds/round.sh", *words], check=False, timeout=600,

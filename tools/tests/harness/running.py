@@ -69,6 +69,23 @@ def serving(path, connections, program=PROGRAM, env=None, prepare=None, **stream
             server.kill()
 
 
+def with_people(program, path, people=PEOPLE):
+    """The path of a new database file, into which the program has imported a list."""
+    words = [program, "init", "--db", path, "--people", people]
+    subprocess.run(words, stdout=subprocess.DEVNULL, check=True)
+    return path
+
+
+def wait_for(port):
+    """Waits until something listens on the port."""
+    for _ in range(6000):
+        try:
+            return socket.create_connection(("127.0.0.1", port)).close()
+        except ConnectionRefusedError:
+            time.sleep(0.01)
+    raise ConnectionRefusedError(port)
+
+
 def connected(server, port, patience=PATIENCE):
     """A connection to the server; none where that ended, as where another program took the port."""
     while server.poll() is None:

@@ -12,7 +12,7 @@ import time
 
 from harness import proxies
 from harness.checks import holds
-from harness.running import ROOT, free_port
+from harness.running import ROOT, free_port, with_people
 
 ENTRANTS = ("eve", "fay", "gus", "hal", "ida")
 PEOPLE = "name,key,roles\n" + "".join(f"{name},{name}-key-1,{role}\n" for name, role in [
@@ -62,8 +62,7 @@ class Place:
         self.url = f"http://127.0.0.1:{self.front}/"
         with open(f"{self.room}/people.csv", "w", encoding="ascii") as file:
             file.write(PEOPLE)
-        subprocess.run([program, "init", "--db", self.database, "--people", file.name], check=True,
-                       stdout=subprocess.DEVNULL)
+        with_people(program, self.database, file.name)
 
     def __enter__(self):
         self.start_hall()
