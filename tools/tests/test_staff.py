@@ -1,6 +1,4 @@
 """hallctl: a championship day with it alone (harness/staff.py), and the rehearsal that it offers."""
-import shutil
-
 import pytest
 from harness import running
 from harness.checks import tell
@@ -9,8 +7,6 @@ from harness.staff import Day, the_day
 
 @pytest.fixture
 def day(program, room):
-    if not shutil.which("cc"):
-        pytest.skip("cc isn't there, and the clock of the hall is set by a library that it makes")
     made = Day(room, program)
     yield made
     made.room.close()

@@ -6,7 +6,6 @@ or is killed; it leaves one that ends at once, and one whose command line is wro
 """
 import os
 import shlex
-import shutil
 import signal
 import subprocess
 import threading
@@ -14,7 +13,7 @@ import time
 
 import pytest
 from harness import proxies, running, trial
-from harness.checks import check
+from harness.checks import check, need
 
 UNIT = f"{running.ROOT}/examples/running/hall.service"
 PLACE, FILE = "/usr/local/bin/hall", "/var/lib/hall/hall.db"
@@ -107,11 +106,6 @@ def test_it_leaves_a_hall_that_ends_at_once(unit, program, room):
     left = Systemd(words_of(unit, program, f"{room}/damaged.db", port, "--nonsense"), unit)
     left.join(60)
     check("a wrong command line", (left.is_alive(), left.statuses), (False, [64]))
-
-
-def need(command):
-    if not shutil.which(command):
-        pytest.skip(f"{command} isn't there")
 
 
 def test_systemd_takes_it(program, room):

@@ -11,6 +11,8 @@ import tempfile
 import time
 from pathlib import Path
 
+from .checks import need
+
 HERE = os.path.dirname(os.path.realpath(__file__))
 ROOT = os.path.realpath(f"{HERE}/../../..")
 PROGRAM = f"{ROOT}/crates/hall/out/hall"
@@ -31,6 +33,7 @@ def hall(*words):
 
 def library(room, name):
     """Builds the library of NAME.c beside this file, in the folder, to be loaded before the C library."""
+    need("cc")
     built = f"{room}/{name}.so"
     subprocess.run(["cc", "-O1", "-shared", "-fPIC", "-o", built, f"{HERE}/{name}.c", "-ldl"], check=True)
     return built
