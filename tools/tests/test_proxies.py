@@ -12,7 +12,7 @@ import time
 import pytest
 from harness import proxies, trial
 from harness.checks import tell
-from harness.running import PEOPLE, ROOT, free_port, wait_for
+from harness.running import PEOPLE, free_port, played_round, wait_for
 from harness.trial import Stalled, StandIn, Trial
 
 F7, FAULT = '{"fault":"proxy","form":"F7"}', '{"fault":"proxy"}'
@@ -324,9 +324,8 @@ def test_the_round_of_the_readme(proxy, program, room):
         wait_for(front)
         stall(it)
         words = [str(back), f"https://localhost:{front}", "--cacert", f"{room}/hall.crt"]
-        played = subprocess.run([f"{ROOT}/examples/rounds/round.sh", *words], check=False, timeout=600,
-                                env={**os.environ, "HALL": program}, stdout=subprocess.PIPE)
-    wrong = [line for line in played.stdout.decode().splitlines() if "FAILED" in line]
+        played = played_round(program, *words)
+    wrong = [line for line in played.stdout.splitlines() if "FAILED" in line]
     it.wants("the round of README.md", (0, []), (played.returncode, wrong))
     with open(f"{room}/log", encoding="ascii", errors="replace") as log:
         it.wants("keys that are logged", 0, log.read().count("-key"))

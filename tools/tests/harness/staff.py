@@ -11,7 +11,7 @@ import subprocess
 from pathlib import Path
 
 from . import checks, staff_day
-from .running import with_people
+from .running import PATIENCE, with_people
 from .staff_day import AUTHORS, FIRST
 from .staff_refusals import refusals, retries, wrong_files
 from .staff_room import Room
@@ -142,9 +142,9 @@ def protest(day, of):
             room.kill()
             room.between.was_down.clear()
             with room.begin("rex", *words) as it:
-                room.between.was_down.wait(60)
+                room.between.was_down.wait(PATIENCE)
                 room.start()
-                written = it.communicate(timeout=90)
+                written = it.communicate(timeout=PATIENCE)
             waited = it.returncode, "sent again" in written[1]
             day.check(f"{of.id}, a ruling while the hall is down", waited, (0, True))
         else:
