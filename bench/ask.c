@@ -1,5 +1,6 @@
-/* Sends the requests that stand in the standard input, each after a line with its length, to a port of the loopback, one after another: up to MOST on a
-   connection, each once the reply before it is whole. It writes the nanoseconds that all took. Each must be answered 200. */
+/* Sends the requests that stand in the standard input, each after a line with its length, to a port of the loopback, one
+   after another: up to MOST on a connection, each once the reply before it is whole. It writes the nanoseconds that all
+   took. Each must be answered 200. */
 #define _GNU_SOURCE
 #include <arpa/inet.h>
 #include <netinet/in.h>

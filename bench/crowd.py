@@ -26,11 +26,10 @@ import threading
 import time
 from dataclasses import dataclass, field
 
-from lent import ROOT, Plain, sized, wait_for
+from lent import Plain, sized
 from harness import proxies
-from harness.database import SUDOKU, TABLES
-from harness.filled import RIGHT, WRONG
-from harness.running import free_port
+from harness.database import RIGHT, SUDOKU, TABLES, WRONG
+from harness.running import PROGRAM, ROOT, free_port, wait_for
 
 PUZZLES = {"one": 1, "many": 25}
 
@@ -300,7 +299,7 @@ def measure(tools, name, setting, args):
 
 def main():
     parser = argparse.ArgumentParser()
-    parser.add_argument("--program", default=f"{ROOT}/crates/hall/out/hall")
+    parser.add_argument("--program", default=PROGRAM)
     parser.add_argument("--clients", type=int, default=1000)
     parser.add_argument("--each", type=int, default=10)
     parser.add_argument("--limit", type=int, default=60)

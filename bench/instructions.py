@@ -9,28 +9,17 @@ proved one.
 """
 import argparse
 import re
-import socket
 import subprocess
 import tempfile
-import time
 
 from lent import PROGRAM
-from harness.running import free_port, is_whole
 from harness.filled import fill, requests
+from harness.running import connected, free_port, is_whole
 from harness.wire import request
 
 FEW = 20
 KINDS = ("ReadRound", "Submit")
 COUNTED = re.compile(r"Collected : (\d+)")
-
-
-def connected(port, server):
-    while server.poll() is None:
-        try:
-            return socket.create_connection(("127.0.0.1", port), timeout=60)
-        except ConnectionRefusedError:
-            time.sleep(0.1)
-    raise SystemExit(f"{server.args[-6]} doesn't serve")
 
 
 def instructions(program, path, kind, count):
@@ -40,7 +29,10 @@ def instructions(program, path, kind, count):
     words = ["valgrind", "--tool=callgrind", "--callgrind-out-file=/dev/null", program, "serve", "--db", path, "--port",
              str(port), "--connections", "1"]
     with subprocess.Popen(words, stderr=subprocess.PIPE, text=True) as server:
-        with connected(port, server) as client:
+        client = connected(server, port)
+        if client is None:
+            raise SystemExit(f"{program} doesn't serve")
+        with client:
             for method, where, key, body in requests(kind, count):
                 client.sendall(request(key, method, where, body or "").encode())
                 reply = b""

@@ -1,20 +1,20 @@
 #!/usr/bin/env python3
 """Time of `hall judge` against the number of cells, for boards of 50 columns and 1 to 20 rows and Sudoku of each side.
 
-Run it at the top of the repository after `./hall judge < examples/judge/right.txt` has built the program:
-
     python3 bench/judge.py [RUNS]
+
+The program is the one that `./hall --prove` has left in crates/hall/out.
 
 Each board is judged RUNS times (100 by default) by a process of its own; the least time of a run is printed, and beside
 it what is left when the time for the smallest board, which is nearly all the start of a process, is taken off.
 """
-import os
 import random
 import subprocess
 import sys
 import time
 
-PROGRAM = os.path.join(os.path.dirname(os.path.abspath(__file__)), "..", "crates", "hall", "out", "hall")
+from lent import PROGRAM
+
 RUNS = int(sys.argv[1]) if len(sys.argv) > 1 else 100
 
 

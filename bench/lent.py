@@ -4,18 +4,17 @@ import http.server
 import json
 import os
 import resource
-import socket
 import subprocess
 import sys
 import time
 
-ROOT = os.path.dirname(os.path.dirname(os.path.realpath(__file__)))
-sys.path[:0] = [f"{ROOT}/tools/tests", f"{ROOT}/examples/rounds"]
+HERE = os.path.dirname(os.path.realpath(__file__))
+sys.path[:0] = [f"{HERE}/../tools/tests", f"{HERE}/../examples/rounds"]
 import setting  # noqa: E402
-from harness.running import PEOPLE  # noqa: E402
+from harness.database import RIGHT  # noqa: E402
+from harness.running import PEOPLE, PROGRAM  # noqa: E402, F401
 from harness.wire import record, replies, request  # noqa: E402
 
-PROGRAM = f"{ROOT}/crates/hall/out/hall"
 # Of how many runs the least time is taken.
 RUNS = 5
 BEFORE = 1777700000
@@ -23,11 +22,11 @@ DURING = 1777714300
 LIMIT = 50
 # Who may hand in, to which round, and the right answer.
 PAIRS = [
-    ("ada-key-1", "r1", "1234341221434321"),
+    ("ada-key-1", "r1", RIGHT),
     ("eve-key-1", "r2", ".###"),
-    ("fay-key-1", "r1", "1234341221434321"),
+    ("fay-key-1", "r1", RIGHT),
     ("fay-key-1", "r2", ".###"),
-    ("eve-key-1", "r1", "1234341221434321"),
+    ("eve-key-1", "r1", RIGHT),
 ]
 MOST = LIMIT * len(PAIRS)
 
@@ -151,12 +150,3 @@ def sized(method, path, key, body):
     text = f"{method} {path} HTTP/1.1\r\nHost: 127.0.0.1\r\nHall-Key: {key}\r\n"
     text += "\r\n" if body is None else f"Content-Length: {len(body)}\r\n\r\n{body}"
     return f"{len(text)}\n{text}"
-
-
-def wait_for(port):
-    for _ in range(3000):
-        try:
-            return socket.create_connection(("127.0.0.1", port)).close()
-        except ConnectionRefusedError:
-            time.sleep(0.01)
-    raise ConnectionRefusedError(port)

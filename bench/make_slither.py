@@ -11,14 +11,13 @@ word of the program that is measured: it is proved to say `one` only where that 
 PROGRAM is the built `hall`, by default the one in crates/hall/out. A trial that takes over half a
 second keeps its number, so another machine may keep others.
 """
-import os
 import random
 import subprocess
 import sys
 
+from lent import PROGRAM
 from real.slither import STEPS, keeps_a_loop
 
-PROGRAM = os.path.join(os.path.dirname(os.path.abspath(__file__)), "..", "crates", "hall", "out", "hall")
 # the side, how many boards, and the least share of cells with a number
 BOARDS = [
     (7, 12, 0.0), (8, 6, 0.5), (10, 12, 0.0), (10, 6, 0.5), (12, 6, 0.0), (13, 4, 0.5), (15, 4, 0.0), (15, 4, 0.5),

@@ -18,6 +18,8 @@ from lent import DURING, MOST, PROGRAM, least_time, opening, run_replay, submit
 from harness.wire import record, request
 
 RECEIVED, LIMITED, SERVED = b'{"received":', b'{"denied":19}', b"{"
+
+
 def measure(program, stored, name, requests, begins):
     """Prints the time of a request, and how many replies begin with each of these."""
     records = opening(stored)

@@ -17,9 +17,9 @@ import tempfile
 import threading
 import time
 
-from lent import ROOT, Plain, sized, wait_for
+from lent import Plain, sized
 from harness.filled import fill, requests
-from harness.running import free_port
+from harness.running import ROOT, free_port, wait_for
 
 
 def rate(client, port, kind, count):

@@ -10,12 +10,12 @@ default the one in crates/hall/out. For each puzzle the script checks that the p
 The time is the best of five runs, less the best of five runs with budget 0, which only start the
 program and read the puzzle. The visits are the least budget with which the search doesn't give up.
 """
-import os
 import subprocess
 import sys
 import time
 
-PROGRAM = os.path.join(os.path.dirname(os.path.abspath(__file__)), "..", "crates", "hall", "out", "hall")
+from lent import PROGRAM
+
 RUNS = 5
 DEFAULT_BUDGET = 200000
 

@@ -18,6 +18,7 @@ import tempfile
 import time
 
 from lent import PROGRAM
+from harness.database import RIGHT, SUDOKU, WRONG
 from harness.wire import record, request
 
 RUNS = 9
@@ -26,7 +27,6 @@ BATCH = 150
 BEFORE, START, END, CLOSE = 1777700000, 1777712400, 1777716000, 1777717800
 STAFF = "name,key,roles\ndora,dora-key,director\nbob,bob-key-1,author\nrex,rex-key-1,referee\n"
 PUZZLES = range(1, 26)
-TEXT, RIGHT, WRONG = "sudoku/4/4/123434122143432g", "1234341221434321", "1234341221434312"
 SHEET = """version = 1
 title = "Morning"
 start = "2026-05-02T09:00:00Z"
@@ -112,7 +112,7 @@ def staff_requests():
     sheet = SHEET
     for place in PUZZLES:
         path = f"/puzzles/bob/p{place}"
-        yield record(BEFORE, request("bob-key-1", "PUT", path, '{"text":"%s"}' % TEXT))
+        yield record(BEFORE, request("bob-key-1", "PUT", path, '{"text":"%s"}' % SUDOKU))
         yield record(BEFORE, request("bob-key-1", "POST", f"{path}/certificate", '{"budget":200000}'))
         sheet += f'[[puzzle]]\nauthor = "bob"\nlabel = "p{place}"\npoints = 40\n'
     yield record(BEFORE, request("dora-key", "PUT", "/rounds/r1", sheet))

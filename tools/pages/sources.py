@@ -266,7 +266,7 @@ def block_items(file, lines, at, scope):
             now += 1
     made = Item(file, block.kind, block.name, None, doc, "\n".join(ghosts))
     made.line = at + 1
-    made.block_head, made.of_block = block.head, block
+    made.of_block = block
     made.is_public = lines[at].startswith("pub ") or block.kind == "impl"
     items.insert(0, made)
     for item in items:

@@ -1,7 +1,6 @@
 """What pytest knows of these tests: their options, what they are lent, and what is told at the end."""
 import fcntl
 import os
-import shutil
 import subprocess
 import tempfile
 
@@ -95,9 +94,7 @@ def served(program, db):
 @pytest.fixture(params=[proxies.HAPROXY, proxies.NGINX], ids=["haproxy", "nginx"])
 def proxy(request, room):
     """The kind of proxy, which is installed, and a TLS certificate of localhost in the folder."""
-    lacking = next((it for it in (request.param, "openssl", "curl") if not shutil.which(it)), None)
-    if lacking:
-        pytest.skip(f"{lacking} isn't there")
+    checks.need(request.param, "openssl", "curl")
     proxies.certificate(room)
     return proxies.KINDS[request.param]
 

@@ -25,15 +25,21 @@ MOST_EACH = 25 * 50
 
 
 class Entrant(threading.Thread):
-    """Hands in one answer after another, each once the last was acknowledged."""
+    """Hands in one answer after another, each once the last was acknowledged: how many were, and what went wrong."""
 
     def __init__(self, port, name, over):
         super().__init__(daemon=True)
-        self.port, self.name_of, self.over, self.told = port, name, over, 0
+        self.port, self.name_of, self.over, self.told, self.fault = port, name, over, 0, None
         self.start()
 
     def run(self):
-        line = http.client.HTTPConnection("127.0.0.1", self.port, timeout=60)
+        try:
+            self.hand_in()
+        except (OSError, ValueError, http.client.HTTPException) as fault:
+            self.fault = f"{self.name_of}: {fault!r}"
+
+    def hand_in(self):
+        line = http.client.HTTPConnection("127.0.0.1", self.port, timeout=running.PATIENCE)
         headers, body = {"Hall-Key": f"{self.name_of}-key-{self.name_of}"}, json.dumps({"answer": filled.WRONG})
         while self.told < MOST_EACH and not self.over.is_set():
             place, token = self.told % 25 + 1, f"m{self.told}"
@@ -99,6 +105,7 @@ def test_copies(served, db, program, room):
     over.set()
     for it in entrants:
         it.join()
+    check("entrants who weren't told that their answers stand", [it.fault for it in entrants if it.fault], [])
     told = sum(it.told for it in entrants)
     tell(f"copies of a hall that serves: {told} answers were handed in meanwhile, {busy} entrants to the end; a copy "
          f"took {sorted(times)[len(times) // 2]:.1f} s, at most {max(times):.1f}")

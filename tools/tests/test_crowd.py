@@ -1,7 +1,8 @@
 """One running hall is asked by as many clients at once, good ones and slow ones.
 
 Each good client is answered within two seconds, whoever stalls; each slow one is cut when its time is up, as
-`hall serve --help` tells.
+`hall serve --help` tells. Seconds are those of a clock that stands still while the hall waits for a processor, and a
+scene that took a client's whole patience is played again: so a busy machine changes nothing.
 """
 import asyncio
 import contextlib
@@ -9,16 +10,17 @@ import os
 import socket
 import subprocess
 import time
+from typing import Callable, NamedTuple
 
 import pytest
-from harness import database
+from harness import database, running
 from harness.checks import check
-from harness.clients import EARLY, LAST, LATE, MOST, PATIENCE, Client, allow_many_files, many, status
-from harness.running import PEOPLE, connected, read_off, serving
-from harness.wire import replies, request
+from harness.clients import EARLY, LAST, LATE, MOST, PATIENCE, Client, allow_many_files, clock_beside, many, status
+from harness.running import connected, read_off, serving, with_people
+from harness.wire import closing, replies, request
 
-# Within how many seconds a good client is answered.
-SOON = 2.0
+# Within how many seconds a good client is answered, and how often a scene is played.
+SOON, TRIES = 2.0, 5
 # A listing that no socket's buffers hold, of 12 MB: a director's, of 50 long answers of so many entrants.
 ENTRANTS, ANSWER = 60, 4_000
 ASKED = request("eve-key-1", "GET", "/rounds/r1").encode()
@@ -26,7 +28,7 @@ LISTING = request("dora-key", "GET", "/rounds/r2/answers").encode()
 FLOOD = b"x" * (1 << 16)
 # How the system tells of a socket that listens.
 LISTENING = "0A"
-CLOSING = ASKED.replace(b"\r\n\r\n", b"\r\nConnection: close\r\n\r\n", 1)
+CLOSING = closing(ASKED)
 
 
 def hall_file(path):
@@ -39,99 +41,124 @@ def hall_file(path):
     database.written(path, database.TABLES, database.ROWS, rows)
 
 
-async def sends_nothing(port):
-    async with Client(port) as client:
+class House(NamedTuple):
+    """Where a hall serves, and the clock by which its clients tell how long it took."""
+    port: int
+    clock: Callable
+
+    def client(self, room=None):
+        return Client(self.port, room, self.clock)
+
+    async def lets_pass(self, seconds):
+        """Waits until the clock has told so many seconds."""
+        end = self.clock() + seconds
+        while (left := end - self.clock()) > 0:
+            await asyncio.sleep(left)
+
+
+async def in_time(scene, house):
+    """Plays a scene, and looks at what it found where it took less time than a client has patience: else it says
+    nothing, and is played again."""
+    for left in reversed(range(TRIES)):
+        begun = time.monotonic()
+        found = await scene(house)
+        took = time.monotonic() - begun
+        if took < PATIENCE or not left:
+            for name, got, want in [*found, (f"{scene.__name__} within {PATIENCE} seconds", took < PATIENCE, True)]:
+                check(name, got, want)
+            return
+
+
+async def sends_nothing(house):
+    async with house.client() as client:
         check("a client that sends nothing is sent", await client.rest(), b"")
         client.was_cut("a client that sends nothing", PATIENCE)
 
 
-async def half_a_request(port):
-    async with Client(port) as client:
+async def half_a_request(house):
+    async with house.client() as client:
         await client.send(ASKED[:20])
         check("half a request is sent", await client.rest(), b"")
         client.was_cut("half a request", PATIENCE)
 
 
-async def a_byte_at_a_time(port):
-    async with Client(port) as client:
+async def a_byte_at_a_time(house):
+    async with house.client() as client:
         await client.send(b"GET /")
-        begun, ended = client.since, asyncio.create_task(client.rest())
+        ended = asyncio.create_task(client.rest())
         while not ended.done():
             await asyncio.sleep(0.5)
             try:
-                await client.send(b"x")
+                await client.send_on(b"x")
             except OSError:
                 break
         await ended
-        client.since = begun
         client.was_cut("a byte every half second", PATIENCE)
 
 
-async def takes_no_reply(port):
-    async with Client(port, 4096) as client:
+async def takes_no_reply(house):
+    async with house.client(4096) as client:
         await client.send(LISTING)
         await client.more(1)
-        await asyncio.sleep(PATIENCE + LATE)
+        await house.lets_pass(PATIENCE + LATE)
         check("a reply that isn't taken is whole", status(await client.rest()), 0)
 
 
-async def takes_a_reply_slowly(port):
-    async with Client(port, 4096) as client:
+async def takes_a_reply_slowly(house):
+    async with house.client(4096) as client:
         await client.send(LISTING)
         await asyncio.sleep(PATIENCE / 2)
-        check("a reply that is taken in time", status(await client.reply()), 200)
+        return [("a reply that is taken in time", status(await client.reply()), 200)]
 
 
-async def takes_a_reply_in_bits(port):
+async def takes_a_reply_in_bits(house):
     """Its patience isn't begun anew with each bit that it takes."""
-    async with Client(port, 4096) as client:
+    async with house.client(4096) as client:
         await client.send(LISTING)
         await client.more(1)
-        begun = time.monotonic()
-        while time.monotonic() - begun < PATIENCE + LATE:
+        client.begin()
+        while client.waited() < PATIENCE + LATE:
             await client.more(4096)
             await asyncio.sleep(0.1)
         check("a reply that is taken in bits for too long is whole", status(await client.rest()), 0)
 
 
-async def sends_after_the_end(port, name, piece, pause, early=EARLY):
+async def sends_after_the_end(house, name, piece, pause, early=EARLY):
     """Sends the piece again and again after the last reply, with so many seconds between."""
-    async with Client(port) as client:
+    async with house.client() as client:
         await client.send(CLOSING)
         check(f"the last reply to {name}", status(await client.reply()), 200)
-        begun = client.since
         with contextlib.suppress(OSError):
-            while time.monotonic() - begun < PATIENCE:
-                await client.send(piece)
+            while client.waited() < PATIENCE:
+                await client.send_on(piece)
                 await asyncio.sleep(pause)
-        client.since = begun
         client.was_cut(name, LAST, early)
 
 
-async def goes_on_after_the_end(port):
-    await sends_after_the_end(port, "a client that goes on after the end", b"x", 0.1)
+async def goes_on_after_the_end(house):
+    await sends_after_the_end(house, "a client that goes on after the end", b"x", 0.1)
 
 
-async def floods_after_the_end(port):
-    await sends_after_the_end(port, "a flood after the end", FLOOD, 0.001, LAST)
+async def floods_after_the_end(house):
+    await sends_after_the_end(house, "a flood after the end", FLOOD, 0.001, LAST)
 
 
-async def good(port, slowest):
+async def good(house, slowest):
     """Asks every second, on one connection and on one of its own for each request."""
-    async with Client(port) as kept:
+    async with house.client() as kept:
         for turn in range(PATIENCE):
             await kept.send(ASKED)
             check("a kept connection's reply", status(await kept.reply()), 200)
-            slowest.append(kept.took())
-            async with Client(port) as once:
+            slowest.append(kept.waited())
+            async with house.client() as once:
                 await once.send(CLOSING)
                 check("a reply and the end", status(await once.rest()), 200)
-                slowest.append(once.took())
+                slowest.append(once.waited())
             await asyncio.sleep(1)
 
 
-async def pipelined(port, count):
-    async with Client(port) as client:
+async def pipelined(house, count):
+    async with house.client() as client:
         sending = asyncio.create_task(client.send(ASKED * count))
         found = [status(await client.reply()) for _ in range(min(count, 1000))]
         await sending
@@ -140,8 +167,8 @@ async def pipelined(port, count):
             check(f"what comes after 1,000 of {count} replies", await client.rest(), b"")
 
 
-async def in_single_bytes(port):
-    async with Client(port) as client:
+async def in_single_bytes(house):
+    async with house.client() as client:
         for byte in ASKED:
             await client.send(bytes([byte]))
             await asyncio.sleep(0.001)
@@ -150,93 +177,109 @@ async def in_single_bytes(port):
         check("a request after one in single bytes", status(await client.reply()), 200)
 
 
-async def half_and_the_end(port):
-    async with Client(port) as client:
+async def half_and_the_end(house):
+    async with house.client() as client:
         await client.send(ASKED + ASKED[:20])
         client.it.shutdown(socket.SHUT_WR)
         check("a whole request before the end", status(await client.reply()), 200)
         check("half a request before the end", status(await client.rest()), 400)
-    async with Client(port) as client:
+    async with house.client() as client:
         await client.send(ASKED * 3)
         client.it.shutdown(socket.SHUT_WR)
         check("three requests before the end", len(replies(await client.rest())), 3)
 
 
-async def no_request(port):
-    async with Client(port) as client:
+async def no_request(house):
+    async with house.client() as client:
         await client.send(ASKED + b"no request\r\n\r\n" + ASKED)
         read = replies(await client.rest())
         check("what is no request", [status(it) for it in read], [200, 400])
 
 
-async def a_thousand(port):
-    async with Client(port) as client:
+async def a_thousand(house):
+    async with house.client() as client:
         for _ in range(1000):
             await client.send(ASKED)
             if status(await client.reply()) != 200:
                 check("1,000 requests on a connection", False, True)
         check("what comes after 1,000 requests", await client.rest(), b"")
-        check("1,000 requests end a connection", client.took() < SOON, True)
+        check("1,000 requests end a connection", client.waited() < SOON, True)
 
 
-async def more_than_there_is_room_for(port):
+def is_gone(client):
+    """Whether the hall has closed a connection of which nothing was read."""
+    try:
+        return client.it.recv(1, socket.MSG_PEEK | socket.MSG_DONTWAIT) == b""
+    except BlockingIOError:
+        return False
+    except ConnectionError:
+        return True
+
+
+async def more_than_there_is_room_for(house):
     """The idle ones make room."""
-    async with many(port, MOST + 20) as clients:
-        await asyncio.sleep(SOON)
-        async with Client(port) as client:
+    async with many(house.port, MOST + 20) as clients:
+        await house.lets_pass(SOON)
+        async with house.client() as client:
             await client.send(ASKED)
-            check("a client among many idle ones", status(await client.reply()), 200)
-            check("a client among many idle ones is answered soon", client.took() < SOON, True)
-        ended = [asyncio.create_task(client.rest()) for client in clients]
-        await asyncio.sleep(0.2)
-        gone = sum(it.done() for it in ended)
-        check(f"{gone} idle clients of {len(clients)} made room", 20 <= gone < MOST, True)
-        for it in ended:
-            it.cancel()
-        await asyncio.gather(*ended, return_exceptions=True)
+            told, waited = status(await client.reply()), client.waited()
+            gone = sum(map(is_gone, clients))
+    return [("a client among many idle ones", told, 200),
+            ("a client among many idle ones is answered soon", waited < SOON, True),
+            (f"{gone} idle clients of {len(clients)} made room", 20 <= gone < MOST, True)]
 
 
-async def a_taker_among_more_than_there_is_room_for(port):
+async def a_taker_among_more_than_there_is_room_for(house):
     """Who takes a reply makes no room, though it is the one that came first."""
-    async with Client(port, 4096) as taker:
+    async with house.client(4096) as taker:
         await taker.send(LISTING)
         await taker.more(4096)
-        async with many(port, MOST + 20):
-            await asyncio.sleep(3 * SOON)
-            check("a reply that is taken slowly in a full house", status(await taker.reply()), 200)
+        async with many(house.port, MOST + 20):
+            await house.lets_pass(2 * SOON)
+            return [("a reply that is taken slowly in a full house", status(await taker.reply()), 200)]
 
 
-async def a_full_house(port):
+async def a_full_house(house):
     """Where nobody may go a newcomer waits, and is let in soon after somebody went."""
-    async with many(port, MOST) as clients:
+    async with many(house.port, MOST) as clients:
         await asyncio.gather(*(client.send(ASKED[:20]) for client in clients))
-        await asyncio.sleep(SOON)
-        async with many(port, 20) as newcomers:
+        await house.lets_pass(SOON)
+        async with many(house.port, 20) as newcomers:
             await asyncio.gather(*(client.send(ASKED) for client in newcomers))
             told = [asyncio.create_task(client.reply()) for client in newcomers]
             await asyncio.wait(told, timeout=SOON)
-            check("newcomers that a full house answers", sum(it.done() for it in told), 0)
+            early = sum(it.done() for it in told)
             for client in clients[:len(newcomers)]:
                 client.it.close()
-            await asyncio.wait(told, timeout=3 * SOON)
+            await asyncio.wait(told, timeout=PATIENCE)
             found = [status(it.result()) if it.done() else None for it in told]
-            check("newcomers that came to a full house", found, [200] * len(newcomers))
+    return [("newcomers that a full house answers", early, 0),
+            ("newcomers that came to a full house", found, [200] * len(newcomers))]
 
 
-async def all_at_once(port):
-    slow = [sends_nothing, half_a_request, a_byte_at_a_time, takes_no_reply]
-    once = [in_single_bytes, half_and_the_end, no_request, a_thousand, takes_a_reply_slowly, takes_a_reply_in_bits,
-            goes_on_after_the_end, floods_after_the_end]
+async def one_by_one(scenes):
+    """Begins a scene each half second, since the hall works for long on a listing."""
+    async with asyncio.TaskGroup() as group:
+        for it in scenes:
+            group.create_task(it)
+            await asyncio.sleep(0.5)
+
+
+async def all_at_once(house):
+    slow = [sends_nothing, half_a_request, a_byte_at_a_time]
+    once = [in_single_bytes, half_and_the_end, no_request, a_thousand, goes_on_after_the_end, floods_after_the_end]
+    listed = [takes_no_reply(house) for _ in range(5)] + [takes_a_reply_in_bits(house)]
     slowest = []
-    clients = [it(port) for it in slow for _ in range(5)] + [it(port) for it in once]
-    clients += [pipelined(port, 50), pipelined(port, 1001)]
-    clients += [good(port, slowest) for _ in range(100)]
+    clients = [it(house) for it in slow for _ in range(5)] + [it(house) for it in once]
+    clients += [pipelined(house, 50), pipelined(house, 1001)]
+    clients += [one_by_one([*listed, in_time(takes_a_reply_slowly, house)])]
+    clients += [good(house, slowest) for _ in range(100)]
     for ended in await asyncio.gather(*clients, return_exceptions=True):
         if isinstance(ended, Exception):
             check("a client", repr(ended), "no fault")
     check(f"the slowest of {len(slowest)} replies took {max(slowest):.3f} seconds", max(slowest) < SOON, True)
     for it in (more_than_there_is_room_for, a_taker_among_more_than_there_is_room_for, a_full_house):
-        await it(port)
+        await in_time(it, house)
 
 
 def listens_here_alone(server, port):
@@ -258,12 +301,12 @@ def last_connections(program, path):
         connected(server, port).close()
         clients = [connected(server, port) for _ in range(2)]
         for client in clients:
-            client.sendall(LISTING.replace(b"\r\n\r\n", b"\r\nConnection: close\r\n\r\n", 1))
+            client.sendall(closing(LISTING))
         time.sleep(1)
         for client in clients:
             check("a reply of the last connections", status(read_off(client)), 200)
             client.close()
-        check("the end after the last connection", server.wait(timeout=PATIENCE), 0)
+        check("the end after the last connection", server.wait(running.PATIENCE), 0)
 
 
 def told_by(program, path, known, ask):
@@ -286,7 +329,11 @@ def path(room):
 @pytest.mark.alone
 def test_good_and_slow_clients(program, path):
     allow_many_files()
-    told_by(program, path, f", people {5 + ENTRANTS}, rounds 2", lambda _, port: asyncio.run(all_at_once(port)))
+    def ask(server, port):
+        of = all_at_once(House(port, clock_beside(server.pid)))
+        asyncio.run(asyncio.wait_for(of, running.PATIENCE))
+
+    told_by(program, path, f", people {5 + ENTRANTS}, rounds 2", ask)
 
 
 def test_the_last_connections(program, path):
@@ -296,20 +343,18 @@ def test_the_last_connections(program, path):
 def test_each_connection_counts_once(program, path):
     """One that is cut because it stalls counts as one, so that those after it are served, as many as there may be."""
     with serving(path, 4, program) as (server, port):
-        with connected(server, port, PATIENCE + LAST + LATE) as stalls:
+        with connected(server, port) as stalls:
             stalls.sendall(ASKED[:20])
             check("who stalls is sent", read_off(stalls), b"")
         for number in range(2, 5):
             with connected(server, port) as client:
                 client.sendall(CLOSING)
                 check(f"the reply to connection {number} of 4", status(read_off(client)), 200)
-        check("the end after the fourth", server.wait(timeout=PATIENCE), 0)
+        check("the end after the fourth", server.wait(running.PATIENCE), 0)
 
 
 def test_where_a_hall_listens(program, path, room):
     """One with a row that is no record, and a new one."""
     database.written(path, "UPDATE people SET roles = 0 WHERE name = 'e1'")
     told_by(program, path, "", listens_here_alone)
-    new = f"{room}/new.db"
-    subprocess.run([program, "init", "--db", new, "--people", PEOPLE], check=True, stdout=subprocess.DEVNULL)
-    told_by(program, new, ", people 6, rounds 0", listens_here_alone)
+    told_by(program, with_people(program, f"{room}/new.db"), ", people 6, rounds 0", listens_here_alone)

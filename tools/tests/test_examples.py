@@ -6,7 +6,7 @@ from pathlib import Path
 
 import pytest
 from harness.checks import check
-from harness.running import PATIENCE, ROOT
+from harness.running import PATIENCE, ROOT, played_round
 
 EXAMPLES = sorted(Path(ROOT, "examples").glob("*/*.txt"))
 
@@ -22,7 +22,6 @@ def test_example(example):
 
 def test_the_round_of_the_readme():
     """It takes two minutes."""
-    env = {**os.environ, "HALL": os.environ["HALL_COMMAND"]}
-    ran = subprocess.run([f"{ROOT}/examples/rounds/round.sh"], env=env, capture_output=True, text=True, check=False)
+    ran = played_round(os.environ["HALL_COMMAND"])
     check("what round.sh tells", (ran.returncode, ran.stdout.splitlines()),
           (0, ["a round from init to table: all replies as README.md tells"]))

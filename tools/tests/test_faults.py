@@ -22,7 +22,7 @@ from harness.wire import request
 UNAVAILABLE = (503, '{"fault":"hall"}')
 NOTHING = request("dora-key", "GET", "/nothing").encode()
 # How many answers are handed in, and how many seconds a server that met a fault may still run.
-ANSWERS, SOON = 4, 30
+ANSWERS, SOON = 4, 120
 ADVICE = "the database failed, "
 # What is told as writes begin to be refused, and as they are taken again.
 TOLD_OF_WRITES = [

@@ -15,8 +15,9 @@ from pathlib import Path
 import pytest
 from harness import tables
 from harness.checks import Ways
-from harness.running import PATIENCE, PEOPLE, ROOT, connected, content_of, read_off, serving
-from harness.wire import REPLY, replies, request
+from harness.clients import status
+from harness.running import PATIENCE, PEOPLE, ROOT, connected, content_of, read_off, serving, with_people
+from harness.wire import compact, replies, request
 
 # Records of replays, and connections.
 GATE, ALL = (40_000, 1_000), (190_000, 10_000)
@@ -73,7 +74,7 @@ LINE = re.compile(r" *\d+ [a-z0-9-]{1,24} +-?\d+\n")
 def is_known(reply):
     """Whether the reply has a known form."""
     head = HEAD.match(reply)
-    if not head or not is_length(reply):
+    if not head or not status(reply):
         return False
     body = reply[head.end() :].decode("ascii", "replace")
     if head[2] == b"text/plain":
@@ -81,11 +82,6 @@ def is_known(reply):
     if head[1] != b"200 OK":
         return re.fullmatch(REFUSED[head[1]], body) is not None
     return is_done(reply) or READ.fullmatch(body) is not None and is_listing(body)
-
-
-def is_length(reply):
-    head = REPLY.match(reply)
-    return head is not None and len(reply) - head.end() == int(head[1])
 
 
 def is_done(reply):
@@ -96,7 +92,7 @@ def is_done(reply):
 def is_listing(body):
     """Compact JSON with members of known names, in the order of their bytes."""
     told = json.loads(body)
-    return json.dumps(told, separators=(",", ":"), sort_keys=True) == body and members(told) <= set(MEMBERS.split())
+    return compact(told) == body and members(told) <= set(MEMBERS.split())
 
 
 def members(told):
@@ -207,16 +203,12 @@ ROUTES = [
 ]
 
 
-def record(moment, asked):
-    return b"@%d %d\n" % (moment, len(asked)) + asked
-
-
 def reads():
     """What a director reads of the world, and how many of some people are unknown."""
     paths = ["/puzzles", "/rounds", *(f"/puzzles/{author}/{label}" for author in ("ada", "bob") for label in LABELS)]
     whats = ["", "/answers", "/protests", "/solutions", "/table"]
     paths += [f"/rounds/{name}{what}" for name in ROUND_IDS for what in whats]
-    return [record(LATEST, request("dora-key", "GET", path).encode()) for path in paths]
+    return [tables.record_of(LATEST, request("dora-key", "GET", path).encode()) for path in paths]
 
 
 def opening():
@@ -241,7 +233,8 @@ class Replays:
 
     def ask(self, seed, count, ways):
         maker, places = Maker(seed), range(0, count, READ_AFTER)
-        groups = [[record(maker.pick([*MOMENTS, LATEST]), maker.any()) for _ in range(READ_AFTER)] for _ in places]
+        groups = [[tables.record_of(maker.pick([*MOMENTS, LATEST]), maker.any()) for _ in range(READ_AFTER)]
+                  for _ in places]
         told = self.groups_told(groups, ways)
         done = [[it for it, reply in zip(group, some) if is_done(reply)] for group, (some, _) in zip(groups, told)]
         for group, (some, _) in zip(groups, told):
@@ -275,8 +268,7 @@ class Connections:
     """A served file that is sent random bytes, in pieces."""
 
     def __init__(self, program, room):
-        self.program, self.path = program, f"{room}/served.db"
-        subprocess.run([program, "init", "--db", self.path, "--people", PEOPLE], stdout=subprocess.DEVNULL, check=True)
+        self.program, self.path = program, with_people(program, f"{room}/served.db")
 
     def ask(self, seed, count, ways):
         maker = Maker(f"connections {seed}")

@@ -9,6 +9,7 @@ import sys
 import time
 
 import pytest
+from harness.checks import must_be
 from harness.running import ROOT
 
 sys.path.append(f"{ROOT}/tools/build")
@@ -32,11 +33,6 @@ if status == 0 and MADE:
 sys.exit(status)
 """
 PROVED, UNPROVED = "crates/hall/out/hall", "crates/hall/out/unproved/hall"
-
-
-def same(got, wanted, what):
-    if got != wanted:
-        raise AssertionError(f"{what}: {got!r} and not {wanted!r}")
 
 
 class Repository:
@@ -95,62 +91,63 @@ def here(room):
 
 def test_the_unproved_program_is_built_once_and_says_so(here):
     wanted = ("unproved judge\n", SAYS_UNPROVED, 0)
-    same(here.run("judge"), (*wanted, ["build.py --kept", "unproved.py"]), "the first run")
+    must_be("the first run", here.run("judge"), (*wanted, ["build.py --kept", "unproved.py"]))
     here.age()
-    same(here.run("judge"), (*wanted, []), "the second run")
+    must_be("the second run", here.run("judge"), (*wanted, []))
     here.change("proofs")
-    same(here.run("judge"), (*wanted, []), "a run after a proof has changed")
+    must_be("a run after a proof has changed", here.run("judge"), (*wanted, []))
     here.change("src")
-    same(here.run("judge"), (*wanted, ["build.py --kept", "unproved.py"]), "a run after the code has changed")
+    must_be("a run after the code has changed", here.run("judge"), (*wanted, ["build.py --kept", "unproved.py"]))
 
 
 def test_a_proved_program_is_taken_before_any_other(here):
-    same(here.run("judge", KEPT="0"), ("proved judge\n", "", 0, ["build.py --kept"]), "with a kept one")
+    must_be("with a kept one", here.run("judge", KEPT="0"), ("proved judge\n", "", 0, ["build.py --kept"]))
     here.age()
-    same(here.run("judge"), ("proved judge\n", "", 0, []), "with one that is there")
+    must_be("with one that is there", here.run("judge"), ("proved judge\n", "", 0, []))
     here.change("proofs")
     wanted = ("unproved judge\n", SAYS_UNPROVED, 0, ["build.py --kept", "unproved.py"])
-    same(here.run("judge"), wanted, "with one of other proofs")
+    must_be("with one of other proofs", here.run("judge"), wanted)
 
 
 def test_prove_builds_and_runs_no_other_program(here):
     here.run("judge")
     here.age()
-    same(here.run("--prove", BUILD_STATUS="3"), ("", "", 3, ["build.py --kept", "build.py"]), "where the proof fails")
-    same(here.run("--prove"), ("", "", 0, ["build.py --kept", "build.py"]), "without words")
-    same(here.run("--prove", "judge"), ("proved judge\n", "", 0, []), "with words")
+    called = ["build.py --kept", "build.py"]
+    must_be("where the proof fails", here.run("--prove", BUILD_STATUS="3"), ("", "", 3, called))
+    must_be("without words", here.run("--prove"), ("", "", 0, called))
+    must_be("with words", here.run("--prove", "judge"), ("proved judge\n", "", 0, []))
     here.change("specs")
     wanted = ("proved judge\n", "", 0, ["build.py --kept"])
-    same(here.run("judge", HALL_PROVED="1", KEPT="0"), wanted, "where it is told to run proved ones alone")
+    must_be("where it is told to run proved ones alone", here.run("judge", HALL_PROVED="1", KEPT="0"), wanted)
 
 
 def test_where_the_kit_builds_nothing_without_proofs_they_are_made(here):
     wanted = ("proved judge\n", "", 0, ["build.py --kept", "unproved.py", "build.py --kept", "build.py"])
-    same(here.run("judge", UNPROVED_STATUS="1"), wanted, "a run")
+    must_be("a run", here.run("judge", UNPROVED_STATUS="1"), wanted)
 
 
 def test_a_build_that_is_ended_runs_nothing(here):
-    same(here.run("judge", UNPROVED_STATUS="143"), ("", "", 3, ["build.py --kept", "unproved.py"]), "a run")
+    must_be("a run", here.run("judge", UNPROVED_STATUS="143"), ("", "", 3, ["build.py --kept", "unproved.py"]))
 
 
 def test_a_package_is_made_of_the_proved_program(here):
     wanted = ["build.py --kept", "build.py", f"package.py {PROVED} there"]
-    same(here.run("--package", "there"), ("", "", 0, wanted), "the package")
+    must_be("the package", here.run("--package", "there"), ("", "", 0, wanted))
 
 
 def test_a_version_tells_the_commit_and_whether_it_was_proved(here):
     told = f"{SAYS_UNPROVED}hall: commit not known, built without proofs\n"
-    same(here.run("--version")[:3], ("unproved --version\n", told, 0), "unproved")
+    must_be("unproved", here.run("--version")[:3], ("unproved --version\n", told, 0))
     commit = here.commit()
-    same(here.run("-V", KEPT="0", HALL_PROVED="1")[1], f"hall: commit {commit}, built of proofs\n", "proved")
+    must_be("proved", here.run("-V", KEPT="0", HALL_PROVED="1")[1], f"hall: commit {commit}, built of proofs\n")
     here.write("crates/hall/src/main.rt", "changed")
     here.age()
-    same(here.run("--version")[1], f"hall: commit {commit} and changes, built of proofs\n", "of changed sources")
+    must_be("of changed sources", here.run("--version")[1], f"hall: commit {commit} and changes, built of proofs\n")
 
 
 def test_without_the_kit_it_says_what_is_missing(here):
     told = "hall: the command rt of the Rattle kit is not on the path\n"
-    same(here.run("judge", path="none"), ("", told, 3, []), "a run")
+    must_be("a run", here.run("judge", path="none"), ("", told, 3, []))
 
 
 def code():
@@ -208,7 +205,7 @@ def status_of(parts, room):
 def test_parts_make_the_same_program(room):
     for number in (1, 2, 3):
         parts = list(parting.parts_of(code(), number))
-        same(len(parts), number, "the parts")
+        must_be("the parts", len(parts), number)
         all_parts = b"".join(parts)
         for name, seen, wanted in (
             (b"large", b"internal", 1),
@@ -217,8 +214,8 @@ def test_parts_make_the_same_program(room):
             (b"never", b"internal", 0),
         ):
             defined = all_parts.count(b'define %s i32 @"hall::%s"' % (seen, name))
-            same(defined, wanted, f"how often {name.decode()} is {seen.decode()} in {number} parts")
-        same(status_of(parts, room), 42, f"the status, of {number} parts")
+            must_be(f"how often {name.decode()} is {seen.decode()} in {number} parts", defined, wanted)
+        must_be(f"the status, of {number} parts", status_of(parts, room), 42)
 
 
 def test_code_that_has_what_was_not_foreseen_is_not_parted():

@@ -14,6 +14,7 @@ from harness.checks import check
 from harness.clients import Client, allow_many_files, body, status
 from harness.entrants import FEWEST, MOMENT, OPEN, SEALED, Entrant, hall_file
 from harness.running import PATIENCE
+from harness.wire import closing
 
 # So many ask at once.
 ENTRANTS = 240
@@ -73,7 +74,7 @@ async def in_two_pieces(port, entrant):
 async def a_connection_each(port, entrant):
     for sent, want in entrant.steps():
         async with Client(port) as client:
-            await client.send(sent.replace(b"\r\n\r\n", b"\r\nConnection: close\r\n\r\n", 1))
+            await client.send(closing(sent))
             is_told(entrant, await client.rest(), want)
 
 

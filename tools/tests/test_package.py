@@ -18,7 +18,7 @@ import urllib.request
 
 import pytest
 from harness import clean_root, running
-from harness.checks import tell
+from harness.checks import must_be, need, tell
 
 sys.path[:0] = [f"{running.ROOT}/tools/build", f"{running.ROOT}/tools/pages"]
 import manual  # noqa: E402
@@ -26,20 +26,9 @@ import package  # noqa: E402
 
 # The exposure of the unit by `systemd-analyze security`, in tenths of a point, at the most.
 EXPOSURE = 20
-WAIT = 20
-# From the package's file to the first reply, in seconds, at the most.
+WAIT = 60
+# From the package's file to the first reply, in seconds, at the most, on a machine that has its processors for it.
 FROM_FILE_TO_REPLY = 180
-
-
-def need(*commands):
-    for it in commands:
-        if not shutil.which(it):
-            pytest.skip(f"the command {it} isn't there")
-
-
-def same(got, wanted, what):
-    if got != wanted:
-        raise AssertionError(f"{what}: {got!r} and not {wanted!r}")
 
 
 def ran(*words, **how):
@@ -49,7 +38,7 @@ def ran(*words, **how):
 def done(*words, **how):
     """What a command that must do well writes."""
     it = ran(*words, **how)
-    same(it.returncode, 0, f"{' '.join(words)}: {it.stdout}{it.stderr}")
+    must_be(f"{' '.join(words)}: {it.stdout}{it.stderr}", it.returncode, 0)
     return it.stdout + it.stderr
 
 
@@ -84,9 +73,9 @@ def test_a_program_without_proofs_is_refused_by_name(made):
     with open(made.program, "rb") as file, open(stand_in, "wb") as copy:
         copy.write(file.read() + package.UNPROVED)
     it = ran(sys.executable, f"{package.ROOT}/tools/build/package.py", stand_in, made.room)
-    same(it.returncode, 3, "the status")
+    must_be("the status", it.returncode, 3)
     wanted = f"hall: {stand_in} is built without proofs, and only a proved program is packaged: ./hall --package\n"
-    same(it.stderr, wanted, "what is told")
+    must_be("what is told", it.stderr, wanted)
 
 
 def test_two_packages_have_the_same_bytes(made):
@@ -100,22 +89,22 @@ def test_two_packages_have_the_same_bytes(made):
     finally:
         os.umask(before)
         del os.environ["TZ"]
-    same(second == package.read(made.path, "rb"), True, "whether the second package has the bytes of the first")
+    must_be("whether the second package has the bytes of the first", second == package.read(made.path, "rb"), True)
 
 
 def test_the_program_is_as_it_was_built(made):
-    same(package.read(f"{made.files}/usr/bin/hall", "rb"), package.read(made.program, "rb"), "usr/bin/hall")
+    must_be("usr/bin/hall", package.read(f"{made.files}/usr/bin/hall", "rb"), package.read(made.program, "rb"))
     origin = package.read(f"{made.files}/usr/share/doc/hall/VERSION").split("\n")
     built = "without proofs" if package.is_unproved(made.program) else "of proofs"
-    same(origin[2], f"built {built}", "what VERSION tells")
-    same(origin[3], "sha256 " + done("sha256sum", made.program).split()[0], "the sum in VERSION")
+    must_be("what VERSION tells", origin[2], f"built {built}")
+    must_be("the sum in VERSION", origin[3], "sha256 " + done("sha256sum", made.program).split()[0])
 
 
 def test_lintian_finds_nothing_above_a_note(made):
     need("lintian")
     # As root it says that it had better not be.
     said = done("lintian", "--fail-on", "error,warning", "--allow-root", made.path)
-    same(said.strip(), "", "what lintian says")
+    must_be("what lintian says", said.strip(), "")
 
 
 def page(made, name):
@@ -143,15 +132,15 @@ def test_manual_pages_are_laid_out_without_a_warning(made):
     need("man")
     for path in sorted(glob.glob(f"{made.files}/usr/share/man/man1/*.gz")):
         shown = ran("man", "--warnings", "-l", path, env={**os.environ, "MANWIDTH": "100", "LC_ALL": "C.UTF-8"})
-        same((shown.returncode, shown.stderr), (0, ""), path)
+        must_be(path, (shown.returncode, shown.stderr), (0, ""))
         assert "DESCRIPTION" in shown.stdout, path
 
 
 def test_hallctl_runs_where_it_is_installed(made):
     if not os.path.isfile(package.HALLCTL):
         pytest.skip("clients/hallctl isn't there")
-    same(done(f"{made.files}/usr/bin/hallctl", "--help", env={**os.environ, "COLUMNS": str(manual.WIDTH)}),
-         manual.help_of(package.HALLCTL).text, "the help of the installed hallctl")
+    told = done(f"{made.files}/usr/bin/hallctl", "--help", env={**os.environ, "COLUMNS": str(manual.WIDTH)})
+    must_be("the help of the installed hallctl", told, manual.help_of(package.HALLCTL).text)
 
 
 def test_completion_offers_commands_options_and_files(made):
@@ -166,7 +155,7 @@ def test_completion_offers_commands_options_and_files(made):
         (["hallctl", "round", "rel"], ["release"]),
         (["hallctl", "round", "release", "noon", "--sheet", there[:-4]], [there]),
     ):
-        same(completed(made, words), wanted, f"the completion of {words}")
+        must_be(f"the completion of {words}", completed(made, words), wanted)
 
 
 def completed(made, words):
@@ -183,7 +172,7 @@ def test_the_unit_is_sound_and_shut_off(made):
         # The program must be where the unit says.
         text = package.read(f"{made.files}/lib/systemd/system/hall.service")
         file.write(text.replace("/usr/bin/hall", f"{made.files}/usr/bin/hall"))
-    same(done("systemd-analyze", "verify", "--man=no", unit), "", "what systemd-analyze says of the unit")
+    must_be("what systemd-analyze says of the unit", done("systemd-analyze", "verify", "--man=no", unit), "")
     done("systemd-analyze", "security", "--offline=true", f"--threshold={EXPOSURE}", unit)
 
 
@@ -192,8 +181,10 @@ def test_the_page_followed_word_by_word_serves_within_three_minutes(made):
     if os.geteuid() != 0 or not clean_root.can_be_laid_out():
         pytest.skip("only root can lay a clean root out, where the system lets it")
     said, reply, wanted, took = clean_root.follow(made.path, made.room)
-    same(reply, wanted, f"the reply, after {said}")
-    assert took <= FROM_FILE_TO_REPLY, f"it took {took:.0f} seconds"
+    must_be(f"the reply, after {said}", reply, wanted)
+    # Where twice as many processes run as there are processors, each takes twice as long.
+    most = FROM_FILE_TO_REPLY * max(1, *(it / os.cpu_count() for it in os.getloadavg()))
+    assert took <= most, f"it took {took:.0f} seconds, and not {most:.0f} at the most"
     tell(f"package: from the file to {reply} by the page in {took:.1f} s")
 
 
@@ -205,23 +196,23 @@ def test_a_hall_of_an_installed_package_outlives_upgrade_removal_and_purge(made)
         root.make_hall()
         port = root.set_port()
         with root.serving(port) as told:
-            same(told, {"denied": 1}, "the reply to a stranger")
+            must_be("the reply to a stranger", told, {"denied": 1})
         kept = root.database()
         assert all(kept) and len(kept) == 2, "there is no database with its log to be kept"
-        same(root.version(), made.version.replace(package.versions()[0][0], "0.0.1"), "the version before")
+        must_be("the version before", root.version(), made.version.replace(package.versions()[0][0], "0.0.1"))
         root.install(made.path)
-        same(root.version(), made.version, "the version after an upgrade")
-        same(root.database(), kept, "the database after an upgrade")
-        same(root.port(), port, "the port that was set, after an upgrade")
+        must_be("the version after an upgrade", root.version(), made.version)
+        must_be("the database after an upgrade", root.database(), kept)
+        must_be("the port that was set, after an upgrade", root.port(), port)
         with root.serving(port) as told:
-            same(told, {"denied": 1}, "the reply to a stranger after an upgrade")
+            must_be("the reply to a stranger after an upgrade", told, {"denied": 1})
         kept = root.database()
         root.dpkg("--remove", "hall")
-        same(root.database(), kept, "the database after the removal")
+        must_be("the database after the removal", root.database(), kept)
         assert not os.path.exists(f"{root.at}/usr/bin/hall"), "the program is still there"
         assert os.path.exists(f"{root.at}/etc/hall/hall.conf"), "the settings are gone with the removal"
         said = root.dpkg("--purge", "hall")
-        same(root.database(), kept, "the database after the purge")
+        must_be("the database after the purge", root.database(), kept)
         assert "what /var/lib/hall holds is left there" in said, said
         assert not os.path.exists(f"{root.at}/etc/hall"), "the settings are there after the purge"
 
@@ -262,10 +253,10 @@ class Root:
 
     def make_hall(self):
         folder = os.stat(f"{self.at}/var/lib/hall")
-        same((folder.st_uid, folder.st_mode & 0o777), (self.ids()["user"], 0o700), "owner and mode of /var/lib/hall")
+        must_be("owner and mode of /var/lib/hall", (folder.st_uid, folder.st_mode & 0o777), (self.ids()["user"], 0o700))
         words = ["init", "--db", f"{self.at}/var/lib/hall/hall.db", "--people", "/dev/stdin"]
         with open(running.PEOPLE, "rb") as people:
-            same(done(f"{self.at}/usr/bin/hall", *words, stdin=people, **self.ids()), "added 6\n", "what init says")
+            must_be("what init says", done(f"{self.at}/usr/bin/hall", *words, stdin=people, **self.ids()), "added 6\n")
 
     def database(self):
         return [package.read(it, "rb") for it in sorted(glob.glob(f"{self.at}/var/lib/hall/hall.db*"))]
@@ -295,7 +286,8 @@ class Root:
         with subprocess.Popen(words, stderr=subprocess.PIPE, text=True, **self.ids()) as server:
             try:
                 line = server.stderr.readline()
-                same(line, f"hall: serving 127.0.0.1:{port} from {words[3]}, people 6, rounds 0\n", "what serve says")
+                wanted = f"hall: serving 127.0.0.1:{port} from {words[3]}, people 6, rounds 0\n"
+                must_be("what serve says", line, wanted)
                 yield asked(port)
             finally:
                 server.kill()

@@ -7,7 +7,6 @@ import importlib
 import importlib.util
 import json
 import re
-import shutil
 from pathlib import Path
 
 import pytest
@@ -207,8 +206,6 @@ def test_tables(description):
 
 def test_a_day_of_hallctl(description, program, room):
     """What the hall replies to hallctl on two rounds of its day."""
-    if not shutil.which("cc"):
-        pytest.skip("cc isn't there, and the clock of the hall is set by a library that it makes")
     day = Day(room, program, 2)
     try:
         the_day(day)

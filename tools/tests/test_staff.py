@@ -1,11 +1,11 @@
 """hallctl: a championship day with it alone (harness/staff.py), and the rehearsal that it offers."""
 import re
-import shutil
 import subprocess
 import sys
 from pathlib import Path
 
 import pytest
+from harness import running
 from harness.checks import check, tell
 from harness.running import ROOT
 from harness.staff import Day, the_day
@@ -17,8 +17,6 @@ from hall_client.columns import csv_text  # noqa: E402
 
 @pytest.fixture
 def day(program, room):
-    if not shutil.which("cc"):
-        pytest.skip("cc isn't there, and the clock of the hall is set by a library that it makes")
     made = Day(room, program)
     yield made
     made.room.close()
@@ -33,7 +31,7 @@ def test_a_championship_day(day):
 def test_a_rehearsal(day):
     """It takes two minutes."""
     with day.room.begin(None, "rehearse") as it:
-        output, _ = it.communicate(timeout=240)
+        output, _ = it.communicate(timeout=running.PATIENCE)
     day.check("the rehearsal", (it.returncode, "The rehearsal went as it should." in output), (0, True))
     table = "".join(f"{rank:4} {name:24} {total:8}\n" for rank, name, total in ((1, "fay", 70), (2, "eve", 38)))
     day.holds("the rehearsal's table", output, table)

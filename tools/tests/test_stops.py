@@ -16,6 +16,7 @@ import time
 import pytest
 from harness.checks import Ways
 from harness.commands import KILLED, ask_commands, commands
+from harness.database import SUDOKU
 from harness.running import PATIENCE, PEOPLE, Beside, bytes_of, connected, content_of, copied, is_whole, read_off
 from harness.running import serving, told
 from harness.wire import request
@@ -26,7 +27,7 @@ EACH = [
     ("dead", "rwf", 11), ("full", "wf", 11), ("fail", "rws", 7), ("short", "rwfs", 13),
 ]
 MOST = 100_000
-SUDOKU, OTHER, MANY = "sudoku/4/4/123434122143432g", "sudoku/4/4/123434122143g32g", "sudoku/4/4/v"
+OTHER, MANY = "sudoku/4/4/123434122143g32g", "sudoku/4/4/v"
 
 # A round that runs, one whose protests are taken and one that may be published; {now} is the moment.
 ROUNDS = f"""

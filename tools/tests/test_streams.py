@@ -11,6 +11,7 @@ import pytest
 from harness.checks import check
 from harness.database import ROWS, TABLE, TABLES, kept, written
 from harness.running import PATIENCE, PEOPLE, ROOT, Beside, connected, content_of, copied, read_off, removed, serving
+from harness.running import with_people
 from harness.wire import record, replies, request
 
 NOT_WHOLE = b'HTTP/1.1 400 Bad Request\r\nContent-Type: application/json\r\nContent-Length: 13\r\n\r\n{"form":"F7"}'
@@ -18,8 +19,8 @@ UNKNOWN = b'HTTP/1.1 403 Forbidden\r\nContent-Type: application/json\r\nContent-
 NO_ROUTE = b'HTTP/1.1 404 Not Found\r\nContent-Type: application/json\r\nContent-Length: 13\r\n\r\n{"form":"F6"}'
 ROUNDS = b"GET /rounds HTTP/1.1\r\n\r\n"
 WORKED = b"GET /rounds/r1 HTTP/1.1\r\nHall-Key: eve-key-1\r\n\r\n"
-# How many seconds a client waits to be let in.
-WHILE = 3
+# After how many seconds a client isn't let in.
+WHILE = 20
 PAIR = b"sudoku/4/4/123434122143432g\n1234341221434321\n"
 ASKED = record(1, request("dora-key", "GET", "/rounds")).encode()
 
@@ -194,8 +195,7 @@ SENT = [
 
 
 def test_broken_requests(program, room):
-    path = f"{room}/served.db"
-    subprocess.run([program, "init", "--db", path, "--people", PEOPLE], stdout=subprocess.DEVNULL, check=True)
+    path = with_people(program, f"{room}/served.db")
     before = content_of(path)
     sent = SENT + [(f"{size} bytes of a request", WORKED[:size], NOT_WHOLE) for size in range(1, len(WORKED))]
     sips = Beside(program, room, "devices", DEVICE_SIP="1")
@@ -224,9 +224,7 @@ def reset(client, sent):
 
 
 def test_servers_that_end(program, room):
-    path = f"{room}/served.db"
-    made = [program, "init", "--db", path, "--people", PEOPLE]
-    subprocess.run(made, stdout=subprocess.DEVNULL, check=True)
+    path = with_people(program, f"{room}/served.db")
     with socket.socket() as taken:
         taken.bind(("127.0.0.1", 0))
         taken.listen()

@@ -6,7 +6,6 @@ or is killed; it leaves one that ends at once, and one whose command line is wro
 """
 import os
 import shlex
-import shutil
 import signal
 import subprocess
 import threading
@@ -14,7 +13,7 @@ import time
 
 import pytest
 from harness import proxies, running, trial
-from harness.checks import check
+from harness.checks import check, need
 
 UNIT = f"{running.ROOT}/examples/running/hall.service"
 PLACE, FILE = "/usr/local/bin/hall", "/var/lib/hall/hall.db"
@@ -71,7 +70,7 @@ def words_of(unit, program, path, port, *more):
 
 def asked(port):
     """What a hall that is up, or comes up soon, tells a stranger."""
-    for _ in range(400):
+    for _ in range(2400):
         try:
             return trial.Trial("the unit", port).ask("GET", "/rounds", "nobodys-key")
         except OSError:
@@ -102,16 +101,11 @@ def test_it_leaves_a_hall_that_ends_at_once(unit, program, room):
         file.write(b"no database" * 1000)
     port = running.free_port()
     left = Systemd(words_of(unit, program, f"{room}/damaged.db", port), unit)
-    left.join(60)
+    left.join(running.PATIENCE)
     check("a hall that ends at once", (left.is_alive(), left.statuses), (False, [3] * int(unit["StartLimitBurst"])))
     left = Systemd(words_of(unit, program, f"{room}/damaged.db", port, "--nonsense"), unit)
-    left.join(60)
+    left.join(running.PATIENCE)
     check("a wrong command line", (left.is_alive(), left.statuses), (False, [64]))
-
-
-def need(command):
-    if not shutil.which(command):
-        pytest.skip(f"{command} isn't there")
 
 
 def test_systemd_takes_it(program, room):

@@ -21,7 +21,7 @@ LONG = PATIENCE + 0.5
 # Which the search is meant to take, the most visits that it may make, and how often it is tried.
 AIM, MOST_VISITS, TRIES = 13, 1_000_000, 5
 # Within how many seconds all are answered, once the hall goes on, and how many all of it may take.
-SOON, MOST_SECONDS = 20, 600
+SOON, MOST_SECONDS = 60, 900
 ASKED = request("eve-key-1", "GET", "/rounds/r1").encode()
 GAVE_UP = b'{"state":"gave up"}'
 

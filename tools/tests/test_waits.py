@@ -11,6 +11,7 @@ worked meanwhile, which a busy machine changes little.
 """
 import asyncio
 import contextlib
+import itertools
 import socket
 import subprocess
 import time
@@ -30,14 +31,16 @@ ENDLESS = 1_000_000
 ASKED, PATIENCE, PROMPT, LATEST = 5, 60, 1, 3
 # How long a request is looked at that isn't to be answered yet, and how long one may take that is.
 WHILE, SOON, MOST_SECONDS = 2, 240, 900
-# The visits of a search that takes some seconds, and of one that takes less. Of one puzzle each search has a budget of
-# its own, so that none finds what another has found.
+# The visits of a search that takes some seconds, and of one that takes less. Each search has a budget of its own, so
+# that none finds what another has found.
 VISITS, FEW = 2_000, 300
+BUDGETS = itertools.count(VISITS + 1)
 # How many connections may be open.
 PLACES = 500
-# A client goes when so much of its search is made, so that a second search would make 1.6 times the work of one. What
-# is taken for one search's. (The same search takes a fifth more beside other work than without.)
-LEAVES, ONE_SEARCH = 0.6, 1.45
+# A client goes when so much of its search is made, so that a second search would make 1.75 times the work of one. What
+# is taken for one search's, and how often it is tried. (The same search takes a fifth more beside other work than
+# without, and other work may begin at any moment.)
+LEAVES, ONE_SEARCH, TRIES = 0.75, 1.4, 3
 # After so many seconds of a processor a search of VISITS visits has begun, and has most of its work before it.
 BEGUN = 0.05
 # Small puzzles, and their solution.
@@ -193,22 +196,46 @@ async def at_an_end(program, room):
     check("an answer before the end of its round", "too late", "in time")
 
 
-async def one_search(server, name, ask):
-    """What is told, and the processor time that it takes: that of one search of VISITS visits."""
+async def work_of(server, name, told):
+    """The processor time that the hall takes until this is told: that each search gave up."""
     before = processor_time(server.pid)
-    for got in await ask():
+    for got in await told:
         check(name, got, (200, GAVE_UP))
     return processor_time(server.pid) - before
 
 
-async def gone_and_back(server, port, sent, seconds):
+async def alone(server, port):
+    """The processor time of one search."""
+    return await work_of(server, "a search", asks_all(port, [certify(0, "first", next(BUDGETS))]))
+
+
+async def makes_one_search(server, port, name, scene):
+    """Sees that a scene takes about as much of a processor as one search, which is made before it and after it. The
+    scene is given how much of it makes most of a search."""
+    known = [await alone(server, port) for _ in range(2)]
+    for _ in range(TRIES):
+        took = await work_of(server, name, scene(LEAVES * min(known)))
+        known.append(await alone(server, port))
+        one = sum(known[-2:]) / 2
+        if took < ONE_SEARCH * one:
+            break
+    tell(f"{name}: {took:.1f} s of processor time, where a search takes {min(known):.1f} to {max(known):.1f} s")
+    check(f"one search is made for {name}", took < ONE_SEARCH * one, True)
+
+
+async def gone_and_back(server, port, most):
     """Its client is reset when most of the search is made, and another sends the same request."""
-    since = processor_time(server.pid)
+    since, sent = processor_time(server.pid), certify(1, "again", next(BUDGETS))
     async with Client(port) as client:
         await client.send(sent)
-        check("most of a search is made", await until_it_takes(server.pid, LEAVES * seconds, since), True)
+        check("most of a search is made", await until_it_takes(server.pid, most, since), True)
         client.reset()
     return [await asks(port, sent, SOON)]
+
+
+async def two_with_one_request(port):
+    budget = next(BUDGETS)
+    return await asks_all(port, [certify(2, "both", budget), certify(2, "both", budget, DIRECTOR)])
 
 
 async def gone_for_good(server, port):
@@ -293,18 +320,12 @@ async def clients_that_go(program, room):
     beside.written(path, [*puzzles, (6, "stuck", hard(6)), (6, "next", OTHER)])
     with serving(path, 10_000, program) as (server, port):
         connected(server, port).close()
-        alone = [await one_search(server, "a search", lambda n=n: asks_all(port, [certify(0, "first", VISITS + n)]))
-                 for n in range(3)]
-        again = await one_search(server, "a client that went and came back", lambda: gone_and_back(
-            server, port, certify(1, "again", VISITS + 1), min(alone)))
-        both = await one_search(server, "two clients with one request", lambda: asks_all(
-            port, [certify(2, "both", VISITS + 2), certify(2, "both", VISITS + 2, DIRECTOR)]))
+        await makes_one_search(server, port, "a client that went and came back",
+                               lambda most: gone_and_back(server, port, most))
+        await makes_one_search(server, port, "two clients with one request", lambda _: two_with_one_request(port))
         await gone_for_good(server, port)
         await asyncio.gather(half_closed(port), asks_behind(port))
         await gone_in_the_way(server, port)
-    for name, took in (("gone and back", again), ("two with one request", both)):
-        tell(f"{name}: {took:.1f} s of processor time, where a search takes {min(alone):.1f} to {max(alone):.1f} s")
-        check(f"one search is made for {name}", took < ONE_SEARCH * max(alone), True)
 
 
 async def asks_all(port, requests):

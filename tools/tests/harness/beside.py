@@ -5,17 +5,16 @@ that the hall worked meanwhile: the second says little of how busy the machine w
 """
 import asyncio
 import contextlib
-import json
 import time
 from typing import NamedTuple
 
 from . import database
-from .clients import Client, body, status
+from .clients import Client, body, scheduled, status
+from .database import RIGHT
 from .running import ROOT
-from .wire import request
+from .wire import compact, request
 
 ENTRANTS, AUTHORS, PUZZLES = 20, 9, 25
-RIGHT = "1234341221434321"
 ROUND, DIRECTOR = "now", "dora-key"
 # How long an entrant pauses after a reply, and when it gives up waiting for one.
 PAUSE, PATIENCE = 0.02, 10
@@ -70,7 +69,7 @@ def read_round(number):
 
 
 def submit(number, place, token, answer=RIGHT, of=ROUND):
-    asked = json.dumps({"answer": answer}, separators=(",", ":"))
+    asked = compact({"answer": answer})
     return request(entrant(number), "PUT", f"/rounds/{of}/answers/{place}/{token}", asked).encode()
 
 
@@ -91,8 +90,7 @@ async def told(client, sent, patience=PATIENCE):
 
 def processor_time(pid):
     """The seconds of a processor that a process has taken."""
-    with open(f"/proc/{pid}/schedstat", encoding="ascii") as file:
-        return int(file.read().split()[0]) / 1e9
+    return scheduled(pid)[0]
 
 
 class Wait(NamedTuple):
@@ -117,7 +115,7 @@ class Entrants:
             return read_round(number), None
         self.handed_in[number] += 1
         n, place = divmod(done, PUZZLES)
-        want = json.dumps({"received": n + 1, "verdict": "right"}, separators=(",", ":")).encode()
+        want = compact({"received": n + 1, "verdict": "right"}).encode()
         return submit(number, place + 1, f"t{n}"), want
 
     async def ask(self, client, number, turn):

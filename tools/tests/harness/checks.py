@@ -1,4 +1,5 @@
 """What a test finds out step by step: each thing that isn't as wanted is told, and the test fails at its end."""
+import shutil
 import time
 
 # A value is told up to so many letters.
@@ -31,6 +32,22 @@ def check(name, got, want):
     found.looked += 1
     if got != want:
         found.wrong.append(f"{name}: got {short(repr(got))}, wanted {short(repr(want))}")
+
+
+def must_be(name, got, want):
+    """Ends the test where something isn't as wanted, without which the rest says nothing."""
+    found.looked += 1
+    if got != want:
+        raise AssertionError(f"{name}: got {short(repr(got))}, wanted {short(repr(want))}")
+
+
+def need(*commands):
+    """Skips the test where one of these commands isn't there."""
+    lacking = next((it for it in commands if not shutil.which(it)), None)
+    if lacking:
+        # What measures has no need of pytest.
+        import pytest
+        pytest.skip(f"{lacking} isn't there")
 
 
 def holds(name, is_right, *seen):

@@ -43,7 +43,7 @@ exec chroot {room}/root env -i HOME=/root LC_ALL=C.UTF-8 \\
 FOLLOWED = """cd /root
 begun=$(date +%s%N)
 {lines}
-for attempt in $(seq 30); do
+for attempt in $(seq 120); do
   if {last}
   then break; fi
   sleep 1

@@ -11,7 +11,7 @@ from .wire import REPLY
 
 # After how many seconds a client is cut, and how long what still comes is read off after the last reply.
 PATIENCE, LAST = 10, 2
-# How much sooner and how much later than that is well: clocks and processors.
+# How much sooner than that is well, and how much later by a client's clock.
 EARLY, LATE = 0.2, 2.0
 # The most connections that a hall has open.
 MOST = 500
@@ -23,11 +23,23 @@ def allow_many_files():
     resource.setrlimit(resource.RLIMIT_NOFILE, (min(4096, hard), hard))
 
 
-class Client:
-    """A connection, and the time since it was made."""
+def scheduled(pid):
+    """The seconds for which a process had a processor, and those for which it waited for one."""
+    with open(f"/proc/{pid}/schedstat", encoding="ascii") as file:
+        return [int(it) / 1e9 for it in file.read().split()[:2]]
 
-    def __init__(self, port, room=None):
-        self.port, self.room, self.read = port, room, bytearray()
+
+def clock_beside(pid):
+    """A clock that stands still while this process, or that one, waits for a processor: on a machine that nobody else
+    uses it is as any other, and on a busy one it tells what it would have told there."""
+    return lambda: time.monotonic() - scheduled(pid)[1] - scheduled("thread-self")[1]
+
+
+class Client:
+    """A connection, and the time since it was made, or since what was sent last: of the world, and by its clock."""
+
+    def __init__(self, port, room=None, clock=time.monotonic):
+        self.port, self.room, self.clock, self.read = port, room, clock, bytearray()
 
     async def __aenter__(self):
         it = socket.socket()
@@ -35,7 +47,8 @@ class Client:
         if self.room:
             it.setsockopt(socket.SOL_SOCKET, socket.SO_RCVBUF, self.room)
         it.setblocking(False)
-        self.it, self.since = it, time.monotonic()
+        self.it = it
+        self.begin()
         await asyncio.get_running_loop().sock_connect(it, ("127.0.0.1", self.port))
         return self
 
@@ -47,8 +60,16 @@ class Client:
         self.it.setsockopt(socket.SOL_SOCKET, socket.SO_LINGER, struct.pack("ii", 1, 0))
         self.it.close()
 
+    def begin(self):
+        """Time is told from now on."""
+        self.since, self.begun = time.monotonic(), self.clock()
+
     async def send(self, sent):
-        self.since = time.monotonic()
+        self.begin()
+        await self.send_on(sent)
+
+    async def send_on(self, sent):
+        """Sends more of what was begun before."""
         await asyncio.get_running_loop().sock_sendall(self.it, sent)
 
     async def more(self, size=1 << 16):
@@ -77,10 +98,14 @@ class Client:
     def took(self):
         return time.monotonic() - self.since
 
+    def waited(self):
+        """How long it took by its clock."""
+        return self.clock() - self.begun
+
     def was_cut(self, name, seconds, early=EARLY):
-        took = self.took()
-        is_well = seconds - early <= took <= seconds + LATE
-        check(f"{name} is cut after {took:.2f} seconds, in place of {seconds}", is_well, True)
+        took, waited = self.took(), self.waited()
+        is_well = seconds - early <= took and waited <= seconds + LATE
+        check(f"{name} is cut after {took:.2f} seconds ({waited:.2f} by its clock), and not {seconds}", is_well, True)
 
 
 @contextlib.asynccontextmanager

@@ -6,7 +6,8 @@ import sqlite3
 
 from .running import ENDINGS, ROOT
 
-SUDOKU = "sudoku/4/4/123434122143432g"
+# A puzzle, its solution, and an answer that breaks the rules U2 and U4.
+SUDOKU, RIGHT, WRONG = "sudoku/4/4/123434122143432g", "1234341221434321", "1234341221434312"
 
 # The seven tables, as docs/RUNNING.md gives their columns and keys; written as a person would, and not as the program
 # does.

@@ -1,22 +1,21 @@
 """Entrants who each hand in answers that nobody else does, and so are told what nobody else is."""
-import json
 import random
 import re
 import time
 
 from . import database
-from .wire import request
+from .database import RIGHT, WRONG
+from .wire import compact, request
 
 # Two rounds that run now: the first tells verdicts at once, the second keeps them to its end.
 OPEN, SEALED = "open", "sealed"
 ROUNDS = f"""
 INSERT INTO people VALUES ('dora', 'dora-key', 1), ('bob', 'bob-key-1', 2);
-INSERT INTO puzzles VALUES ('bob', 'p1', '{database.SUDOKU}', 1, '1234341221434321');
+INSERT INTO puzzles VALUES ('bob', 'p1', '{database.SUDOKU}', 1, '{RIGHT}');
 INSERT INTO rounds VALUES ('{OPEN}', 'Open', {{start}}, 600, 30, 0, 5, 0, 1, 0),
     ('{SEALED}', 'Sealed', {{start}}, 600, 30, 1, 5, 0, 1, 0);
 INSERT INTO round_puzzles VALUES ('{OPEN}', 1, 'bob', 'p1', 40), ('{SEALED}', 1, 'bob', 'p1', 40);
 """
-RIGHT, TURNED = "1234341221434321", "1234341221434312"
 MOMENT = re.compile(rb'"moment":\d+')
 # How many answers an entrant hands in at least; the hall takes 50 to a puzzle.
 FEWEST, MORE = 12, 12
@@ -39,7 +38,7 @@ class Entrant:
     def answer(self):
         """An answer and its verdict: the solution, one that breaks rules, or a text that holds who gave it."""
         text = f"{self.name} {sum(map(len, self.given.values()))}"
-        return self.chance.choice([(RIGHT, "right"), (TURNED, "wrong U2 U4"), (text, "wrong A0")])
+        return self.chance.choice([(RIGHT, "right"), (WRONG, "wrong U2 U4"), (text, "wrong A0")])
 
     def submit(self, which):
         """A further answer to the round: the request, and the body of its reply."""
@@ -70,7 +69,3 @@ class Entrant:
             if turn % 3 == 2:
                 yield self.listing(which)
         yield from map(self.listing, (OPEN, SEALED))
-
-
-def compact(value):
-    return json.dumps(value, separators=(",", ":"), sort_keys=True)

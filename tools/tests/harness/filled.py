@@ -3,10 +3,9 @@ import json
 import sqlite3
 import time
 
-from .database import SUDOKU, TABLES
+from .database import RIGHT, SUDOKU, TABLES, WRONG
 
 PUZZLES = 25
-RIGHT, WRONG = "1234341221434321", "1234341221434312"
 
 
 def fill(path, answers, tables=TABLES):

@@ -11,12 +11,16 @@ import tempfile
 import time
 from pathlib import Path
 
+from .checks import need
+
 HERE = os.path.dirname(os.path.realpath(__file__))
 ROOT = os.path.realpath(f"{HERE}/../../..")
 PROGRAM = f"{ROOT}/crates/hall/out/hall"
 PEOPLE = f"{ROOT}/examples/people.csv"
 # How many seconds a run may take.
 PATIENCE = 600
+# What is seen of the round of README.md before it starts, and how often it is played at the most.
+BEFORE_ITS_START, ROUNDS = ("a draft is released", "a round before its start"), 3
 # A database is a file and its log.
 ENDINGS = ("", "-wal")
 
@@ -29,8 +33,20 @@ def hall(*words):
     return ran.stdout, ran.returncode, len(told) == 2 and told[0] == "fault" and len(told[1]) > 20
 
 
+def played_round(program, *words):
+    """The run of examples/rounds/round.sh, made again where a busy machine let the round begin before it was released
+    and looked at."""
+    script, env = f"{ROOT}/examples/rounds/round.sh", {**os.environ, "HALL": program}
+    for _ in range(ROUNDS):
+        ran = subprocess.run([script, *words], env=env, capture_output=True, text=True, timeout=PATIENCE, check=False)
+        if not any(f"FAILED a round, {it}:" in ran.stdout for it in BEFORE_ITS_START):
+            break
+    return ran
+
+
 def library(room, name):
     """Builds the library of NAME.c beside this file, in the folder, to be loaded before the C library."""
+    need("cc")
     built = f"{room}/{name}.so"
     subprocess.run(["cc", "-O1", "-shared", "-fPIC", "-o", built, f"{HERE}/{name}.c", "-ldl"], check=True)
     return built
@@ -67,6 +83,23 @@ def serving(path, connections, program=PROGRAM, env=None, prepare=None, **stream
             yield server, port
         finally:
             server.kill()
+
+
+def with_people(program, path, people=PEOPLE):
+    """The path of a new database file, into which the program has imported a list."""
+    words = [program, "init", "--db", path, "--people", people]
+    subprocess.run(words, stdout=subprocess.DEVNULL, check=True)
+    return path
+
+
+def wait_for(port):
+    """Waits until something listens on the port."""
+    for _ in range(6000):
+        try:
+            return socket.create_connection(("127.0.0.1", port)).close()
+        except ConnectionRefusedError:
+            time.sleep(0.01)
+    raise ConnectionRefusedError(port)
 
 
 def connected(server, port, patience=PATIENCE):

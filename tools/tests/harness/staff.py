@@ -11,9 +11,11 @@ import subprocess
 from pathlib import Path
 
 from . import checks, staff_day
-from .staff_day import AUTHORS, FIRST, compact
+from .running import PATIENCE, with_people
+from .staff_day import AUTHORS, FIRST
 from .staff_refusals import refusals, retries, wrong_files
 from .staff_room import Room
+from .wire import compact
 
 
 class Day:
@@ -58,8 +60,7 @@ def people(day):
     for name, key in day.keys.items():
         room.key_file(name, key)
     Path(f"{room.room}/first.csv").write_text(f"name,key,roles\ndora,{day.keys['dora']},director\n", encoding="ascii")
-    words = ["init", "--db", f"{room.room}/hall.db", "--people", f"{room.room}/first.csv"]
-    subprocess.run([room.program, *words], check=True, stdout=subprocess.DEVNULL)
+    with_people(room.program, f"{room.room}/hall.db", f"{room.room}/first.csv")
     room.at(FIRST - 86_400)
     room.start()
     day.run(None, "check", "people.csv", has=["is an entry list"])
@@ -141,9 +142,9 @@ def protest(day, of):
             room.kill()
             room.between.was_down.clear()
             with room.begin("rex", *words) as it:
-                room.between.was_down.wait(60)
+                room.between.was_down.wait(PATIENCE)
                 room.start()
-                written = it.communicate(timeout=90)
+                written = it.communicate(timeout=PATIENCE)
             waited = it.returncode, "sent again" in written[1]
             day.check(f"{of.id}, a ruling while the hall is down", waited, (0, True))
         else:

@@ -3,7 +3,6 @@ tables must come of it.
 """
 import csv
 import datetime
-import json
 import random
 
 from .running import ROOT
@@ -137,7 +136,3 @@ def reckoned(data, rows, protested):
     upheld = [it for it in protested if it["ruling"] == "upheld"]
     entrants = {row["entrant"] for row in rows}
     return ranked({it: total(data, it, [row for row in rows if row["entrant"] == it], upheld) for it in entrants})
-
-
-def compact(value):
-    return json.dumps(value, separators=(",", ":"))

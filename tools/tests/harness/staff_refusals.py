@@ -2,10 +2,12 @@
 """
 from pathlib import Path
 
-from .staff_day import FIRST, compact
+from .database import SUDOKU
+from .staff_day import FIRST
 from .staff_room import answered
+from .wire import compact
 
-SUDOKU, MANY = "sudoku/4/4/123434122143432g", "sudoku/4/4/v"
+MANY = "sudoku/4/4/v"
 # What is changed in a good list or sheet, and how the line that is told begins.
 LISTS = [
     ("tom,", "Tom,", ":5: F3 name"), ("entrant\n", "entrant+entrant\n", ":4: F3 roles"), ("rex,", "dora,", ":3: F4"),

@@ -13,7 +13,7 @@ import threading
 import time
 from pathlib import Path
 
-from .running import ROOT, free_port, library
+from .running import ROOT, connected, free_port, library
 
 HALLCTL = f"{ROOT}/clients/hallctl/hallctl"
 PATIENCE = 120
@@ -106,12 +106,10 @@ class Room:
         words = [self.program, "serve", "--db", f"{self.room}/hall.db", "--port", str(self.port)]
         silent = {"stdin": subprocess.DEVNULL, "stderr": subprocess.DEVNULL}
         self.server = subprocess.Popen(words, env=self.env, **silent)
-        until = time.monotonic() + PATIENCE
-        while time.monotonic() < until and self.server.poll() is None:
-            with contextlib.suppress(OSError), socket.create_connection(("127.0.0.1", self.port), timeout=1):
-                return
-            time.sleep(0.01)
-        raise SystemExit("the hall doesn't listen")
+        client = connected(self.server, self.port)
+        if client is None:
+            raise SystemExit("the hall doesn't listen")
+        client.close()
 
     def kill(self):
         """Kills the hall as it stands."""

@@ -12,7 +12,7 @@ from pathlib import Path
 
 from . import checks, running
 from .database import FIRST_ROWS, FIRST_TABLES, ROWS, TABLES, written
-from .wire import replies
+from .wire import compact, replies
 
 ROOT = Path(running.ROOT)
 EXAMPLES = ROOT / "examples"
@@ -159,7 +159,7 @@ def reply(status, body):
 
 
 def told_reply(status, told):
-    return reply(status, json.dumps(told, separators=(",", ":"), sort_keys=True).encode())
+    return reply(status, compact(told).encode())
 
 
 def refusal(told):

@@ -10,6 +10,7 @@ import threading
 import time
 
 from .checks import check
+from .running import wait_for, with_people
 
 
 class Trial:
@@ -56,9 +57,9 @@ class Trial:
 
 
 def is_now(headers):
-    """Whether there is one date, of this moment."""
+    """Whether there is one date, of the last minute."""
     told = headers.get_all("Date") or []
-    return len(told) == 1 and abs(email.utils.parsedate_to_datetime(told[0]).timestamp() - time.time()) < 10
+    return len(told) == 1 and -1 < time.time() - email.utils.parsedate_to_datetime(told[0]).timestamp() < 60
 
 
 class Stalled(threading.Thread):
@@ -157,15 +158,6 @@ class Standing(http.server.BaseHTTPRequestHandler):
         """Nothing is logged."""
 
 
-def wait_for(port):
-    for _ in range(1200):
-        try:
-            return socket.create_connection(("127.0.0.1", port)).close()
-        except ConnectionRefusedError:
-            time.sleep(0.05)
-    raise ConnectionRefusedError(port)
-
-
 def has_ipv6():
     try:
         with socket.socket(socket.AF_INET6) as it:
@@ -178,10 +170,8 @@ def has_ipv6():
 @contextlib.contextmanager
 def serving(program, room, people, port):
     """A hall with these people on the port."""
-    subprocess.run([program, "init", "--db", f"{room}/hall.db", "--people", people], check=True,
-                   stdout=subprocess.DEVNULL)
-    hall = subprocess.Popen([program, "serve", "--db", f"{room}/hall.db", "--port", str(port)],
-                            stderr=subprocess.DEVNULL)
+    path = with_people(program, f"{room}/hall.db", people)
+    hall = subprocess.Popen([program, "serve", "--db", path, "--port", str(port)], stderr=subprocess.DEVNULL)
     try:
         wait_for(port)
         yield

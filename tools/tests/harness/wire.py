@@ -1,4 +1,5 @@
 """Requests and replies of HTTP/1.1, as they are sent and read."""
+import json
 import re
 
 REPLY = re.compile(rb"HTTP/1\.1 [^\r\n]*\r\nContent-Type: [^\r\n]*\r\nContent-Length: (\d+)\r\n\r\n")
@@ -7,6 +8,16 @@ REPLY = re.compile(rb"HTTP/1\.1 [^\r\n]*\r\nContent-Type: [^\r\n]*\r\nContent-Le
 def request(key, method, path, body=""):
     """A request under the key."""
     return f"{method} {path} HTTP/1.1\r\nHall-Key: {key}\r\nContent-Length: {len(body)}\r\n\r\n{body}"
+
+
+def closing(asked):
+    """The bytes of the same request, after whose reply the hall ends the connection."""
+    return asked.replace(b"\r\n\r\n", b"\r\nConnection: close\r\n\r\n", 1)
+
+
+def compact(value):
+    """JSON as the hall writes it."""
+    return json.dumps(value, separators=(",", ":"), sort_keys=True)
 
 
 def record(moment, asked):

@@ -2,7 +2,6 @@
 import base64
 import contextlib
 import json
-import os
 
 from selenium import webdriver
 from selenium.webdriver.chrome.service import Service
@@ -170,8 +169,3 @@ for (const key of [...Array(arguments[0]).fill('ArrowRight'), 'w']) {
         """What the browser keeps under names that begin so."""
         return {name: json.loads(text) for name, text in
                 self.js("return Object.entries(localStorage)") if name.startswith(begin)}
-
-
-def missing():
-    """The programs that aren't installed."""
-    return [path for path in (CHROMIUM, DRIVER) if not os.path.exists(path)]

@@ -1,6 +1,7 @@
 """The course of an instant and a sealed round, from the door to the table, drawn by clicks and keys."""
 import json
 import os
+import re
 import signal
 import time
 
@@ -50,8 +51,7 @@ def door(place, browser, want):
     place.put_round("s", "Sealed round", start, ["s2", "n2", "u2"], mode="sealed", penalty=0, bonus=0)
     browser.give_key("eve-key-1")
     want("the rounds are listed", browser.shows("Morning round") and "To come" in browser.text())
-    shown = lambda: int(browser.text("a.card .countdown").rpartition(":")[2])
-    near = until(lambda: abs(shown() - (start - time.time())) < 1.6, 10)
+    near = until(lambda: abs(told_seconds(browser.text("a.card .countdown")) - (start - time.time())) < 1.6)
     want("the countdown goes by the hall's clock, two hours off the computer's", near, browser.text("a.card"))
     want("no key is in the address", "eve" not in browser.driver.current_url)
     browser.go("#/r/m")
@@ -59,6 +59,14 @@ def door(place, browser, want):
     browser.picture("wait")
     want("the puzzles come by themselves", browser.shows("Slitherlink"))
     browser.picture("round")
+
+
+def told_seconds(countdown):
+    """The seconds of a countdown, as 1:02:03."""
+    seconds = 0
+    for part in re.findall(r"\d+", countdown):
+        seconds = 60 * seconds + int(part)
+    return seconds
 
 
 def slitherlink(place, browser, want, puzzle):
@@ -132,6 +140,7 @@ def cut(place, browser, want, puzzle):
     letters = until(lambda: browser.kept("hall.letter.")) or {}
     tokens = [letter["id"] for letter in letters.values()]
     want("the answer and its token are kept before a reply comes", [len(token) for token in tokens] == [24], letters)
+    until(place.holds_requests)
     time.sleep(0.5)
     place.kill_proxy()
     os.kill(place.hall.pid, signal.SIGCONT)

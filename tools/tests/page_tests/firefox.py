@@ -2,6 +2,7 @@
 import os
 import time
 
+import pytest
 from harness.checks import holds
 from page_tests import drawn
 from page_tests.chromium import NEXT, SPOT, UNDO
@@ -18,14 +19,13 @@ addEventListener('unhandledrejection', (event) => window.faults.push(String(even
 
 def trial(program, pictures):
     if not os.path.exists(FIREFOX):
-        print("page: firefox is skipped, not installed: firefox-esr")
-        return
+        pytest.skip("not installed: firefox-esr")
     with Place(program) as place, Firefox(pictures) as browser:
         puzzles = {label: solved(program, name) for label, name in
                    {"sl": "slither.txt", "nu": "nurikabe.txt", "su": "real/sudoku9.txt"}.items()}
         for label, (text, _) in puzzles.items():
             place.put_puzzle(label, text)
-        place.put_round("f", "Firefox", time.time() + 4, list(puzzles))
+        place.put_round("f", "Firefox", time.time() + 12, list(puzzles))
         want = holds
         browser.load(place.url)
         browser.js(HEAR)

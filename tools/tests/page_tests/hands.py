@@ -28,8 +28,7 @@ def trial(program, pictures):
     with Place(program) as place:
         solutions = {label: solved(program, name) for label, name in FILES.items()}
         puzzles = {label: (place.put_puzzle(label, text), answer) for label, (text, answer) in solutions.items()}
-        place.put_round("k", "By keys", time.time() + 3, list(puzzles), bonus=0)
-        time.sleep(3.2)
+        place.put_begun_round("k", "By keys", list(puzzles), bonus=0)
         with Browser(place, pictures) as browser:
             browser.enter("eve")
             slitherlink_by_keys(place, browser, holds, puzzles["sl"])

@@ -12,7 +12,7 @@ import time
 
 from harness import proxies
 from harness.checks import holds
-from harness.running import ROOT, free_port
+from harness.running import ROOT, free_port, with_people
 
 ENTRANTS = ("dan", "eve", "fay", "gus", "hal", "ida")
 PEOPLE = "name,key,roles\n" + "".join(f"{name},{name}-key-1,{role}\n" for name, role in [
@@ -62,8 +62,7 @@ class Place:
         self.url = f"http://127.0.0.1:{self.front}/"
         with open(f"{self.room}/people.csv", "w", encoding="ascii") as file:
             file.write(PEOPLE)
-        subprocess.run([program, "init", "--db", self.database, "--people", file.name], check=True,
-                       stdout=subprocess.DEVNULL)
+        with_people(program, self.database, file.name)
 
     def __enter__(self):
         self.start_hall()
@@ -106,6 +105,14 @@ class Place:
         if not until(answers):
             raise OSError(f"nothing answers at port {port}")
 
+    def holds_requests(self):
+        """Whether bytes wait that a hall which stands still hasn't read: so many of each connection as its fifth column
+        says behind the colon."""
+        with open("/proc/net/tcp", encoding="ascii") as file:
+            rows = [line.split() for line in file.readlines()[1:]]
+        own = f":{self.back:04X}"
+        return any(row[1].endswith(own) and int(row[4].partition(":")[2], 16) for row in rows)
+
     # --- the hall's own matters, asked past the proxy
 
     def ask(self, method, path, who, body=None):
@@ -143,8 +150,13 @@ class Place:
         if told != {"released": round_id}:
             raise ValueError(f"{round_id}: {told}")
 
+    def put_begun_round(self, round_id, title, labels, **sheet):
+        """The same of a round that has begun, however long the hall took to release it."""
+        self.put_round(round_id, title, time.time() + 3600, labels, **sheet)
+        self.begin_at(time.time() - 1, round_id)
+
     def begin_at(self, start, round_id=None):
-        """Rewrites the file while nothing serves it, as if the rounds had begun at another moment."""
+        """Rewrites the file while nothing serves it, as if the rounds had begun at another moment, or began then."""
         self.stop_hall()
         with contextlib.closing(sqlite3.connect(self.database)) as rows, rows:
             rows.execute("update rounds set start = ? where ? is null or id = ?", (int(start), round_id, round_id))

@@ -15,10 +15,8 @@ def trial(program, pictures):
     with Place(program) as place:
         for label, name in (("sl", "slither.txt"), ("nu", "nurikabe.txt")):
             place.put_puzzle(label, solved(program, name)[0])
-        start = int(time.time()) + 3
-        place.put_round("r", "Walls", start, ["nu"])
-        place.put_round("e", "Lines", start, ["sl"], mode="sealed", penalty=0)
-        time.sleep(max(0.0, start + 0.2 - time.time()))
+        place.put_begun_round("r", "Walls", ["nu"])
+        place.put_begun_round("e", "Lines", ["sl"], mode="sealed", penalty=0)
         with Browser(place, pictures) as browser:
             browser.before_load(WRONG_CLOCK)
             browser.enter("eve")

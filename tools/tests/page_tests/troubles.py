@@ -3,14 +3,13 @@ import http.client
 import re
 import time
 
-from harness.checks import holds
+from harness.checks import holds, tell
+from harness.running import free_port
 from page_tests.chromium import Browser
 from page_tests.place import MINUTES, Place, none, proxies, solved, until
 
 WALLS = ".board .wall"
 FILES = {"sl": "slither.txt", "nu": "nurikabe.txt"}
-# Seconds that a round still runs in which a browser is asked something, on a busy machine too.
-ASKED_FOR = 30
 SHUT = """Storage.prototype.setItem = () => { throw new Error('full'); };
 Storage.prototype.getItem = () => { throw new Error('shut'); };"""
 # A browser in which no more than so much may be kept under one name.
@@ -93,21 +92,27 @@ def too_late(place, browser, want):
     browser.picture("too-late")
 
 
-def asked_at_the_end(place, browser, want):
-    """A question that is still open as its puzzle is left, and one as the round ends."""
-    place.begin_at(time.time() - 60 * MINUTES + ASKED_FOR, "e")
+def asked(place, browser, left):
+    """Whether an unfinished board asks, so many seconds before its round ends."""
+    place.begin_at(time.time() - 60 * MINUTES + left, "e")
     browser.reload()
     browser.open("e", 1, "Slitherlink")
     browser.hand_in()
-    want("an unfinished board asks before the end", browser.shows("Not finished?", "dialog"))
-    want("near the end is told what isn't handed in", browser.shows("The end is near", ".said"), browser.text(".said"))
+    return browser.shows("Not finished?", "dialog")
+
+
+def asked_at_the_end(place, browser, want):
+    """A question that is still open as its puzzle is left, and one as the round ends: so late that a browser which is
+    as quick as the first time has asked well before."""
+    begun = time.monotonic()
+    want("an unfinished board asks before the end", asked(place, browser, 60 * MINUTES / 2))
+    took = time.monotonic() - begun
     browser.go("#/r/e")
     want("a question goes with its puzzle", until(lambda: not browser.count("dialog")))
-    browser.open("e", 1, "Slitherlink")
-    browser.hand_in()
-    browser.shows("Not finished?", "dialog")
-    want("a question goes at the round's end", until(lambda: not browser.count("dialog")))
-    want("and the end is told in its place", browser.shows("The round is over", "button.hand", seconds=5))
+    want("it asks again", asked(place, browser, 10 + 3 * took))
+    want("near the end is told what isn't handed in", browser.shows("The end is near", ".said"), browser.text(".said"))
+    want("a question goes at the round's end", until(lambda: not browser.count("dialog"), 60 + 3 * took))
+    want("and the end is told in its place", browser.shows("The round is over", "button.hand"))
     want("and nothing is near any more", "The end is near" not in browser.text(".said"), browser.text(".said"))
     want("and nothing was handed in", place.answers("e", "eve") == [], place.answers("e", "eve"))
 
@@ -202,13 +207,14 @@ def behind_nginx(place, pictures, want):
     try:
         open(proxies.NGINX, "rb").close()
     except OSError:
-        print("page: nginx is skipped, not installed")
+        tell("page: not installed, so that it wasn't tried: nginx")
         return
-    server = proxies.our_nginx(place.front + 1, place.back, place.room)
+    front = free_port()
+    server = proxies.our_nginx(front, place.back, place.room)
     try:
-        place.wait(place.front + 1)
+        place.wait(front)
         with Browser(place, pictures) as browser:
-            browser.enter("hal", f"http://127.0.0.1:{place.front + 1}/")
+            browser.enter("hal", f"http://127.0.0.1:{front}/")
             browser.go("#/r/r")
             want("behind nginx it is the same", browser.shows("Nurikabe"))
     finally:
