@@ -32,6 +32,7 @@ module _ {P : Type 0} (traffic : P → Traffic) where
     pub each : All IsStep steps
     pub came : AreCounted traffic before.count steps after.count
     pub counted : length steps ≡ count
+    pub most : after.most ≡ before.most
 
   pub done_start : (before : Said P) → DoneSoFar before before 0
   done_start before = record {
@@ -40,6 +41,7 @@ module _ {P : Type 0} (traffic : P → Traffic) where
     each = All-nil IsStep;
     came = refl;
     counted = refl;
+    most = refl;
   }
 
   -- one thing more was said
@@ -52,7 +54,7 @@ module _ {P : Type 0} (traffic : P → Traffic) where
 
   module _ (before after : Said P) (count : ℕ) (done : DoneSoFar before after count) (x : Next P) (then : Said P)
       (fresh : IsFreshPeer traffic after.count x) (many : then.count ≡ after.count + newcomer x)
-      (said : then.nexts ≡ after.nexts ++ x ∷ []) where
+      (said : then.nexts ≡ after.nexts ++ x ∷ []) (stays : then.most ≡ after.most) where
     abbrev steps : Nexts P
     steps = done.steps ++ x ∷ []
 
@@ -72,6 +74,7 @@ module _ {P : Type 0} (traffic : P → Traffic) where
       each = All-push IsStep done.steps x done.each step;
       came = came;
       counted = omega (arith, length-append done.steps (x ∷ []), done.counted);
+      most = stays ∙ done.most;
     }
 
     -- and a last thing, which is no step and no newcomer
@@ -84,6 +87,7 @@ module _ {P : Type 0} (traffic : P → Traffic) where
       each = done.each;
       came = subst (λ (n : ℕ). AreCounted traffic before.count done.steps n) (omega (arith, many, none)) done.came;
       ended = ends;
+      most = stays ∙ done.most;
     }
 
   -- so many that none is done any more
@@ -96,15 +100,16 @@ module _ {P : Type 0} (traffic : P → Traffic) where
     each = done.each;
     came = done.came;
     ended = inr (refl, done.counted ∙ all);
+    most = done.most;
   }
 
   -- the last was a turn
   pub done_turn : (before after : Said P) (count : ℕ) → DoneSoFar before after count → (place : ℕ) (then : Said P)
-      → then.count ≡ after.count + 0 → then.nexts ≡ after.nexts ++ next.Turn place ∷ []
+      → then.count ≡ after.count + 0 → then.nexts ≡ after.nexts ++ next.Turn place ∷ [] → then.most ≡ after.most
       → AreDone traffic end.Shut before then
   unfolding done_step
-  done_turn before after count done place then many said =
-      let all = done_step before after count done (next.Turn place) then tt many said tt in
+  done_turn before after count done place then many said stays =
+      let all = done_step before after count done (next.Turn place) then tt many said stays tt in
       record {
         steps = all.steps;
         last = [];
@@ -112,4 +117,5 @@ module _ {P : Type 0} (traffic : P → Traffic) where
         each = all.each;
         came = all.came;
         ended = (refl, done.steps, place, refl);
+        most = all.most;
       }

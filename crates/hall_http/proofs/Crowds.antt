@@ -1,5 +1,5 @@
 -- What each step of the open connections keeps.
-use Rattle.std.proofs.Common.{◌≡◌, ◌≢◌, ◌⊎◌, ◌∙◌, sym, ap, subst, refl, arith, ℕ, suc, ◌+◌, ◌<◌, ◌≤◌, ◌==◌, inl, inr}
+use Rattle.std.proofs.Common.{◌≡◌, ◌≢◌, ◌⊎◌, ◌∙◌, sym, ap, subst, refl, arith, ℕ, suc, ◌+◌, ◌<◌, ◌==◌, inl, inr}
 use Rattle.std.proofs.Common.{List, [], ◌∷◌, ◌++◌, length, take, drop, get_or, Option, Some, None, append_assoc}
 use Rattle.std.proofs.Common.{true, false}
 use Rattle.std.specs.Prelude.{Bool, All, slice_set}
@@ -10,26 +10,29 @@ use Rattle.std.proofs.lemmas.List.{append-nil, take-append-drop, set-get_or}
 use Rattle.std.proofs.lemmas.List.Elements.{All-nil, All-push, All-append}
 use Rattle.hall_http.specs.Served.{refusal}
 use Rattle.hall_http.specs.Connection.{Exchange, AreMoments, IsOpen, requests_of}
-use Rattle.hall_http.specs.Peer.{Traffic}
+use Rattle.hall_http.specs.Peer.{Traffic, IsUntouched}
 use Rattle.hall_http.specs.Resting.{RestingSession}
 use Rattle.hall_http.specs.Crowd.{AreApart, AreKept, AreThose, AreTold, HasGone, IsAt, AreGone, IsPast, IsHandedOut}
-use Rattle.hall_http.specs.Crowd.{AnswersNoMore, AreOf, AreStill, ComesTo, HasAt, Past, Serves, number_past, traffic_past}
+use Rattle.hall_http.specs.Crowd.{AnswersNoMore, AreOf, AreStill, ComesTo, MayGo, Past, Serves}
+use Rattle.hall_http.specs.Crowd.{number_past, traffic_past}
 use Rattle.hall_http.specs.Head.{HasNone, IsWhole}
-use Rattle.hall_http.specs.History.{History, Stands, IsReplying, IsRefusing, Ends}
-use Rattle.hall_http.specs.Turns.{Turn, Service, exchanges_of, of, AreOpenButLast, AreSent, HasEnded, IsTold, IsClient}
+use Rattle.hall_http.specs.History.{History, Stands, IsReplying, Ends}
+use Rattle.hall_http.specs.Turns.{Turn, Service, of, AreOpenButLast, AreSent, HasEnded, IsTold, IsClient}
 use Rattle.hall_http.specs.Turns.{IsRefusedAfter, IsRefusedRightly}
-use Rattle.hall_http.specs.Turns.{IsPlaceKept, IsPlaceTurned}
-use Rattle.http_server.specs.declared.log.Log.{Log}
+use Rattle.hall_http.specs.Turns.{IsOverRightly, IsPlaceKept, IsPlaceTurned}
 use Rattle.hall_http.specs.Reading.{at_first}
 use Rattle.hall_http.specs.declared.client.Client.{Client}
+use Rattle.hall_http.specs.declared.client.Step.{Step}
 use Rattle.hall_http.specs.declared.clients.Clients.{Clients}
+use Rattle.hall_http.specs.declared.clients.Departure.{Departure}
+use Rattle.hall_http.specs.declared.clients.Departure.TheVariants as departure
 use Rattle.hall_http.specs.declared.peer.Closed.{Closed}
 use Rattle.hall_http.specs.declared.connection.Connection.{Connection}
+use Rattle.hall_http.specs.declared.connection.ServeEnd.{ServeEnd}
 use Rattle.hall_http.specs.declared.connection.ServeEnd.TheVariants as end
 use Rattle.hall_http.specs.declared.connection.State.{State}
 use Rattle.hall_http.specs.declared.connection.State.TheVariants as state
 use Rattle.hall_http.proofs.Histories.{stands_at}
-use Rattle.hall_http.proofs.Rested.{no_session}
 use Rattle.hall_http.proofs.Numbers.{numbered, exchanges_numbered, of_none, own_more, others_same, known_more, read_at}
 use Rattle.hall_http.proofs.Numbers.{where_is, is_there, is_still}
 use Rattle.hall_http.proofs.SoFar.{handled_none, still_same}
@@ -105,13 +108,13 @@ opened_by (state.Ended end.BadHead) t k (told, why) = inl why.0.0
 opened_by (state.Ended end.Device) t k (told, why) = absurd why
 
 -- of one of which nothing came and to which nothing went
-told_none : (t : Traffic) → t.came ≡ [] → t.went ≡ [] → IsTold [] t
-told_none t none unsent = record {
+told_none : (t : Traffic) → IsUntouched t → IsTold [] t
+told_none t untouched = record {
   rest = [];
-  spelled = none;
+  spelled = untouched.came;
   whole = All-nil (λ x. IsWhole x.request);
   opened = inl (All-nil (λ x. IsOpen x.request));
-  told = inl (inl unsent);
+  told = inl (inl untouched.went);
   few = omega arith;
   pieces = 0;
   unread = [];
@@ -121,6 +124,7 @@ told_none t none unsent = record {
   bounded = omega arith;
   parts = refl;
   quiet = inl refl;
+  closes = λ told. let clash = sym untouched.hung_up ∙ told in absurd cc;
 }
 
 module _ {P : Type 0} (traffic : P → Traffic) where
@@ -135,20 +139,29 @@ module _ {P : Type 0} (traffic : P → Traffic) where
         | inr x ↦ inr x.2
       ]
 
-  has_ended : (xs : List Exchange) (k : Client P) → (is : IsClient traffic xs k)
-      → (is.off ≡ []) ⊎ HasEnded is.history.exchanges is.history.pieces k.connection.inbox
-  has_ended xs k is =
-      elim is.quiet [
-        | inl none ↦ inl none
-        | inr x ↦ inr (
-          x.0,
-          is.history,
-          refl,
-          refl,
-          x.2,
-          (stands_at is.history k.connection (state.Ended x.0) is.has x.1).1,
-        )
-      ]
+  module _ (xs : List Exchange) (k : Client P) (is : IsClient traffic xs k) where
+    abbrev Ended : Bool → Type 0
+    Ended ended =
+        HasEnded is.history.exchanges is.history.pieces ended k.connection.inbox ((traffic k.peer).went)
+
+    ended_so : (e : ServeEnd) → k.connection.state ≡ state.Ended e → (ended : Bool) → is.history.ended ≡ ended
+        → Ended ended
+    ended_so e at ended same =
+        let (told, why) = stands_at is.history k.connection (state.Ended e) is.has at in
+        (e, is.history, refl, refl, same, why, is.sent ∙ told)
+
+    has_ended : (is.off ≡ []) ⊎ Ended false
+    has_ended =
+        elim is.quiet [
+          | inl none ↦ inl none
+          | inr x ↦ inr (ended_so x.0 x.1 false x.2)
+        ]
+
+    has_closed : (traffic k.peer).hung_up ≡ true
+        → (ended : Bool) × (ended ≡ true → (traffic k.peer).over ≡ true) × Ended ended
+    has_closed told =
+        let (e, at) = is.leaving (sym is.hung_up ∙ told) in
+        (is.history.ended, is.at_end, ended_so e at is.history.ended refl)
 
   pub client_told : (xs : List Exchange) (k : Client P) → IsClient traffic xs k → IsTold xs (traffic k.peer)
   client_told xs k is =
@@ -174,6 +187,7 @@ module _ {P : Type 0} (traffic : P → Traffic) where
         bounded = is.has.bounded;
         parts = refl;
         quiet = has_ended xs k is;
+        closes = has_closed xs k is;
       })
 
   -- ---- lists of those that have gone
@@ -262,26 +276,30 @@ module _ {P : Type 0} (traffic : P → Traffic) where
     unheard = of_none many turns (λ i d inside. (kept.numbered.known i d inside).1)
 
     -- a newcomer was turned away
-    module _ (u : Clients P) (closed : Closed P) (place : Option ℕ) (next : (traffic closed.peer).number ≡ many)
-        (items : u.places.items ≡ s.places.items) (gone : u.gone.items ≡ s.gone.items ++ (closed, place) ∷ [])
-        (none : (traffic closed.peer).came ≡ []) (unsent : (traffic closed.peer).went ≡ []) where
+    module _ (u : Clients P) (closed : Closed P) (place : ℕ) (next : (traffic closed.peer).number ≡ many)
+        (items : u.places.items ≡ s.places.items)
+        (gone : u.gone.items ≡ s.gone.items ++ (closed, (departure.TurnedAway, place)) ∷ [])
+        (untouched : IsUntouched (traffic closed.peer)) where
+      abbrev away : Past P
+      away = (closed, (departure.TurnedAway, place))
+
       away_found : (n : ℕ) (b : Bool) → (n == many) ≡ b → IsHandedOut few (many + 1) n
           → ((other : ℕ) × (w : Client P) × IsAt u other w × (number w ≡ n)) ⊎ HasGone traffic n u.gone.items
       away_found n true e within =
-          inr (s.gone.items, (closed, place), [], gone, next ∙ sym (eqb-true _ _ e))
+          inr (s.gone.items, away, [], gone, next ∙ sym (eqb-true _ _ e))
       away_found n false e within =
           let other : n ≢ many = eqb-false _ _ e in
           elim (kept.numbered.found n (within.0, omega (arith, other, within.1))) [
             | inl x ↦ inl (x.0, x.1, rw items x.2, x.3)
-            | inr x ↦ inr (rw gone (has_gone_more n s.gone.items (closed, place) x))
+            | inr x ↦ inr (rw gone (has_gone_more n s.gone.items away x))
           ]
 
-      away_past : IsPast traffic turns (closed, place)
+      away_past : IsPast traffic turns away
       away_past = (
         subst (λ (xs : List Exchange). IsTold xs (traffic closed.peer))
             (sym (ap (λ (n : ℕ). of n turns) next ∙ unheard))
-            (told_none (traffic closed.peer) none unsent),
-        λ away. (none, unsent),
+            (told_none (traffic closed.peer) untouched),
+        untouched,
       )
 
       pub kept_away : AreKept traffic few (many + 1) turns u
@@ -293,26 +311,25 @@ module _ {P : Type 0} (traffic : P → Traffic) where
           apart = λ one two v w at there equal.
               kept.numbered.apart one two v w (rw items at at) (rw items at there) equal;
           left = λ other w at. rw gone
-              (All-push (λ (one : Past P). number_past traffic one ≢ number w) s.gone.items (closed, place)
+              (All-push (λ (one : Past P). number_past traffic one ≢ number w) s.gone.items away
               (kept.numbered.left other w (rw items at at))
               (λ equal.
               let low = (kept.numbered.counted other w (rw items at at)).1 in
               absurd (omega (arith, low, equal, next))));
           past = rw gone
-              (All-push (λ (one : Past P). IsHandedOut few (many + 1) (number_past traffic one)) s.gone.items
-              (closed, place)
+              (All-push (λ (one : Past P). IsHandedOut few (many + 1) (number_past traffic one)) s.gone.items away
               (λ i d inside.
               within_more (number_past traffic (get_or s.gone.items i d)) (kept.numbered.past i d inside))
               (omega (arith, kept.numbered.order, next), omega (arith, next)));
           once = rw gone
-              (apart_more s.gone.items (closed, place) kept.numbered.once
+              (apart_more s.gone.items away kept.numbered.once
               (λ i d inside equal.
               let low = (kept.numbered.past i d inside).1 in
               absurd (omega (arith, low, equal, next))));
           found = λ n within. away_found n (n == many) refl within;
         };
         here = λ other w at. kept.here other w (rw items at at);
-        gone = rw gone (All-push (IsPast traffic turns) s.gone.items (closed, place) kept.gone away_past);
+        gone = rw gone (All-push (IsPast traffic turns) s.gone.items away kept.gone away_past);
       }
 
     module _ (place : ℕ) (inside : place < length s.places.items) where
@@ -399,8 +416,8 @@ module _ {P : Type 0} (traffic : P → Traffic) where
         }
 
       -- the connection at the place goes
-      module _ (k : Client P) (stood : IsAt s place k) (u : Clients P) (closed : Closed P) (had : Option ℕ)
-          (peer : closed.peer ≡ k.peer) (held : had ≢ None)
+      module _ (k : Client P) (stood : IsAt s place k) (u : Clients P) (closed : Closed P) (had : Departure × ℕ)
+          (peer : closed.peer ≡ k.peer) (may : MayGo had.0 (traffic k.peer))
           (places : u.places.items ≡ slice_set s.places.items place None)
           (gone : u.gone.items ≡ s.gone.items ++ (closed, had) ∷ []) where
         same_number : (traffic closed.peer).number ≡ number k
@@ -432,7 +449,7 @@ module _ {P : Type 0} (traffic : P → Traffic) where
         gone_past = (
           subst (λ (p : P). IsTold (of (traffic p).number turns) (traffic p)) (sym peer)
               (client_told (of (number k) turns) k (kept.here place k stood)),
-          λ none. absurd (held none),
+          subst (λ (p : P). MayGo had.0 (traffic p)) (sym peer) may,
         )
 
         pub kept_gone : AreKept traffic few many turns u
@@ -608,9 +625,9 @@ module _ {P : Type 0} (traffic : P → Traffic) where
     keep_place keeps = (kept_still keeps, keep_one keeps)
 
     -- whoever stands at the place goes one step
-    pub turn_place : {H C : Type 0} (service : Service H C) (before at : H × C)
-        → IsPlaceTurned service traffic before old at new → Serves service traffic place before s at after
-    turn_place service before at (inl (none, still, same)) = (
+    pub turn_place : {H C : Type 0} (service : Service H C) (before at : H × C) (step : Step)
+        → IsPlaceTurned service traffic before old at new step → Serves service traffic place before s at after
+    turn_place service before at result (inl (none, still, same)) = (
       still_free after refl still,
       λ few many turns kept.
           rw same
@@ -621,7 +638,7 @@ module _ {P : Type 0} (traffic : P → Traffic) where
                 (none_changed none still few many turns kept),
           )),
     )
-    turn_place service before at (inr (k, l, was, now, step)) = (
+    turn_place service before at result (inr (k, l, was, now, step)) = (
       still_one k l was now step.number,
       λ few many turns kept.
           let stood : IsAt s place k = read_at s.places.items place old (Some k) inside is was in
@@ -638,6 +655,16 @@ module _ {P : Type 0} (traffic : P → Traffic) where
             );
           },
     )
+
+    -- where it is over after its turn, it is so rightly
+    pub turn_over : {H C : Type 0} (service : Service H C) (before at : H × C) (step : Step)
+        → IsPlaceTurned service traffic before old at new step → (w : Client P) → IsAt after place w
+        → IsOverRightly step (traffic w.peer)
+    turn_over service before at result (inl (none, still, same)) w there =
+        let clash = sym still ∙ sym (is_there s.places.items place new inside) ∙ there in absurd cc
+    turn_over service before at result (inr (k, l, was, now, step)) w there =
+        subst (λ (w : Client P). IsOverRightly result (traffic w.peer))
+        (same_Some l w (sym now ∙ sym (is_there s.places.items place new inside) ∙ there)) step.over
 
   -- a newcomer is at the place
   pub comes_seated : (s : Clients P) (place : ℕ) (inside : place < length s.places.items) (k : Client P) (peer : P)

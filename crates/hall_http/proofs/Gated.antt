@@ -13,7 +13,8 @@ module _ {H : Type 0} (answers : H → Option ℕ → List ℕ → List ℕ → 
 
   module _ {C : Type 0} (now_gives : C → Option ℕ → C → Type 0) where
     pub looks_plain : (h i : H) (on : Bool) (c d : C) (k l : Connection)
-        → Looks (gated answers goes_on) now_gives (h, true) c k (i, on) d l → Looks answers now_gives h c k i d l
+        → Looks (gated answers goes_on) now_gives ((h, true), c) k ((i, on), d) l
+        → Looks answers now_gives (h, c) k (i, d) l
     looks_plain h i on c d k l (inl a) =
         inl (record {
           exchange = a.exchange;
@@ -25,4 +26,5 @@ module _ {H : Type 0} (answers : H → Option ℕ → List ℕ → List ℕ → 
           ends = a.ends;
           left = a.left;
         })
-    looks_plain h i on c d k l (inr ((same, stood), w)) = inr ((ap (λ (z : H × Bool). z.0) same, stood), w)
+    looks_plain h i on c d k l (inr (same, w)) =
+        inr (ap (λ (z : (H × Bool) × C). (z.0.0, z.1)) same, w)

@@ -83,8 +83,8 @@ module _ {H C : Type 0} (answers : H → Option ℕ → List ℕ → List ℕ �
     t = kept.history
 
     -- it was looked at what waits
-    pub kept_looked : (i : H) (d : C) (l : Connection) → k.state ≡ state.Looking → Looks answers now_gives m n k i d l
-        → Kept stream after wrote written h c i d l asked asks
+    pub kept_looked : (i : H) (d : C) (l : Connection) → k.state ≡ state.Looking
+        → Looks answers now_gives (m, n) k (i, d) l → Kept stream after wrote written h c i d l asked asks
     kept_looked i d l at (inl a) = record {
       history = then_answered t a.exchange;
       has = answered t k kept.has at answers now_gives m i n d l a;
@@ -96,8 +96,8 @@ module _ {H C : Type 0} (answers : H → Option ℕ → List ℕ → List ℕ �
       replied = kept.replied;
       unsent = ap (λ (k : Connection). k.sent) a.left;
     }
-    kept_looked i d l at (inr ((same, stood), inl w)) =
-        rw (same, stood) (record {
+    kept_looked i d l at (inr (both, inl w)) =
+        rw (ap (λ (z : H × C). z.0) both, ap (λ (z : H × C). z.1) both) (record {
           history = t;
           has = waited t k kept.has at l w;
           session = kept.session;
@@ -108,8 +108,8 @@ module _ {H C : Type 0} (answers : H → Option ℕ → List ℕ → List ℕ �
           replied = kept.replied;
           unsent = ap (λ (k : Connection). k.sent) w.left ∙ kept.unsent;
         })
-    kept_looked i d l at (inr ((same, stood), inr r)) =
-        rw (same, stood) (record {
+    kept_looked i d l at (inr (both, inr r)) =
+        rw (ap (λ (z : H × C). z.0) both, ap (λ (z : H × C). z.1) both) (record {
           history = t;
           has = refused t k kept.has at l r;
           session = kept.session;

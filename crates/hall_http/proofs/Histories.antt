@@ -1,18 +1,18 @@
 -- What each step of a connection makes of its history.
-use Rattle.std.proofs.Common.{◌≡◌, ◌≢◌, ◌⊎◌, ◌∙◌, sym, ap, subst, refl, arith, ℕ, ◌+◌, ◌<◌, ◌≤◌, ◌==◌, inl, inr, List, [], ◌∷◌, ◌++◌, if◌then◌else◌}
+use Rattle.std.proofs.Common.{◌≡◌, ◌≢◌, ◌∙◌, sym, ap, subst, refl, arith, ℕ, ◌+◌, ◌<◌, ◌≤◌, ◌==◌, inl, inr, List, [], ◌∷◌, ◌++◌, if◌then◌else◌}
 use Rattle.std.proofs.Common.{length, take, drop, Option, Some, None, append_assoc, length-append, length-drop, true, false}
-use Rattle.std.specs.Prelude.{Bool, All}
+use Rattle.std.specs.Prelude.{Bool}
 use Rattle.std.proofs.lemmas.Bool.{eqb-true}
 use Rattle.std.proofs.lemmas.List.{append-nil, take-append-drop, take_all}
 use Rattle.std.proofs.Math.Seq.{take-add}
 use Rattle.std.proofs.lemmas.List.Concat.{flat_map-append}
 use Rattle.std.proofs.lemmas.List.Elements.{All-nil, All-push}
 use Rattle.hall_http.specs.Outgoing.{outgoing_text}
-use Rattle.hall_http.specs.Connection.{Exchange, requests_of, replies_of, AreOpen, IsOpen, IsClosing}
-use Rattle.hall_http.specs.Head.{IsWhole, IsUnfinished, IsUnfinishedBelow, NeverHas}
-use Rattle.hall_http.specs.History.{History, nothing, then_heard, then_ended, then_answered, then_sent, reads_of, HasHistory, Stands, IsFree, IsReplying, IsRefusing, IsSending, Ends, told_at}
+use Rattle.hall_http.specs.Connection.{Exchange, requests_of, replies_of, AreOpen, IsOpen}
+use Rattle.hall_http.specs.Head.{IsWhole, IsUnfinished, IsUnfinishedBelow}
+use Rattle.hall_http.specs.History.{History, nothing, then_heard, then_ended, then_answered, then_sent, reads_of, HasHistory, Stands, IsFree, IsReplying, IsRefusing}
 use Rattle.hall_http.specs.Reading.{at_first, after_read, after_answer}
-use Rattle.hall_http.specs.Served.{HaveRead, IsLastRequest, MayGoOn, refusal}
+use Rattle.hall_http.specs.Served.{HaveRead, IsLastRequest, refusal}
 use Rattle.hall_http.specs.Steps.{pending, fresh, IsAfterHearing, IsAfterEnd, IsAfterSending, Answers, Waits, Refuses, EndsAfter, after_reply}
 use Rattle.hall_http.specs.declared.connection.Connection.{Connection}
 use Rattle.hall_http.specs.declared.connection.ServeEnd.{ServeEnd}
@@ -134,7 +134,7 @@ module _ (t : History) (k : Connection) (h : HasHistory t k) where
 
     module _ {H C : Type 0} (answers : H → Option ℕ → List ℕ → List ℕ → H → Type 0)
         (now_gives : C → Option ℕ → C → Type 0) (m i : H) (c d : C) (l : Connection)
-        (a : Answers answers now_gives m c k i d l) where
+        (a : Answers answers now_gives (m, c) k (i, d) l) where
       abbrev x : Exchange
       x = a.exchange
 

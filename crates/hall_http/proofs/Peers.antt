@@ -1,16 +1,18 @@
 -- What each step of a connection and its peer keeps.
-use Rattle.std.proofs.Common.{◌≡◌, ◌≢◌, ◌∙◌, sym, ap, subst, refl, arith, ℕ, ◌<◌, ◌≤◌, ◌==◌, inl, inr, List, [], ◌∷◌, ◌++◌}
+use Rattle.std.proofs.Common.{◌≡◌, ◌∙◌, sym, ap, subst, refl, arith, ℕ, ◌<◌, ◌≤◌, ◌==◌, inl, inr, List, [], ◌∷◌, ◌++◌}
 use Rattle.std.proofs.Common.{length, take, drop, Option, append_assoc, true, false, if◌then◌else◌}
 use Rattle.std.specs.Prelude.{Bool}
 use Rattle.std.proofs.lemmas.List.{append-nil}
 use Rattle.hall_http.specs.Outgoing.{outgoing_text}
-use Rattle.hall_http.specs.Peer.{Traffic, over_after}
-use Rattle.hall_http.specs.Turns.{Service, IsClient, IsClientKept, IsTurned}
+use Rattle.hall_http.specs.Peer.{Traffic, IsUntouched, over_after, then_hung_up}
+use Rattle.hall_http.specs.Turns.{Service, IsClient, IsClientKept, IsOverRightly, IsTurned}
 use Rattle.hall_http.specs.Connection.{Exchange, AreMoments}
 use Rattle.hall_http.specs.Resting.{Rests, RestingSession}
 use Rattle.hall_http.specs.History.{nothing, then_heard, then_ended, then_answered, then_sent, HasHistory}
 use Rattle.hall_http.specs.Steps.{pending, fresh, IsAfterHearing, IsAfterEnd, IsAfterSending, Looks}
 use Rattle.hall_http.specs.declared.client.Client.{Client}
+use Rattle.hall_http.specs.declared.client.Step.{Step}
+use Rattle.hall_http.specs.declared.client.Step.TheVariants as step
 use Rattle.hall_http.specs.declared.connection.Connection.{Connection}
 use Rattle.hall_http.specs.declared.connection.ServeEnd.{ServeEnd}
 use Rattle.hall_http.specs.declared.connection.State.{State}
@@ -38,9 +40,9 @@ module _ {P : Type 0} (traffic : P → Traffic) where
   abbrev client : Connection → P → Bool → Bool → Client P
   client k p f v = record { connection = k; peer = p; is_over = f; is_leaving = v }
 
-  pub client_new : (k : Connection) (p : P) (f v : Bool) → k ≡ fresh → (traffic p).came ≡ [] → (traffic p).went ≡ []
-      → IsClient traffic [] (client k p f v)
-  client_new k p f v is none unsent = record {
+  pub client_new : (k : Connection) (p : P) → k ≡ fresh → IsUntouched (traffic p)
+      → IsClient traffic [] (client k p false false)
+  client_new k p is untouched = record {
     history = nothing;
     has = subst (HasHistory nothing) (sym is) at_the_start;
     answered = refl;
@@ -48,8 +50,11 @@ module _ {P : Type 0} (traffic : P → Traffic) where
     quiet = inl refl;
     over = λ e. refl;
     at_end = λ e. absurd cc;
-    heard = none;
-    sent = unsent;
+    read_over = λ e. absurd cc;
+    hung_up = untouched.hung_up;
+    leaving = λ e. absurd cc;
+    heard = untouched.came;
+    sent = untouched.went;
   }
 
   module _ (k : Connection) (p : P) (f v : Bool) (xs : List Exchange)
@@ -74,12 +79,34 @@ module _ {P : Type 0} (traffic : P → Traffic) where
     looking_off : k.state ≡ state.Looking → is.off ≡ []
     looking_off at = none_off state.Looking at (λ e same. absurd cc)
 
-    module _ (l : Connection) (q : P) (w : Bool) where
+    -- while it hasn't ended its peer wasn't told that no more is sent
+    open_by : (s : State) → k.state ≡ s → ((e : ServeEnd) → s ≡ state.Ended e → ⊥) → (b : Bool) → v ≡ b → v ≡ false
+    open_by s at never false same = same
+    open_by s at never true same = let ends = is.leaving same in absurd (never ends.0 (sym at ∙ ends.1))
+
+    reading_open : k.state ≡ state.Reading → v ≡ false
+    reading_open at = open_by state.Reading at (λ e same. absurd cc) v refl
+
+    looking_open : k.state ≡ state.Looking → v ≡ false
+    looking_open at = open_by state.Looking at (λ e same. absurd cc) v refl
+
+    writing_open : (ending : Option ServeEnd) → k.state ≡ state.Writing ending → v ≡ false
+    writing_open ending at = open_by (state.Writing ending) at (λ e same. absurd cc) v refl
+
+    -- so it may be sent something
+    pub may_send : (ending : Option ServeEnd) → k.state ≡ state.Writing ending → (traffic p).hung_up ≡ false
+    may_send ending at = is.hung_up ∙ writing_open ending at
+
+    -- it was told so already
+    pub was_told : v ≡ true → (traffic p).hung_up ≡ true
+    was_told leaving = is.hung_up ∙ leaving
+
+    module _ (l : Connection) (q : P) where
       pub client_heard : (piece : List ℕ) → k.state ≡ state.Reading → 0 < length piece → length piece ≤ 4096
           → IsAfterHearing k piece l → (traffic q).came ≡ (traffic p).came ++ piece
           → (traffic q).went ≡ (traffic p).went → (traffic q).over ≡ (traffic p).over
-          → IsClient traffic xs (client l q f w)
-      client_heard piece at some few after more same stays = record {
+          → (traffic q).hung_up ≡ (traffic p).hung_up → IsClient traffic xs (client l q f v)
+      client_heard piece at some few after more same stays hung = record {
         history = then_heard is.history piece;
         has = heard is.history k is.has at piece l some few after;
         answered = is.answered;
@@ -87,14 +114,18 @@ module _ {P : Type 0} (traffic : P → Traffic) where
         quiet = inl refl;
         over = is.over;
         at_end = λ e. stays ∙ is.at_end e;
+        read_over = λ e. stays ∙ is.read_over e;
+        hung_up = hung ∙ is.hung_up;
+        leaving = λ e. let clash = sym (reading_open at) ∙ e in absurd cc;
         heard = more ∙ ap (λ s. s ++ piece) (heard_all (reading_off at)) ∙ sym (append-nil (is.history.came ++ piece));
         sent = same ∙ is.sent;
       }
 
       pub client_ended : (piece : List ℕ) → k.state ≡ state.Reading → IsAfterEnd k l → piece ≡ []
           → (traffic q).came ≡ (traffic p).came ++ piece → (traffic q).went ≡ (traffic p).went
-          → (traffic q).over ≡ true → IsClient traffic xs (client l q true w)
-      client_ended piece at after empty more same over = record {
+          → (traffic q).over ≡ true → (traffic q).hung_up ≡ (traffic p).hung_up
+          → IsClient traffic xs (client l q true v)
+      client_ended piece at after empty more same over hung = record {
         history = then_ended is.history;
         has = ended is.history k is.has at l after;
         answered = is.answered;
@@ -102,6 +133,9 @@ module _ {P : Type 0} (traffic : P → Traffic) where
         quiet = inl refl;
         over = λ e. absurd cc;
         at_end = λ e. over;
+        read_over = λ e. over;
+        hung_up = hung ∙ is.hung_up;
+        leaving = λ e. let clash = sym (reading_open at) ∙ e in absurd cc;
         heard = more ∙ ap (λ s. (traffic p).came ++ s) empty ∙ append-nil ((traffic p).came) ∙ heard_all (reading_off at)
             ∙ sym (append-nil is.history.came);
         sent = same ∙ is.sent;
@@ -110,8 +144,9 @@ module _ {P : Type 0} (traffic : P → Traffic) where
       pub client_sent : (ending : Option ServeEnd) (count : ℕ) → k.state ≡ state.Writing ending
           → IsAfterSending k count l → (traffic q).came ≡ (traffic p).came
           → (traffic q).went ≡ (traffic p).went ++ take count (drop k.sent (outgoing_text k.reply))
-          → (traffic q).over ≡ (traffic p).over → IsClient traffic xs (client l q f w)
-      client_sent ending count at after same more stays = record {
+          → (traffic q).over ≡ (traffic p).over → (traffic q).hung_up ≡ (traffic p).hung_up
+          → IsClient traffic xs (client l q f v)
+      client_sent ending count at after same more stays hung = record {
         history = then_sent is.history (take count (pending k));
         has = sent is.history k is.has count ending l at after;
         answered = is.answered;
@@ -119,13 +154,17 @@ module _ {P : Type 0} (traffic : P → Traffic) where
         quiet = inl refl;
         over = is.over;
         at_end = λ e. stays ∙ is.at_end e;
+        read_over = λ e. stays ∙ is.read_over e;
+        hung_up = hung ∙ is.hung_up;
+        leaving = λ e. let clash = sym (writing_open ending at) ∙ e in absurd cc;
         heard = same ∙ heard_all (writing_off ending at) ∙ sym (append-nil is.history.came);
         sent = more ∙ ap (λ s. s ++ take count (pending k)) is.sent;
       }
 
       pub client_waits : (traffic q).came ≡ (traffic p).came → (traffic q).went ≡ (traffic p).went
-          → (traffic q).over ≡ (traffic p).over → IsClient traffic xs (client k q f w)
-      client_waits heard_same sent_same stays = record {
+          → (traffic q).over ≡ (traffic p).over → (traffic q).hung_up ≡ (traffic p).hung_up
+          → IsClient traffic xs (client k q f v)
+      client_waits heard_same sent_same stays hung = record {
         history = is.history;
         has = is.has;
         answered = is.answered;
@@ -133,15 +172,37 @@ module _ {P : Type 0} (traffic : P → Traffic) where
         quiet = is.quiet;
         over = is.over;
         at_end = λ e. stays ∙ is.at_end e;
+        read_over = λ e. stays ∙ is.read_over e;
+        hung_up = hung ∙ is.hung_up;
+        leaving = is.leaving;
         heard = heard_same ∙ is.heard;
         sent = sent_same ∙ is.sent;
+      }
+
+      -- its peer is told that no more is sent
+      pub client_hung_up : (e : ServeEnd) → k.state ≡ state.Ended e → traffic q ≡ then_hung_up (traffic p)
+          → IsClient traffic xs (client k q f true)
+      client_hung_up e at told = record {
+        history = is.history;
+        has = is.has;
+        answered = is.answered;
+        off = is.off;
+        quiet = is.quiet;
+        over = is.over;
+        at_end = λ e. ap (λ (t : Traffic). t.over) told ∙ is.at_end e;
+        read_over = λ e. ap (λ (t : Traffic). t.over) told ∙ is.read_over e;
+        hung_up = ap (λ (t : Traffic). t.hung_up) told;
+        leaving = λ _. (e, at);
+        heard = ap (λ (t : Traffic). t.came) told ∙ is.heard;
+        sent = ap (λ (t : Traffic). t.went) told ∙ is.sent;
       }
 
       -- what is no longer answered is read off
       pub client_left : (e : ServeEnd) (g : Bool) (piece : List ℕ) → k.state ≡ state.Ended e → f ≡ false
           → (traffic q).came ≡ (traffic p).came ++ piece → (traffic q).went ≡ (traffic p).went
-          → IsClient traffic xs (client k q g w)
-      client_left e g piece at unended more same = record {
+          → (g ≡ true → (traffic q).over ≡ true) → (traffic q).hung_up ≡ (traffic p).hung_up
+          → IsClient traffic xs (client k q g v)
+      client_left e g piece at unended more same over hung = record {
         history = is.history;
         has = is.has;
         answered = is.answered;
@@ -149,6 +210,9 @@ module _ {P : Type 0} (traffic : P → Traffic) where
         quiet = inr (e, at, is.over unended);
         over = λ _. is.over unended;
         at_end = λ e. let clash = sym (is.over unended) ∙ e in absurd cc;
+        read_over = over;
+        hung_up = hung ∙ is.hung_up;
+        leaving = λ _. (e, at);
         heard = more ∙ ap (λ s. s ++ piece) is.heard ∙ append_assoc is.history.came is.off piece;
         sent = same ∙ is.sent;
       }
@@ -156,21 +220,21 @@ module _ {P : Type 0} (traffic : P → Traffic) where
       module _ {H C : Type 0} (service : Service H C) (h i : H) (c d : C) where
         abbrev Turned : Type 0
         Turned = (more : List Exchange) × RestingSession service.answers service.rests h more i
-            × AreMoments service.now_gives c more d × IsClient traffic (xs ++ more) (client l q f w)
+            × AreMoments service.now_gives c more d × IsClient traffic (xs ++ more) (client l q f v)
 
-        client_idle : i ≡ h → d ≡ c → IsClient traffic xs (client l q f w) → Turned
+        client_idle : i ≡ h → d ≡ c → IsClient traffic xs (client l q f v) → Turned
         client_idle same stood kept = (
           [],
           rw same (no_session service.rests service.answers h),
           stood,
-          subst (λ (ys : List Exchange). IsClient traffic ys (client l q f w)) (sym (append-nil xs)) kept,
+          subst (λ (ys : List Exchange). IsClient traffic ys (client l q f v)) (sym (append-nil xs)) kept,
         )
 
         same_heard : k.state ≡ state.Looking → q ≡ p → (traffic q).came ≡ is.history.came ++ []
         same_heard at same =
             ap (λ (p : P). (traffic p).came) same ∙ heard_all (looking_off at) ∙ sym (append-nil is.history.came)
 
-        pub client_looked : k.state ≡ state.Looking → q ≡ p → Looks service.answers service.now_gives h c k i d l
+        pub client_looked : k.state ≡ state.Looking → q ≡ p → Looks service.answers service.now_gives (h, c) k (i, d) l
             → Turned
         client_looked at same (inl a) = (
           a.exchange ∷ [],
@@ -184,12 +248,15 @@ module _ {P : Type 0} (traffic : P → Traffic) where
             quiet = inl refl;
             over = is.over;
             at_end = λ e. ap (λ (p : P). (traffic p).over) same ∙ is.at_end e;
+            read_over = λ e. ap (λ (p : P). (traffic p).over) same ∙ is.read_over e;
+            hung_up = ap (λ (p : P). (traffic p).hung_up) same ∙ is.hung_up;
+            leaving = λ e. let clash = sym (looking_open at) ∙ e in absurd cc;
             heard = same_heard at same;
             sent = ap (λ (p : P). (traffic p).went) same ∙ is.sent;
           },
         )
-        client_looked at same (inr ((stays, stood), unanswered)) =
-            client_idle stays stood (record {
+        client_looked at same (inr (both, unanswered)) =
+            client_idle (ap (λ (z : H × C). z.0) both) (ap (λ (z : H × C). z.1) both) (record {
               history = is.history;
               has = elim unanswered [
                 | inl x ↦ waited is.history k is.has at l x
@@ -200,6 +267,9 @@ module _ {P : Type 0} (traffic : P → Traffic) where
               quiet = inl refl;
               over = is.over;
               at_end = λ e. ap (λ (p : P). (traffic p).over) same ∙ is.at_end e;
+              read_over = λ e. ap (λ (p : P). (traffic p).over) same ∙ is.read_over e;
+              hung_up = ap (λ (p : P). (traffic p).hung_up) same ∙ is.hung_up;
+              leaving = λ e. let clash = sym (looking_open at) ∙ e in absurd cc;
               heard = same_heard at same;
               sent = ap (λ (p : P). (traffic p).went) same ∙ is.sent;
             })
@@ -217,48 +287,55 @@ module _ {P : Type 0} (traffic : P → Traffic) where
       subst (λ (ys : List Exchange). IsClient traffic ys k) (sym (append-nil xs)) kept,
     )
 
-    pub turned_rests : (h i : H) (c : C) (k : Client P) → Rests service.rests h i
-        → IsTurned service traffic (h, c) k (i, c) k
-    turned_rests h i c k rested =
-        record { number = refl; turned = λ xs kept. client_rests h i c xs k rested kept }
+    pub turned_rests : (h i : H) (c : C) (k : Client P) (step : Step) → Rests service.rests h i
+        → IsOverRightly step (traffic k.peer) → IsTurned service traffic (h, c) k (i, c) k step
+    turned_rests h i c k step rested over =
+        record { number = refl; over = over; turned = λ xs kept. client_rests h i c xs k rested kept }
 
     -- nor did the responder rest
-    pub turned_kept : (at : H × C) (k l : Client P) → IsClientKept traffic k l → IsTurned service traffic at k at l
-    turned_kept at k l keeps = record {
+    pub turned_kept : (at : H × C) (k l : Client P) (step : Step) → IsClientKept traffic k l
+        → IsOverRightly step (traffic l.peer) → IsTurned service traffic at k at l step
+    turned_kept at k l step keeps over = record {
       number = keeps.number;
+      over = over;
       turned = λ xs is. client_rests at.0 at.0 at.1 xs l ([], refl) (keeps.kept xs is);
     }
 
-    pub turned_start : (at : H × C) (k : Client P) → IsTurned service traffic at k at k
-    turned_start at k = turned_kept at k k (record { number = refl; kept = λ xs is. is })
+    pub turned_start : (at : H × C) (k : Client P) → IsTurned service traffic at k at k step.Again
+    turned_start at k = turned_kept at k k step.Again (record { number = refl; kept = λ xs is. is }) tt
 
-    pub turned_then : (before at after : H × C) (k l u : Client P) → IsTurned service traffic before k at l
-        → IsTurned service traffic at l after u → IsTurned service traffic before k after u
-    turned_then before at after k l u first second = record {
-      number = second.number ∙ first.number;
+    pub turned_then : (before at after : H × C) (k l u : Client P) (first second : Step)
+        → IsTurned service traffic before k at l first → IsTurned service traffic at l after u second
+        → IsTurned service traffic before k after u second
+    turned_then before at after k l u first second one two = record {
+      number = two.number ∙ one.number;
+      over = two.over;
       turned = λ xs kept.
-          let (one, session, moments, between) = first.turned xs kept in
-          let (two, later, told, last) = second.turned (xs ++ one) between in (
-            one ++ two,
-            resting_then service.rests service.answers one two before.0 at.0 after.0 session later,
-            moments_then service.now_gives one two before.1 at.1 after.1 moments told,
-            subst (λ (ys : List Exchange). IsClient traffic ys u) (append_assoc xs one two) last,
+          let (some, session, moments, between) = one.turned xs kept in
+          let (more, later, told, last) = two.turned (xs ++ some) between in (
+            some ++ more,
+            resting_then service.rests service.answers some more before.0 at.0 after.0 session later,
+            moments_then service.now_gives some more before.1 at.1 after.1 moments told,
+            subst (λ (ys : List Exchange). IsClient traffic ys u) (append_assoc xs some more) last,
           );
     }
 
     -- the responder rested, and then it was looked at what waits
-    pub turned_looked : (h m i : H) (c d : C) (k l : Connection) (p : P) (f v : Bool) → Rests service.rests h m
-        → k.state ≡ state.Looking → Looks service.answers service.now_gives m c k i d l
-        → IsTurned service traffic (h, c) (client k p f v) (i, d) (client l p f v)
-    turned_looked h m i c d k l p f v rested at looks =
-        turned_then (h, c) (m, c) (i, d) (client k p f v) (client k p f v) (client l p f v)
-        (turned_rests h m c (client k p f v) rested)
+    pub turned_looked : (h m i : H) (c d : C) (k l : Connection) (p : P) (f v : Bool) (step : Step)
+        → Rests service.rests h m → k.state ≡ state.Looking → Looks service.answers service.now_gives (m, c) k (i, d) l
+        → IsOverRightly step (traffic p)
+        → IsTurned service traffic (h, c) (client k p f v) (i, d) (client l p f v) step
+    turned_looked h m i c d k l p f v second rested at looks over =
+        turned_then (h, c) (m, c) (i, d) (client k p f v) (client k p f v) (client l p f v) step.Again second
+        (turned_rests h m c (client k p f v) step.Again rested tt)
         (record {
           number = refl;
-          turned = λ xs is. client_looked k p f v xs is l p v service m i c d at refl looks;
+          over = over;
+          turned = λ xs is. client_looked k p f v xs is l p service m i c d at refl looks;
         })
 
-    pub turned_client : (before after : H × C) (k l : Client P) → (xs : List Exchange) × IsClient traffic xs k
-        → IsTurned service traffic before k after l → (xs : List Exchange) × IsClient traffic xs l
-    turned_client before after k l (xs, kept) turned =
+    pub turned_client : (before after : H × C) (k l : Client P) (step : Step)
+        → (xs : List Exchange) × IsClient traffic xs k → IsTurned service traffic before k after l step
+        → (xs : List Exchange) × IsClient traffic xs l
+    turned_client before after k l step (xs, kept) turned =
         let (more, session, moments, last) = turned.turned xs kept in (xs ++ more, last)

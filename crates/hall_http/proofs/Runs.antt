@@ -283,6 +283,7 @@ module _ {D H C : Type 0} (kept : D → H) (content : H → Content) (now_gives 
   handled_served settled handled = let over : D → Content = λ h. content (kept h) in record {
     exchanges = handled.exchanges;
     unread = handled.unread;
+    settled = settled;
     answered = session_kept kept content h handled.exchanges i handled.session;
     whole = handled.whole;
     moments = handled.moments;

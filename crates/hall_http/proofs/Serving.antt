@@ -1,5 +1,6 @@
 -- Connections that were served by a desk.
-use Rattle.std.proofs.Common.{◌≡◌, ◌≢◌, ◌∙◌, ap, refl, sym, subst, inl, inr, ℕ, List, [], ◌∷◌, ◌++◌, Option, true, false}
+use Rattle.std.proofs.Common.{◌≡◌, ◌≢◌, ◌∙◌, ap, get_or, refl, sym, subst, inl, inr, ℕ, List, [], ◌∷◌, ◌++◌}
+use Rattle.std.proofs.Common.{Option, true, false}
 use Rattle.std.specs.Prelude.{Bool}
 use Rattle.hall_policy.specs.World.{World}
 use Rattle.hall_store.specs.Store.{Content, IsSettled, Kept, Leads}
@@ -7,8 +8,9 @@ use Rattle.hall_store.proofs.Knowing.{kept_leads, kept_same, kept_then, leads_th
 use Rattle.hall_desk.specs.Sane.{Sane}
 use Rattle.hall_desk.specs.Desk.{SaneThen}
 use Rattle.hall_http.specs.Connection.{Exchange, Session}
-use Rattle.hall_http.specs.Coming.{Said, since, stays_open}
+use Rattle.hall_http.specs.Coming.{Nexts, Said, since, stays_open}
 use Rattle.hall_http.specs.Crowd.{AreAtTurns, AreHandled, AreKept, AreKeptAtTurns, AreServed, AreThose, EndUnavailable, AreGone, AnswersNoMore}
+use Rattle.hall_http.specs.Crowd.{AllLeave, AreAsSaid, HaveGone, IsFor}
 use Rattle.hall_http.specs.Peer.{Traffic}
 use Rattle.hall_http.specs.Resting.{AreRests, RestingSession, after_rests, still}
 use Rattle.hall_http.specs.Laws.{FirstPartsLast}
@@ -19,6 +21,7 @@ use Rattle.hall_http.specs.declared.clients.Clients.{Clients}
 use Rattle.hall_http.specs.declared.server.ServeAllEnd.{ServeAllEnd}
 use Rattle.hall_http.proofs.Crowds.{kept_told, kept_those}
 use Rattle.hall_http.proofs.Rested.{still_on}
+use Rattle.hall_http.proofs.SoFar.{for_grown, grows_by, left_grown, turns_grown}
 use Rattle.hall_http.proofs.Runs.{Leaves, Onward, answered_kept, further, leaves_one, leaves_over, leaves_read, onward_runs, run_over, runs_sane}
 
 -- where both parts together are empty, so is the first
@@ -113,7 +116,7 @@ module _ {D H : Type 0} (kept : D → H) (content : H → Content) where
       let clash = sym stays ∙ shut in
       absurd cc
   ended_unavailable h (x ∷ []) i (n, (m, (read, rested, says), same), (left, rests)) opened shut =
-      ([], x, refl, says.3 (sym (still_on reads n left i rests ∙ ap (λ (z : D × Bool). z.1) same) ∙ shut))
+      ([], x, refl, (says.3 (sym (still_on reads n left i rests ∙ ap (λ (z : D × Bool). z.1) same) ∙ shut)).0)
   ended_unavailable h (x ∷ y ∷ xs) i (n, (m, first, more), after) opened shut =
       let (front, last, is, unavailable) =
       ended_unavailable m (y ∷ xs) i (n, more, after) (went_on m (y ∷ xs) n more (λ e. absurd cc)) shut in
@@ -131,6 +134,26 @@ module _ {D H : Type 0} (kept : D → H) (content : H → Content) where
     λ some. goes_kept read.0 m.0 x.reply (says.2 (went_on m xs n more some)),
     while_open m xs i (n, more, after),
   )
+
+-- those that were here when no more was said have gone too
+pub all_gone : {P : Type 0} (traffic : P → Traffic) (steps : Nexts P) (s u : Clients P) → AreAsSaid traffic steps s
+    → AllLeave traffic s u → HaveGone traffic steps u.gone.items
+all_gone traffic steps s u said (last, is, all) =
+    let grows = grows_by traffic s.gone.items last u.gone.items is in
+    record {
+      left = s.gone.items;
+      last = last;
+      all = is;
+      each = left_grown traffic s.gone.items u.gone.items grows steps s.gone.items said.gone;
+      here = λ i d inside.
+          let (ends, (k, at, same)) = all i d inside in
+          let place = (get_or last i d).1.1 in (
+            ends,
+            subst (IsFor traffic u.gone.items steps place) same
+                (for_grown traffic s.gone.items u.gone.items grows steps place ((traffic k.peer).number)
+                (said.here place k at)),
+          );
+    }
 
 -- what was true of the requests so far is true of them once all have gone
 module _ {D H C P : Type 0} (kept : D → H) (content : H → Content) (now_gives : C → Option ℕ → C → Type 0)
@@ -152,6 +175,7 @@ module _ {D H C P : Type 0} (kept : D → H) (content : H → Content) (now_give
       → AreServed content now_gives traffic why (kept h, c) (kept i, d) u.gone.items
   crowd_served settled = record {
     turns = handled.turns;
+    settled = settled;
     answered = answered;
     moments = handled.moments;
     leads = open_leads content (kept h) xs (kept i) answered;
@@ -162,11 +186,15 @@ module _ {D H C P : Type 0} (kept : D → H) (content : H → Content) (now_give
     told = kept_told traffic old.count new.count handled.turns u after empty;
   }
 
-  pub crowd_turned : IsSettled (content (kept h))
+  pub crowd_turned : IsSettled (content (kept h)) → AllLeave traffic s u
       → (all : AreServed content now_gives traffic why (kept h, c) (kept i, d) u.gone.items)
-      × AreAtTurns traffic (since old new) all.turns
+      × AreAtTurns traffic u.gone.items (since old new) all.turns
   unfolding crowd_served
-  crowd_turned settled = (crowd_served settled, handled.holds.1)
+  crowd_turned settled (last, is, all) = (
+    crowd_served settled,
+    turns_grown traffic s.gone.items u.gone.items (grows_by traffic s.gone.items last u.gone.items is) (since old new)
+        handled.turns handled.holds.1,
+  )
 
   pub crowd_those : AreThose traffic old.count new.count u.gone.items
   crowd_those = kept_those traffic old.count new.count handled.turns u after empty

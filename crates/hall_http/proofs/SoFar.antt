@@ -1,13 +1,23 @@
 -- What was served so far.
-use Rattle.std.proofs.Common.{◌≡◌, ◌∙◌, sym, ap, subst, refl, arith, inl, inr, ℕ, ◌+◌, List, [], ◌∷◌, ◌++◌, append_assoc}
+use Rattle.std.proofs.Common.{◌≡◌, ◌∙◌, sym, ap, subst, refl, arith, inl, inr, ℕ, ◌+◌, List, [], ◌∷◌, ◌++◌}
+use Rattle.std.proofs.Common.{◌⊎◌, ◌==◌, append_assoc, get_or, true, false}
+use Rattle.std.specs.Prelude.{All, Bool}
+use Rattle.std.proofs.lemmas.Bool.{eqb-true, eqb-false}
 use Rattle.std.proofs.lemmas.List.{append-nil, map-append}
+use Rattle.std.proofs.lemmas.List.Elements.{All-nil, All-push}
+use Rattle.http_server.specs.declared.log.Log.{Log}
 use Rattle.hall_http.specs.Peer.{Traffic}
 use Rattle.hall_http.specs.Coming.{Nexts, Said, since}
 use Rattle.hall_http.specs.Crowd.{Admits, AreHandled, AreKept, AreKeptAtTurns, AreOf, AreSomeKept, AreStill, AnswersNoMore, ComesTo, HasAt, IsAt, IsFor, Serves}
+use Rattle.hall_http.specs.Crowd.{AllLeave, AreAsSaid, HasLeft, IsFree, KeepsPlace, MayLose, Past, Receives}
+use Rattle.hall_http.specs.Crowd.{WasHandedOut, WasHere, WasNext, WasToGo, WasTurnedAway, number_past}
 use Rattle.hall_http.specs.Crowd.{AreAtTurns, at_first, at_other, at_turn}
 use Rattle.hall_http.specs.Turns.{Turn, Service, exchanges_of}
 use Rattle.hall_http.specs.declared.client.Client.{Client}
 use Rattle.hall_http.specs.declared.clients.Clients.{Clients}
+use Rattle.hall_http.specs.declared.clients.Departure.{Departure}
+use Rattle.hall_http.specs.declared.clients.Departure.TheVariants as departure
+use Rattle.hall_http.specs.declared.peer.Closed.{Closed}
 use Rattle.hall_http.specs.declared.server.Next.{Next}
 use Rattle.hall_http.specs.declared.server.Next.TheVariants as next
 use Rattle.hall_http.proofs.Comings.{since_none}
@@ -34,61 +44,320 @@ module _ {P : Type 0} (traffic : P → Traffic) where
     λ few many turns kept. second.1 few many turns (first.1 few many turns kept),
   )
 
-  -- each that is here is a newcomer that was handed out for its place
-  abbrev pub AreSeated : Nexts P → Clients P → Type 0
-  AreSeated steps s = (place : ℕ) (k : Client P) → IsAt s place k → IsFor traffic steps place (traffic k.peer).number
+  -- at each place of the later there was one before
+  pub has_before : (s m : Clients P) → AreStill traffic s m → (place number : ℕ) → HasAt traffic m place number
+      → HasAt traffic s place number
+  has_before s m still place number (k, at, same) =
+      let (j, there, equal) = still place k at in (j, there, equal ∙ same)
 
-  for_more : (steps : Nexts P) (one : Next P) (place number : ℕ) → IsFor traffic steps place number
-      → IsFor traffic (steps ++ one ∷ []) place number
-  for_more steps one place number (front, rest, peer, is, same) = (
+  -- who was turned away among those that had gone was so among those that have
+  abbrev pub Grows : List (Past P) → List (Past P) → Type 0
+  Grows gone more = (number : ℕ) → WasTurnedAway traffic gone number → WasTurnedAway traffic more number
+
+  grows_same : (gone more : List (Past P)) → more ≡ gone → Grows gone more
+  grows_same gone more same number away = rw same away
+
+  pub grows_none : (gone : List (Past P)) → Grows gone gone
+  grows_none gone number away = away
+
+  pub grows_by : (gone last more : List (Past P)) → more ≡ gone ++ last → Grows gone more
+  grows_by gone last more all number (front, one, rest, is, turned, same) = (
     front,
-    rest ++ one ∷ [],
+    one,
+    rest ++ last,
+    all ∙ ap (λ (gone : List (Past P)). gone ++ last) is ∙ append_assoc front (one ∷ rest) last,
+    turned,
+    same,
+  )
+
+  -- none goes
+  pub loses_none : (went : Departure) (place : ℕ) (s u : Clients P) → u.gone ≡ s.gone → MayLose traffic went place s u
+  loses_none went place s u same = inl (ap (λ (gone : Log (Closed P) (Departure × ℕ)). gone.items) same)
+
+  -- one goes of those that were here before
+  pub loses_before : (s m u : Clients P) → AreStill traffic s m → m.gone ≡ s.gone → (went : Departure) (place : ℕ)
+      → MayLose traffic went place m u → MayLose traffic went place s u
+  loses_before s m u still gone went place (inl same) =
+      inl (same ∙ ap (λ (gone : Log (Closed P) (Departure × ℕ)). gone.items) gone)
+  loses_before s m u still gone went place (inr (closed, has, more)) = inr (
+    closed,
+    has_before s m still place ((traffic closed.peer).number) has,
+    more ∙ ap (λ (gone : Log (Closed P) (Departure × ℕ)). gone.items ++ (closed, (went, place)) ∷ []) gone,
+  )
+
+  pub loses_grows : (went : Departure) (place : ℕ) (s u : Clients P) → MayLose traffic went place s u
+      → Grows s.gone.items u.gone.items
+  loses_grows went place s u (inl same) = grows_same s.gone.items u.gone.items same
+  loses_grows went place s u (inr (closed, has, more)) =
+      grows_by s.gone.items ((closed, (went, place)) ∷ []) u.gone.items more
+
+  pub receives_grows : (place : ℕ) (peer : P) (s u : Clients P) → Receives place peer s u
+      → Grows s.gone.items u.gone.items
+  receives_grows place peer s u (inl (free, same)) = grows_same s.gone.items u.gone.items same
+  receives_grows place peer s u (inr (closed, is, more)) =
+      grows_by s.gone.items ((closed, (departure.TurnedAway, place)) ∷ []) u.gone.items more
+
+  -- none has gone at the end
+  pub leave_none : (s : Clients P) → AllLeave traffic s s
+  leave_none s = ([], sym (append-nil s.gone.items), All-nil (WasHere traffic s))
+
+  -- and one more goes then
+  pub leave_more : (s m u : Clients P) → AreStill traffic s m → (place : ℕ) → AllLeave traffic s m
+      → MayLose traffic departure.AtEnd place m u → AllLeave traffic s u
+  leave_more s m u still place (last, is, all) (inl same) = (last, same ∙ is, all)
+  leave_more s m u still place (last, is, all) (inr (closed, has, more)) =
+      let one : Past P = (closed, (departure.AtEnd, place)) in (
+        last ++ one ∷ [],
+        more ∙ ap (λ (gone : List (Past P)). gone ++ one ∷ []) is ∙ append_assoc s.gone.items last (one ∷ []),
+        All-push (WasHere traffic s) last one all
+            (refl, has_before s m still place ((traffic closed.peer).number) has),
+      )
+
+  -- who keeps the place
+  keeps_grown : (gone more : List (Past P)) → Grows gone more → (place : ℕ) (one : Next P)
+      → KeepsPlace traffic gone place one → KeepsPlace traffic more place one
+  keeps_grown gone more grows place (next.Newcomer other peer) (inl differs) = inl differs
+  keeps_grown gone more grows place (next.Newcomer other peer) (inr away) = inr (grows ((traffic peer).number) away)
+  keeps_grown gone more grows place (next.Turn other) keeps = tt
+  keeps_grown gone more grows place (next.Gone other) keeps = keeps
+  keeps_grown gone more grows place next.End keeps = tt
+  keeps_grown gone more grows place next.Refused keeps = tt
+
+  pub for_grown : (gone more : List (Past P)) → Grows gone more → (steps : Nexts P) (place number : ℕ)
+      → IsFor traffic gone steps place number → IsFor traffic more steps place number
+  for_grown gone more grows steps place number (rest, handed, keeps) = (
+    rest,
+    handed,
+    λ i d inside. keeps_grown gone more grows place (get_or rest i d) (keeps i d inside),
+  )
+
+  next_grown : (gone more : List (Past P)) → Grows gone more → (steps : Nexts P) (one : Next P) (place number : ℕ)
+      → WasNext traffic gone steps one place number → WasNext traffic more steps one place number
+  next_grown gone more grows steps one place number (front, rest, is, was) =
+      (front, rest, is, for_grown gone more grows front place number was)
+
+  to_go_grown : (gone more : List (Past P)) → Grows gone more → (steps : Nexts P) (went : Departure) (place number : ℕ)
+      → WasToGo traffic gone steps went place number → WasToGo traffic more steps went place number
+  to_go_grown gone more grows steps departure.TurnedAway place number was = was
+  to_go_grown gone more grows steps departure.Over place number was =
+      next_grown gone more grows steps (next.Turn place) place number was
+  to_go_grown gone more grows steps departure.LetGo place number was =
+      next_grown gone more grows steps (next.Gone place) place number was
+  to_go_grown gone more grows steps departure.AtEnd place number was = absurd was
+
+  pub left_grown : (gone more : List (Past P)) → Grows gone more → (steps : Nexts P) (left : List (Past P))
+      → All (HasLeft traffic gone steps) left → All (HasLeft traffic more steps) left
+  left_grown gone more grows steps left each i d inside =
+      let it = get_or left i d in
+      to_go_grown gone more grows steps it.1.0 it.1.1 (number_past traffic it) (each i d inside)
+
+  pub turns_grown : (gone more : List (Past P)) → Grows gone more → (steps : Nexts P) (turns : List Turn)
+      → AreAtTurns traffic gone steps turns → AreAtTurns traffic more steps turns
+  turns_grown gone more grows steps turns at_first = at_first
+  turns_grown gone more grows steps turns (at_other before same one at) =
+      at_other before same one (turns_grown gone more grows before same at)
+  turns_grown gone more grows steps turns (at_turn before some others place number at was all) =
+      at_turn before some others place number (turns_grown gone more grows before some at)
+      (for_grown gone more grows before place number was) all
+
+  -- what was said before, and one thing more
+  handed_more : (steps rest : Nexts P) (one : Next P) (place number : ℕ) → WasHandedOut traffic steps rest place number
+      → WasHandedOut traffic (steps ++ one ∷ []) (rest ++ one ∷ []) place number
+  handed_more steps rest one place number (front, peer, is, same) = (
+    front,
     peer,
     ap (λ (all : Nexts P). all ++ one ∷ []) is ∙ append_assoc front (next.Newcomer place peer ∷ rest) (one ∷ []),
     same,
   )
 
-  pub seated_none : (few : ℕ) (turns : List Turn) (s : Clients P) (steps : Nexts P) → AreKept traffic few few turns s
-      → AreSeated steps s
-  seated_none few turns s steps kept place k at =
-      let within = kept.numbered.counted place k at in absurd (omega (arith, within.0, within.1))
+  for_more : (gone : List (Past P)) (steps : Nexts P) (one : Next P) (place number : ℕ)
+      → KeepsPlace traffic gone place one → IsFor traffic gone steps place number
+      → IsFor traffic gone (steps ++ one ∷ []) place number
+  for_more gone steps one place number keeps (rest, handed, kept) = (
+    rest ++ one ∷ [],
+    handed_more steps rest one place number handed,
+    All-push (KeepsPlace traffic gone place) rest one kept keeps,
+  )
 
-  module _ (steps : Nexts P) (s u : Clients P) (seated : AreSeated steps s) where
-    for_one : (place number : ℕ) → HasAt traffic s place number → IsFor traffic steps place number
-    for_one place number (k, there, same) = subst (IsFor traffic steps place) same (seated place k there)
+  next_more : (gone : List (Past P)) (steps : Nexts P) (one it : Next P) (place number : ℕ)
+      → WasNext traffic gone steps it place number → WasNext traffic gone (steps ++ one ∷ []) it place number
+  next_more gone steps one it place number (front, rest, is, was) = (
+    front,
+    rest ++ one ∷ [],
+    ap (λ (all : Nexts P). all ++ one ∷ []) is ∙ append_assoc front (it ∷ rest) (one ∷ []),
+    was,
+  )
 
-    seated_still : (one : Next P) → AreStill traffic s u → AreSeated (steps ++ one ∷ []) u
-    seated_still one still place l at =
-        for_more steps one place (traffic l.peer).number (for_one place (traffic l.peer).number (still place l at))
+  to_go_more : (gone : List (Past P)) (steps : Nexts P) (one : Next P) (went : Departure) (place number : ℕ)
+      → WasToGo traffic gone steps went place number → WasToGo traffic gone (steps ++ one ∷ []) went place number
+  to_go_more gone steps one departure.TurnedAway place number (rest, handed) =
+      (rest ++ one ∷ [], handed_more steps rest one place number handed)
+  to_go_more gone steps one departure.Over place number was =
+      next_more gone steps one (next.Turn place) place number was
+  to_go_more gone steps one departure.LetGo place number was =
+      next_more gone steps one (next.Gone place) place number was
+  to_go_more gone steps one departure.AtEnd place number was = absurd was
 
-    seated_comes : (place : ℕ) (peer : P) → ComesTo traffic place peer s u
-        → AreSeated (steps ++ next.Newcomer place peer ∷ []) u
-    seated_comes place peer comes other l at =
-        elim (comes other l at) [
-          | inl was ↦
-              for_more steps (next.Newcomer place peer) other (traffic l.peer).number
-              (for_one other (traffic l.peer).number was)
-          | inr x ↦ rw x.0 (steps, [], peer, refl, sym x.1)
-        ]
+  left_more : (gone : List (Past P)) (steps : Nexts P) (one : Next P) (left : List (Past P))
+      → All (HasLeft traffic gone steps) left → All (HasLeft traffic gone (steps ++ one ∷ [])) left
+  left_more gone steps one left each i d inside =
+      let it = get_or left i d in
+      to_go_more gone steps one it.1.0 it.1.1 (number_past traffic it) (each i d inside)
+
+  pub said_none : (few : ℕ) (turns : List Turn) (s : Clients P) (steps : Nexts P) → AreKept traffic few few turns s
+      → AreAsSaid traffic steps s
+  said_none few turns s steps kept = record {
+    here = λ place k at. let within = kept.numbered.counted place k at in absurd (omega (arith, within.0, within.1));
+    gone = λ i d inside. let within = kept.numbered.past i d inside in absurd (omega (arith, within.0, within.1));
+  }
+
+  -- one thing more is done, and others go
+  module _ (steps : Nexts P) (s u : Clients P) (said : AreAsSaid traffic steps s) where
+    for_one : (place number : ℕ) → HasAt traffic s place number → IsFor traffic s.gone.items steps place number
+    for_one place number (k, there, same) =
+        subst (IsFor traffic s.gone.items steps place) same (said.here place k there)
+
+    module _ (grows : Grows s.gone.items u.gone.items) (one : Next P) where
+      here_still : (place : ℕ) (l : Client P) → HasAt traffic s place (traffic l.peer).number
+          → KeepsPlace traffic u.gone.items place one
+          → IsFor traffic u.gone.items (steps ++ one ∷ []) place (traffic l.peer).number
+      here_still place l was keeps =
+          for_more u.gone.items steps one place ((traffic l.peer).number) keeps
+          (for_grown s.gone.items u.gone.items grows steps place ((traffic l.peer).number)
+          (for_one place ((traffic l.peer).number) was))
+
+      left_still : All (HasLeft traffic u.gone.items (steps ++ one ∷ [])) s.gone.items
+      left_still =
+          left_more u.gone.items steps one s.gone.items
+          (left_grown s.gone.items u.gone.items grows steps s.gone.items said.gone)
+
+      left_lost : (went : Departure) (place : ℕ)
+          → ((number : ℕ) → HasAt traffic s place number
+          → WasToGo traffic u.gone.items (steps ++ one ∷ []) went place number)
+          → MayLose traffic went place s u → All (HasLeft traffic u.gone.items (steps ++ one ∷ [])) u.gone.items
+      left_lost went place to_go (inl same) =
+          subst (All (HasLeft traffic u.gone.items (steps ++ one ∷ []))) (sym same) left_still
+      left_lost went place to_go (inr (closed, has, more)) =
+          subst (All (HasLeft traffic u.gone.items (steps ++ one ∷ []))) (sym more)
+          (All-push (HasLeft traffic u.gone.items (steps ++ one ∷ [])) s.gone.items (closed, (went, place)) left_still
+          (to_go ((traffic closed.peer).number) has))
+
+      next_here : (place number : ℕ) → HasAt traffic s place number
+          → WasNext traffic u.gone.items (steps ++ one ∷ []) one place number
+      next_here place number has = (
+        steps,
+        [],
+        refl,
+        for_grown s.gone.items u.gone.items grows steps place number (for_one place number has),
+      )
+
+    -- nobody was let go
+    still_said : (one : Next P) → ((place : ℕ) → KeepsPlace traffic u.gone.items place one) → AreStill traffic s u
+        → u.gone ≡ s.gone → AreAsSaid traffic (steps ++ one ∷ []) u
+    still_said one keeps still gone =
+        let same : u.gone.items ≡ s.gone.items = ap (λ (gone : Log (Closed P) (Departure × ℕ)). gone.items) gone in
+        let grows = grows_same s.gone.items u.gone.items same in
+        record {
+          here = λ place l at. here_still grows one place l (still place l at) (keeps place);
+          gone = subst (All (HasLeft traffic u.gone.items (steps ++ one ∷ []))) (sym same) (left_still grows one);
+        }
+
+    -- the one at the place had its turn, and may be over
+    turn_said : (place : ℕ) → AreStill traffic s u → MayLose traffic departure.Over place s u
+        → AreAsSaid traffic (steps ++ next.Turn place ∷ []) u
+    turn_said place still lost =
+        let grows = loses_grows departure.Over place s u lost in
+        record {
+          here = λ other l at. here_still grows (next.Turn place) other l (still other l at) tt;
+          gone = left_lost grows (next.Turn place) departure.Over place (next_here grows (next.Turn place) place) lost;
+        }
+
+    -- the one at the place was let go
+    gone_said : (place : ℕ) → AreStill traffic s u → IsFree u place → MayLose traffic departure.LetGo place s u
+        → AreAsSaid traffic (steps ++ next.Gone place ∷ []) u
+    gone_said place still free lost =
+        let grows = loses_grows departure.LetGo place s u lost in
+        record {
+          here = λ other l at. here_still grows (next.Gone place) other l (still other l at) (λ same.
+              let clash = sym (subst (IsFree u) same free) ∙ at in
+              absurd cc);
+          gone = left_lost grows (next.Gone place) departure.LetGo place (next_here grows (next.Gone place) place) lost;
+        }
+
+    -- a newcomer came for the place
+    module _ (place : ℕ) (peer : P) where
+      abbrev came : Next P
+      came = next.Newcomer place peer
+
+      -- one that was at another place keeps it, or where it is at this one the newcomer was turned away
+      keeps_from : (b : Bool) (other : ℕ) → (other == place) ≡ b → (k : Client P) → IsAt s other k
+          → Receives place peer s u → KeepsPlace traffic u.gone.items other came
+      keeps_from false other e k at receives = inl (λ same. eqb-false _ _ e (sym same))
+      keeps_from true other e k at (inl (free, same)) =
+          let clash = sym free ∙ subst (λ (place : ℕ). IsAt s place k) (eqb-true _ _ e) at in
+          absurd cc
+      keeps_from true other e k at (inr (closed, is, more)) =
+          let one : Past P = (closed, (departure.TurnedAway, place)) in
+          inr (s.gone.items, one, [], more, refl, ap (λ (p : P). (traffic p).number) is)
+
+      here_comes : Receives place peer s u → (other : ℕ) (l : Client P) → IsAt u other l
+          → HasAt traffic s other (traffic l.peer).number
+          ⊎ ((other ≡ place) × ((traffic l.peer).number ≡ (traffic peer).number))
+          → IsFor traffic u.gone.items (steps ++ came ∷ []) other (traffic l.peer).number
+      here_comes receives other l at (inl was) =
+          here_still (receives_grows place peer s u receives) came other l was
+          (keeps_from (other == place) other refl was.0 was.1 receives)
+      here_comes receives other l at (inr (here, same)) =
+          rw here ([], (steps, peer, refl, sym same), All-nil (KeepsPlace traffic u.gone.items place))
+
+      left_comes : Receives place peer s u → All (HasLeft traffic u.gone.items (steps ++ came ∷ [])) u.gone.items
+      left_comes (inl (free, same)) =
+          subst (All (HasLeft traffic u.gone.items (steps ++ came ∷ []))) (sym same)
+          (left_still (grows_same s.gone.items u.gone.items same) came)
+      left_comes (inr (closed, is, more)) =
+          let one : Past P = (closed, (departure.TurnedAway, place)) in
+          subst (All (HasLeft traffic u.gone.items (steps ++ came ∷ []))) (sym more)
+          (All-push (HasLeft traffic u.gone.items (steps ++ came ∷ [])) s.gone.items one
+          (left_still (grows_by s.gone.items (one ∷ []) u.gone.items more) came)
+          ([], (steps, peer, refl, sym (ap (λ (p : P). (traffic p).number) is))))
+
+      comes_said : ComesTo traffic place peer s u → Receives place peer s u
+          → AreAsSaid traffic (steps ++ came ∷ []) u
+      comes_said comes receives = record {
+        here = λ other l at. here_comes receives other l at (comes other l at);
+        gone = left_comes receives;
+      }
 
     -- some more requests were answered, of the one at the place
-    turns_more : (turns more : List Turn) (place : ℕ) → AreOf traffic s place more → AreAtTurns traffic steps turns
-        → AreAtTurns traffic (steps ++ next.Turn place ∷ []) (turns ++ more)
+    turns_more : (turns more : List Turn) (place : ℕ) → AreOf traffic s place more
+        → AreAtTurns traffic s.gone.items steps turns
+        → AreAtTurns traffic s.gone.items (steps ++ next.Turn place ∷ []) (turns ++ more)
     turns_more turns more place (inl none) so_far =
         rw none
-        (subst (AreAtTurns traffic (steps ++ next.Turn place ∷ [])) (sym (append-nil turns))
+        (subst (AreAtTurns traffic s.gone.items (steps ++ next.Turn place ∷ [])) (sym (append-nil turns))
         (at_other steps turns (next.Turn place) so_far))
     turns_more turns more place (inr (number, there, all)) so_far =
         at_turn steps turns more place number so_far (for_one place number there) all
 
-  module _ (old said : Said P) (s : Clients P) (then : Said P) (one : Next P)
-      (more : since old then ≡ since old said ++ one ∷ []) (seated : AreSeated (since old said) s) where
-    pub seated_keeps : (u : Clients P) → AreStill traffic s u → AreSeated (since old then) u
-    seated_keeps u still = rw more (seated_still (since old said) s u seated one still)
+  module _ (old now : Said P) (s : Clients P) (then : Said P) (one : Next P)
+      (more : since old then ≡ since old now ++ one ∷ []) (said : AreAsSaid traffic (since old now) s)
+      (u : Clients P) where
+    pub said_still : ((place : ℕ) → KeepsPlace traffic u.gone.items place one) → AreStill traffic s u → u.gone ≡ s.gone
+        → AreAsSaid traffic (since old then) u
+    said_still keeps still gone = rw more (still_said (since old now) s u said one keeps still gone)
 
-    pub seated_admits : (place : ℕ) (peer : P) (u : Clients P) → one ≡ next.Newcomer place peer
-        → ComesTo traffic place peer s u → AreSeated (since old then) u
-    seated_admits place peer u is comes = rw (more, is) (seated_comes (since old said) s u seated place peer comes)
+    pub said_turn : (place : ℕ) → one ≡ next.Turn place → AreStill traffic s u → MayLose traffic departure.Over place s u
+        → AreAsSaid traffic (since old then) u
+    said_turn place is still lost = rw (more, is) (turn_said (since old now) s u said place still lost)
+
+    pub said_gone : (place : ℕ) → one ≡ next.Gone place → AreStill traffic s u → IsFree u place
+        → MayLose traffic departure.LetGo place s u → AreAsSaid traffic (since old then) u
+    said_gone place is still free lost = rw (more, is) (gone_said (since old now) s u said place still free lost)
+
+    pub said_comes : (place : ℕ) (peer : P) → one ≡ next.Newcomer place peer → ComesTo traffic place peer s u
+        → Receives place peer s u → AreAsSaid traffic (since old then) u
+    said_comes place peer is comes receives =
+        rw (more, is) (comes_said (since old now) s u said place peer comes receives)
 
 module _ {H C : Type 0} (service : Service H C) where
   -- nothing was answered
@@ -149,50 +418,59 @@ module _ {H C : Type 0} (service : Service H C) where
     pub handled_start : (at : H × C) (said : Said P) (s : Clients P) → AreKept traffic said.count said.count [] s
         → AreHandled service (λ turns. AreKeptAtTurns traffic said said turns s) at at
     handled_start at said s kept =
-        handled_none at (λ turns. AreKeptAtTurns traffic said said turns s)
-        (kept, subst (λ (steps : Nexts P). AreAtTurns traffic steps []) (sym (since_none said)) at_first)
+        handled_none at (λ turns. AreKeptAtTurns traffic said said turns s) (
+          kept,
+          subst (λ (steps : Nexts P). AreAtTurns traffic s.gone.items steps []) (sym (since_none said)) at_first,
+        )
 
-    module _ (old said : Said P) (before at : H × C) (s : Clients P)
-        (handled : AreHandled service (λ turns. AreKeptAtTurns traffic old said turns s) before at)
-        (then : Said P) (one : Next P) (more : since old then ≡ since old said ++ one ∷ []) where
-      abbrev Then : List Turn → Clients P → Type 0
-      Then turns u = AreKeptAtTurns traffic old then turns u
+    module _ (old now : Said P) (before at : H × C) (s : Clients P)
+        (handled : AreHandled service (λ turns. AreKeptAtTurns traffic old now turns s) before at)
+        (then : Said P) (one : Next P) (more : since old then ≡ since old now ++ one ∷ []) (u : Clients P)
+        (grows : Grows traffic s.gone.items u.gone.items) where
+      abbrev Then : List Turn → Type 0
+      Then turns = AreKeptAtTurns traffic old then turns u
 
-      pub handled_turn : (after : H × C) (u : Clients P) (place : ℕ) → one ≡ next.Turn place
-          → then.count ≡ said.count → AreSeated traffic (since old said) s
-          → Serves service traffic place at s after u → AreHandled service (λ turns. Then turns u) before after
-      handled_turn after u place is same seated serves =
+      -- so they are, as those stand that are kept at first
+      turns_then : (turns : List Turn) → AreAtTurns traffic s.gone.items (since old now) turns
+          → AreAtTurns traffic u.gone.items (since old now ++ one ∷ []) turns
+      turns_then turns at =
+          at_other (since old now) turns one
+          (turns_grown traffic s.gone.items u.gone.items grows (since old now) turns at)
+
+      pub handled_turn : (after : H × C) (place : ℕ) → one ≡ next.Turn place → then.count ≡ now.count
+          → AreAsSaid traffic (since old now) s → Serves service traffic place at s after u
+          → AreHandled service (λ turns. Then turns) before after
+      handled_turn after place is same said serves =
           rw (same, more, is)
-          (handled_then before at after (λ turns. AreKeptAtTurns traffic old said turns s)
-          (λ turns. AreKept traffic old.count said.count turns u
-          × AreAtTurns traffic (since old said ++ next.Turn place ∷ []) turns) handled
+          (handled_then before at after (λ turns. AreKeptAtTurns traffic old now turns s)
+          (λ turns. AreKept traffic old.count now.count turns u
+          × AreAtTurns traffic u.gone.items (since old now ++ next.Turn place ∷ []) turns) handled
           (handled_same at after
-          (λ more. AreOf traffic s place more × AreKept traffic old.count said.count (handled.turns ++ more) u)
-          (λ more. AreKept traffic old.count said.count (handled.turns ++ more) u
-          × AreAtTurns traffic (since old said ++ next.Turn place ∷ []) (handled.turns ++ more))
-          (serves.1 old.count said.count handled.turns handled.holds.0)
+          (λ more. AreOf traffic s place more × AreKept traffic old.count now.count (handled.turns ++ more) u)
+          (λ more. AreKept traffic old.count now.count (handled.turns ++ more) u
+          × AreAtTurns traffic u.gone.items (since old now ++ next.Turn place ∷ []) (handled.turns ++ more))
+          (serves.1 old.count now.count handled.turns handled.holds.0)
           (λ more holds. (
             holds.1,
-            turns_more traffic (since old said) s u seated handled.turns more place holds.0 handled.holds.1,
+            turns_grown traffic s.gone.items u.gone.items grows (since old now ++ next.Turn place ∷ [])
+                (handled.turns ++ more)
+                (turns_more traffic (since old now) s u said handled.turns more place holds.0 handled.holds.1),
           ))))
 
-      pub handled_keeps : (u : Clients P) → then.count ≡ said.count → AnswersNoMore traffic s u
-          → AreHandled service (λ turns. Then turns u) before at
-      handled_keeps u same keeps =
+      pub handled_keeps : then.count ≡ now.count → AnswersNoMore traffic s u
+          → AreHandled service (λ turns. Then turns) before at
+      handled_keeps same keeps =
           rw (same, more)
-          (handled_same before at (λ turns. AreKeptAtTurns traffic old said turns s)
-          (λ turns. AreKept traffic old.count said.count turns u
-          × AreAtTurns traffic (since old said ++ one ∷ []) turns) handled
-          (λ turns holds.
-          (keeps.1 old.count said.count turns holds.0, at_other (since old said) turns one holds.1)))
+          (handled_same before at (λ turns. AreKeptAtTurns traffic old now turns s)
+          (λ turns. AreKept traffic old.count now.count turns u
+          × AreAtTurns traffic u.gone.items (since old now ++ one ∷ []) turns) handled
+          (λ turns holds. (keeps.1 old.count now.count turns holds.0, turns_then turns holds.1)))
 
-      pub handled_admits : (place : ℕ) (peer : P) (u : Clients P) → (traffic peer).number ≡ said.count
-          → then.count ≡ said.count + 1 → Admits traffic place peer s u
-          → AreHandled service (λ turns. Then turns u) before at
-      handled_admits place peer u number is admits =
+      pub handled_admits : (place : ℕ) (peer : P) → (traffic peer).number ≡ now.count → then.count ≡ now.count + 1
+          → Admits traffic place peer s u → AreHandled service (λ turns. Then turns) before at
+      handled_admits place peer number is admits =
           rw (is, more)
-          (handled_same before at (λ turns. AreKeptAtTurns traffic old said turns s)
-          (λ turns. AreKept traffic old.count (said.count + 1) turns u
-          × AreAtTurns traffic (since old said ++ one ∷ []) turns) handled
-          (λ turns holds.
-          (admits.1 old.count said.count turns number holds.0, at_other (since old said) turns one holds.1)))
+          (handled_same before at (λ turns. AreKeptAtTurns traffic old now turns s)
+          (λ turns. AreKept traffic old.count (now.count + 1) turns u
+          × AreAtTurns traffic u.gone.items (since old now ++ one ∷ []) turns) handled
+          (λ turns holds. (admits.1 old.count now.count turns number holds.0, turns_then turns holds.1)))

@@ -158,6 +158,7 @@ module _ {H : Type 0} (content : H → Content) where
         unread = drop end inbox;
         pieces = reads;
         reads = reads;
+        settled = kept.settled;
         answered = longer;
         whole = whole_all;
         leads = session_leads content old (exchanges_of all) next longer;
@@ -189,6 +190,7 @@ module _ {H : Type 0} (content : H → Content) where
         unread = inbox;
         pieces = reads;
         reads = total;
+        settled = kept.settled;
         answered = kept.session;
         whole = kept.whole;
         leads = session_leads content old (exchanges_of kept.done) new kept.session;
@@ -254,6 +256,7 @@ module _ {H : Type 0} (content : H → Content) where
     unread = [];
     pieces = 0;
     reads = 0;
+    settled = settled;
     answered = refl;
     whole = All-nil (λ x. IsRecord x.asked);
     leads = leads_same (content store);

@@ -1,7 +1,7 @@
 -- What the sockets said was to be done next, and why no more was.
 use Rattle.std.specs.Prelude.{◌≡◌, ◌⊎◌, ◌+◌, ℕ, Bool, true, false, List, [], ◌∷◌, ◌++◌, length, drop, map, All}
 use Rattle.http_server.specs.declared.log.Log.{Log}
-use Rattle.hall_http.specs.Peer.{Traffic}
+use Rattle.hall_http.specs.Peer.{Traffic, IsUntouched}
 use Rattle.hall_http.specs.declared.server.Next.{Next}
 use Rattle.hall_http.specs.declared.server.Next.TheVariants as next
 use Rattle.hall_http.specs.declared.server.ServeAllEnd.{ServeAllEnd}
@@ -15,20 +15,21 @@ Nexts P = List (Next P)
 abbrev pub logged : {P B : Type 0} → Log (Next P) B → Nexts P
 logged log = map (λ one. one.0) log.items
 
--- all that the sockets said was to be done, and how many newcomers they have handed out
+-- all that the sockets said was to be done, how many newcomers they have handed out, and how many connections they were
+-- asked for
 pub record Said (P : Type 0) : Type 0 where
   pub nexts : Nexts P
   pub count : ℕ
+  pub most : ℕ
 
 -- what they said in the meantime
 abbrev pub since : {P : Type 0} → Said P → Said P → Nexts P
 since before after = drop (length before.nexts) after.nexts
 
--- a newcomer has this number, nothing was read of it, not even that no more comes, and it was sent nothing
+-- a newcomer has this number, nothing was read of it, and it was sent nothing
 abbrev pub IsFreshPeer : {P : Type 0} → (P → Traffic) → ℕ → Next P → Type 0
 IsFreshPeer traffic number (next.Newcomer place peer) =
-    ((traffic peer).number ≡ number) × ((traffic peer).came ≡ []) × ((traffic peer).went ≡ [])
-    × ((traffic peer).over ≡ false)
+    ((traffic peer).number ≡ number) × IsUntouched (traffic peer)
 IsFreshPeer traffic number _ = Unit {0}
 
 -- a newcomer comes, one has its turn, or one goes; and more may follow
@@ -61,7 +62,7 @@ stays_open end.Shut = false
 stays_open _ = true
 
 -- The sockets said these things, and then perhaps a last one, and none after it. The newcomers among them have the
--- numbers that follow on those of the newcomers before, in order.
+-- numbers that follow on those of the newcomers before, in order. They were asked for as many connections as before.
 pub record AreDone {P : Type 0} (traffic : P → Traffic) (end : ServeAllEnd) (before after : Said P) : Type 0 where
   pub steps : Nexts P
   pub last : Nexts P
@@ -69,3 +70,4 @@ pub record AreDone {P : Type 0} (traffic : P → Traffic) (end : ServeAllEnd) (b
   pub each : All IsStep steps
   pub came : AreCounted traffic before.count steps after.count
   pub ended : EndsBy end steps last
+  pub most : after.most ≡ before.most

@@ -2,32 +2,38 @@
 use Rattle.std.specs.Prelude.{◌≡◌, ◌≢◌, ◌<◌, ◌≤◌, ◌+◌, ◌⊎◌, ⊤, ℕ, List, [], ◌∷◌, ◌++◌, All, Option, Some, None}
 use Rattle.std.proofs.Common.{get_or}
 use Rattle.hall_http.specs.Answered.{IsUnavailable}
-use Rattle.hall_http.specs.Peer.{Traffic}
+use Rattle.hall_http.specs.Peer.{Traffic, IsOver, IsUntouched}
 use Rattle.hall_http.specs.Turns.{Turn, Service, exchanges_of, of, IsTold, IsClient}
 use Rattle.hall_http.specs.Coming.{Nexts, Said, AreDone, since}
 use Rattle.hall_http.specs.declared.server.Next.TheVariants as next
 use Rattle.hall_http.specs.declared.server.Next.{Next}
 use Rattle.hall_http.specs.declared.server.ServeAllEnd.{ServeAllEnd}
 use Rattle.hall_http.specs.declared.server.ServeAllEnd.TheVariants as end
-use Rattle.hall_store.specs.Store.{Content, Leads}
+use Rattle.hall_store.specs.Store.{Content, IsSettled, Leads}
 use Rattle.hall_http.specs.Connection.{Exchange, AreMoments}
 use Rattle.hall_http.specs.Resting.{RestingSession}
 use Rattle.hall_http.specs.Serving.{AreAnsweredWhileOpen, LeavesRunOver, RunsOver}
 use Rattle.hall_http.specs.declared.client.Client.{Client}
 use Rattle.hall_http.specs.declared.clients.Clients.{Clients}
+use Rattle.hall_http.specs.declared.clients.Departure.{Departure}
+use Rattle.hall_http.specs.declared.clients.Departure.TheVariants as departure
 use Rattle.hall_http.specs.declared.peer.Closed.{Closed}
 
 -- the connection at a place
 abbrev pub IsAt : {P : Type 0} → Clients P → ℕ → Client P → Type 0
 IsAt s place k = get_or s.places.items place None ≡ Some k
 
+-- none is at the place
+abbrev pub IsFree : {P : Type 0} → Clients P → ℕ → Type 0
+IsFree s place = get_or s.places.items place None ≡ None
+
 -- all have gone: none is at any place
 abbrev pub AreGone : {P : Type 0} → Clients P → Type 0
-AreGone s = (place : ℕ) → get_or s.places.items place None ≡ None
+AreGone s = (place : ℕ) → IsFree s place
 
--- a connection that has gone, and the place that it had; one that was turned away had none
+-- a connection that has gone, how it went, and the place that it was handed out for
 abbrev pub Past : Type 0 → Type 0
-Past P = Closed P × Option ℕ
+Past P = Closed P × (Departure × ℕ)
 
 -- all that came of it and went to it until it was closed
 abbrev pub traffic_past : {P : Type 0} → (P → Traffic) → Past P → Traffic
@@ -53,12 +59,20 @@ AreApart traffic [] = ⊤
 AreApart traffic (one ∷ rest) =
     All (λ other. number_past traffic other ≢ number_past traffic one) rest × AreApart traffic rest
 
--- What came of it spells its requests among these, and what it was sent is a first part of their replies. Of one that
--- was turned away nothing came, and it was sent nothing.
+-- How a connection may go, by what came of it and went to it: one that was turned away was left untouched; and one is
+-- over where no more goes to it, or where it was told that no more is sent and no more comes of it.
+abbrev pub MayGo : Departure → Traffic → Type 0
+MayGo departure.TurnedAway t = IsUntouched t
+MayGo departure.Over t = IsOver t
+MayGo departure.LetGo t = Unit {0}
+MayGo departure.AtEnd t = Unit {0}
+
+-- What came of it spells its requests among these, what it was sent is a first part of their replies, and it may go as
+-- it went.
 abbrev pub IsPast : {P : Type 0} → (P → Traffic) → List Turn → Past P → Type 0
 IsPast traffic turns one =
     IsTold (of (number_past traffic one) turns) (traffic_past traffic one)
-    × (one.1 ≡ None → ((traffic_past traffic one).came ≡ []) × ((traffic_past traffic one).went ≡ []))
+    × MayGo one.1.0 (traffic_past traffic one)
 
 -- each of the connections with these numbers is here or has gone, and none twice; and each request that was answered
 -- is of one of them
@@ -97,6 +111,13 @@ abbrev pub AreStill : {P : Type 0} → (P → Traffic) → Clients P → Clients
 AreStill {P} traffic s u =
     (place : ℕ) (l : Client P) → IsAt u place l → HasAt traffic s place (traffic l.peer).number
 
+-- those that have gone are the same, or the one at the place went so
+abbrev pub MayLose : {P : Type 0} → (P → Traffic) → Departure → ℕ → Clients P → Clients P → Type 0
+MayLose {P} traffic went place s u =
+    (u.gone.items ≡ s.gone.items)
+    ⊎ ((closed : Closed P) × HasAt traffic s place (traffic closed.peer).number
+    × (u.gone.items ≡ s.gone.items ++ (closed, (went, place)) ∷ []))
+
 -- whatever they were answered, they were answered no more, and each that is here is at its place
 abbrev pub AnswersNoMore : {P : Type 0} → (P → Traffic) → Clients P → Clients P → Type 0
 AnswersNoMore traffic s u =
@@ -116,6 +137,13 @@ Admits traffic place peer s u =
     ComesTo traffic place peer s u
     × ((few many : ℕ) (turns : List Turn) → (traffic peer).number ≡ many → AreKept traffic few many turns s
     → AreKept traffic few (many + 1) turns u)
+
+-- a newcomer got the place, which was free; or it was turned away
+abbrev pub Receives : {P : Type 0} → ℕ → P → Clients P → Clients P → Type 0
+Receives {P} place peer s u =
+    (IsFree s place × (u.gone.items ≡ s.gone.items))
+    ⊎ ((closed : Closed P) × (closed.peer ≡ peer)
+    × (u.gone.items ≡ s.gone.items ++ (closed, (departure.TurnedAway, place)) ∷ []))
 
 -- requests were answered one after another by a responder, at the clock's moments, and this is true of them
 pub record AreHandled {H C : Type 0} (service : Service H C) (Holds : List Turn → Type 0) (before after : H × C) :
@@ -137,27 +165,91 @@ Serves service traffic place before s after u =
     × ((few many : ℕ) (turns : List Turn) → AreKept traffic few many turns s
     → AreHandled service (λ more. AreOf traffic s place more × AreKept traffic few many (turns ++ more) u) before after)
 
--- by one of these, the newcomer of this number was handed out for the place
-abbrev pub IsFor : {P : Type 0} → (P → Traffic) → Nexts P → ℕ → ℕ → Type 0
-IsFor {P} traffic steps place number =
-    (front rest : Nexts P) × (peer : P) × (steps ≡ front ++ next.Newcomer place peer ∷ rest)
+-- the connection of this number was turned away
+abbrev pub WasTurnedAway : {P : Type 0} → (P → Traffic) → List (Past P) → ℕ → Type 0
+WasTurnedAway {P} traffic gone number =
+    (front : List (Past P)) × (one : Past P) × (rest : List (Past P)) × (gone ≡ front ++ one ∷ rest)
+    × (one.1.0 ≡ departure.TurnedAway) × (number_past traffic one ≡ number)
+
+-- by this, whoever has the place keeps it: it isn't let go, and no newcomer gets it
+abbrev pub KeepsPlace : {P : Type 0} → (P → Traffic) → List (Past P) → ℕ → Next P → Type 0
+KeepsPlace traffic gone place (next.Gone other) = other ≢ place
+KeepsPlace traffic gone place (next.Newcomer other peer) =
+    (other ≢ place) ⊎ WasTurnedAway traffic gone (traffic peer).number
+KeepsPlace traffic gone place _ = Unit {0}
+
+-- by one of these steps, before the rest of them, the newcomer of this number was handed out for the place
+abbrev pub WasHandedOut : {P : Type 0} → (P → Traffic) → Nexts P → Nexts P → ℕ → ℕ → Type 0
+WasHandedOut {P} traffic steps rest place number =
+    (front : Nexts P) × (peer : P) × (steps ≡ front ++ next.Newcomer place peer ∷ rest)
     × ((traffic peer).number ≡ number)
 
+-- the newcomer of this number was handed out for the place, and by what was done since it keeps that
+abbrev pub IsFor : {P : Type 0} → (P → Traffic) → List (Past P) → Nexts P → ℕ → ℕ → Type 0
+IsFor {P} traffic gone steps place number =
+    (rest : Nexts P) × WasHandedOut traffic steps rest place number × All (KeepsPlace traffic gone place) rest
+
+-- this was next while the newcomer of this number kept the place
+abbrev pub WasNext : {P : Type 0} → (P → Traffic) → List (Past P) → Nexts P → Next P → ℕ → ℕ → Type 0
+WasNext {P} traffic gone steps one place number =
+    (front rest : Nexts P) × (steps ≡ front ++ one ∷ rest) × IsFor traffic gone front place number
+
+-- By what the sockets said, the connection of this number that was handed out for the place was to go so, or may have,
+-- before the end: turned away after it was handed out; over after a turn of its place; let go where its place was.
+abbrev pub WasToGo : {P : Type 0} → (P → Traffic) → List (Past P) → Nexts P → Departure → ℕ → ℕ → Type 0
+WasToGo {P} traffic gone steps departure.TurnedAway place number =
+    (rest : Nexts P) × WasHandedOut traffic steps rest place number
+WasToGo traffic gone steps departure.Over place number = WasNext traffic gone steps (next.Turn place) place number
+WasToGo traffic gone steps departure.LetGo place number = WasNext traffic gone steps (next.Gone place) place number
+WasToGo traffic gone steps departure.AtEnd place number = ⊥
+
+-- so it is of one that has gone
+abbrev pub HasLeft : {P : Type 0} → (P → Traffic) → List (Past P) → Nexts P → Past P → Type 0
+HasLeft traffic gone steps one = WasToGo traffic gone steps one.1.0 one.1.1 (number_past traffic one)
+
+-- one has gone at the end, and kept its place until then
+abbrev pub WasLast : {P : Type 0} → (P → Traffic) → List (Past P) → Nexts P → Past P → Type 0
+WasLast traffic gone steps one =
+    (one.1.0 ≡ departure.AtEnd) × IsFor traffic gone steps one.1.1 (number_past traffic one)
+
+-- those that have gone: first these, each by what the sockets said; and then those that were here when no more was said
+pub record HaveGone {P : Type 0} (traffic : P → Traffic) (steps : Nexts P) (gone : List (Past P)) : Type 0 where
+  pub left : List (Past P)
+  pub last : List (Past P)
+  pub all : gone ≡ left ++ last
+  pub each : All (HasLeft traffic gone steps) left
+  pub here : All (WasLast traffic gone steps) last
+
+-- each that is here keeps its place, and each that has gone did so by what the sockets said
+pub record AreAsSaid {P : Type 0} (traffic : P → Traffic) (steps : Nexts P) (s : Clients P) : Type 0 where
+  pub here : (place : ℕ) (k : Client P) → IsAt s place k
+      → IsFor traffic s.gone.items steps place (traffic k.peer).number
+  pub gone : All (HasLeft traffic s.gone.items steps) s.gone.items
+
+-- one went at the end that was at its place until then
+abbrev pub WasHere : {P : Type 0} → (P → Traffic) → Clients P → Past P → Type 0
+WasHere traffic s one = (one.1.0 ≡ departure.AtEnd) × HasAt traffic s one.1.1 (number_past traffic one)
+
+-- some more have gone, which were here until then
+abbrev pub AllLeave : {P : Type 0} → (P → Traffic) → Clients P → Clients P → Type 0
+AllLeave {P} traffic s u =
+    (last : List (Past P)) × (u.gone.items ≡ s.gone.items ++ last) × All (WasHere traffic s) last
+
 -- While these things were done, one after another, these requests were answered, each at a turn: at the turn of a place
--- some, or none, of one newcomer that was handed out for the place before.
-pub data AreAtTurns {P : Type 0} (traffic : P → Traffic) : Nexts P → List Turn → Type 0 where
-  at_first : AreAtTurns traffic [] []
-  at_other : (steps : Nexts P) (turns : List Turn) (one : Next P) → AreAtTurns traffic steps turns
-      → AreAtTurns traffic (steps ++ one ∷ []) turns
-  at_turn : (steps : Nexts P) (turns more : List Turn) (place number : ℕ) → AreAtTurns traffic steps turns
-      → IsFor traffic steps place number → All (λ turn. turn.0 ≡ number) more
-      → AreAtTurns traffic (steps ++ next.Turn place ∷ []) (turns ++ more)
+-- some, or none, of one newcomer that was handed out for the place before and kept it since.
+pub data AreAtTurns {P : Type 0} (traffic : P → Traffic) (gone : List (Past P)) : Nexts P → List Turn → Type 0 where
+  at_first : AreAtTurns traffic gone [] []
+  at_other : (steps : Nexts P) (turns : List Turn) (one : Next P) → AreAtTurns traffic gone steps turns
+      → AreAtTurns traffic gone (steps ++ one ∷ []) turns
+  at_turn : (steps : Nexts P) (turns more : List Turn) (place number : ℕ) → AreAtTurns traffic gone steps turns
+      → IsFor traffic gone steps place number → All (λ turn. turn.0 ≡ number) more
+      → AreAtTurns traffic gone (steps ++ next.Turn place ∷ []) (turns ++ more)
 
 -- so the connections stand after these requests, each of which was answered at a turn of its place, by what the sockets
 -- said in the meantime
 abbrev pub AreKeptAtTurns : {P : Type 0} → (P → Traffic) → Said P → Said P → List Turn → Clients P → Type 0
 AreKeptAtTurns traffic old new turns s =
-    AreKept traffic old.count new.count turns s × AreAtTurns traffic (since old new) turns
+    AreKept traffic old.count new.count turns s × AreAtTurns traffic s.gone.items (since old new) turns
 
 -- Each request that was answered is of one of the connections, of which no two have the same number. And of each
 -- connection what came spells its requests among these, and what it was sent is a first part of the replies to them.
@@ -178,6 +270,7 @@ EndUnavailable xs = (front : List Exchange) × (last : Exchange) × (xs ≡ fron
 pub record AreServed {H C P : Type 0} (content : H → Content) (now_gives : C → Option ℕ → C → Type 0)
     (traffic : P → Traffic) (why : ServeAllEnd) (before after : H × C) (gone : List (Past P)) : Type 0 where
   pub turns : List Turn
+  pub settled : IsSettled (content before.0)
   pub answered : AreAnsweredWhileOpen content before.0 (exchanges_of turns) after.0
   pub moments : AreMoments now_gives before.1 (exchanges_of turns) after.1
   pub leads : Leads (content before.0) (content after.0)
@@ -192,9 +285,11 @@ pub record AreThose {P : Type 0} (traffic : P → Traffic) (few many : ℕ) (gon
   pub found : (number : ℕ) → IsHandedOut few many number → HasGone traffic number gone
 
 -- Serving ended so, as the sockets said. The connections that came and have gone are those that the sockets handed out,
--- each by its number, and no others; and where all were served, all that may come have come and gone.
+-- each by its number, and no others; each went by what the sockets said, or was here until they had said all; and where
+-- all were served, all that may come have come and gone.
 pub record EndsServing {L P : Type 0} (is_over : L → Type 0) (said : L → Said P) (traffic : P → Traffic)
     (why : ServeAllEnd) (before after : L) (gone : List (Past P)) : Type 0 where
   pub over : why ≡ end.Served → is_over after
   pub done : AreDone traffic why (said before) (said after)
   pub those : AreThose traffic (said before).count (said after).count gone
+  pub ways : HaveGone traffic (since (said before) (said after)) gone

@@ -1,17 +1,38 @@
 -- What the event loop was asked for, and what it said.
-use Rattle.std.specs.Prelude.{◌≡◌, ℕ, [], ◌∷◌, length}
+use Rattle.std.specs.Prelude.{◌≡◌, ◌≢◌, ◌+◌, ℕ, Option, Some, None, [], ◌∷◌, length}
 use Rattle.std.specs.declared.net.socket_addr.SocketAddr.{SocketAddr}
-use Rattle.hall_http.specs.Coming.{Said, logged}
+use Rattle.hall_http.specs.Coming.{IsFreshPeer, Said, logged, newcomer}
+use Rattle.hall_http.specs.Seats.{AreFresh, AreStill}
+use Rattle.hall_http.specs.Socket.{traffic_of}
 use Rattle.hall_http.specs.declared.event_loop.EventLoop.{EventLoop}
+use Rattle.hall_http.specs.declared.places.Places.{Places}
+use Rattle.hall_http.specs.declared.server.Next.{Next}
+use Rattle.hall_http.specs.declared.server.Next.TheVariants as next
 use Rattle.hall_http.specs.declared.socket.Socket.{Socket}
 
--- all that was to be done, and how many newcomers had a place
+-- all that was to be done, how many newcomers had a place, and how many may come
 abbrev pub said_by : {N E : Type 0} → EventLoop N E → Said Socket
-said_by sockets = record { nexts = logged sockets.nexts; count = length sockets.seated.items }
+said_by sockets = record {
+  nexts = logged sockets.nexts;
+  count = length sockets.schedule.places.seated.items;
+  most = sockets.schedule.places.most;
+}
+
+-- a newcomer has a place that was given to it alone, and the number after those before it
+pub record HandsOut (old : Places) (said : Next Socket) (new : Places) : Type 0 where
+  pub fresh : IsFreshPeer traffic_of (length old.seated.items) said
+  pub count : length new.seated.items ≡ length old.seated.items + newcomer said
+  pub most : new.most ≡ old.most
+
+-- so it is where anything is to be done, and it is not the end; else the places are as they were
+abbrev pub MayHandOut : Places → Option (Next Socket) → Places → Type 0
+MayHandOut old (Some said) new = HandsOut old said new × (said ≢ next.End)
+MayHandOut old None new = AreStill old new
 
 -- it was to listen on the address for so many connections, may still let in all of them, and has said nothing yet
 pub record IsFreshLoop {N E : Type 0} (address : SocketAddr) (connections : ℕ) (sockets : EventLoop N E) : Type 0 where
   pub asked : sockets.asked.items ≡ (address, connections) ∷ []
-  pub left : sockets.schedule.left ≡ connections
+  pub places : AreFresh connections sockets.schedule.places
   pub nexts : (said_by sockets).nexts ≡ []
   pub count : (said_by sockets).count ≡ 0
+  pub most : (said_by sockets).most ≡ connections

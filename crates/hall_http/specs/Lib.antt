@@ -30,6 +30,8 @@ pub mod Crowd
 pub mod Peer
 pub mod Socket
 pub mod Coming
+pub mod Places
+pub mod Seats
 pub mod EventLoop
 pub mod Host
 pub mod Wire

@@ -1,15 +1,18 @@
 -- What is known of the other side of a connection.
-use Rattle.std.specs.Prelude.{◌==◌, if◌then◌else◌, ℕ, Bool, true, List}
+use Rattle.std.specs.Prelude.{◌≡◌, ◌==◌, ◌⊎◌, if◌then◌else◌, ℕ, Bool, true, false, List, []}
 use Rattle.hall_http.specs.declared.peer.Moved.{Moved}
 use Rattle.hall_http.specs.declared.peer.Moved.TheVariants.{Some, Wait, None}
 
--- its number among all that the same sockets handed out, all bytes that were read of it, and all that it was sent; and
--- whether a read told that no more comes, or failed
+-- its number among all that the same sockets handed out, all bytes that were read of it, and all that it was sent;
+-- whether a read told that no more comes, or failed; whether a send told that no more goes; and whether it was told
+-- that no more is sent
 pub record Traffic : Type 0 where
   pub number : ℕ
   pub came : List ℕ
   pub went : List ℕ
   pub over : Bool
+  pub broke : Bool
+  pub hung_up : Bool
 
 -- so many bytes were moved
 abbrev pub moved : Moved → ℕ
@@ -22,3 +25,25 @@ abbrev pub over_after : Bool → Moved → Bool
 over_after over (Some n) = if n == 0 then true else over
 over_after over Wait = over
 over_after over None = true
+
+-- whether no more goes: a send told so, or one before it did
+abbrev pub broke_after : Bool → Moved → Bool
+broke_after broke (Some n) = broke
+broke_after broke Wait = broke
+broke_after broke None = true
+
+-- after it was told that no more is sent
+abbrev pub then_hung_up : Traffic → Traffic
+then_hung_up t = record t { hung_up = true }
+
+-- nothing was read of it, not even that no more comes; and it was sent nothing, not even that no more is sent
+pub record IsUntouched (t : Traffic) : Type 0 where
+  pub came : t.came ≡ []
+  pub went : t.went ≡ []
+  pub over : t.over ≡ false
+  pub broke : t.broke ≡ false
+  pub hung_up : t.hung_up ≡ false
+
+-- no more goes to it; or no more is sent, and no more comes of it
+abbrev pub IsOver : Traffic → Type 0
+IsOver t = (t.broke ≡ true) ⊎ ((t.hung_up ≡ true) × (t.over ≡ true))

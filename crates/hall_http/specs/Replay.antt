@@ -3,7 +3,7 @@ use Rattle.std.specs.Prelude.{◌≡◌, ◌≢◌, ◌≤◌, ◌+◌, ◌⊎�
 use Rattle.std.specs.Prelude.{Result, Ok, Err}
 use Rattle.std.specs.Io.KnownBytes.{Appends, Consumes, IsAtEnd}
 use Rattle.hall_grid.specs.Device.{MadeCalls}
-use Rattle.hall_store.specs.Store.{Content, Leads}
+use Rattle.hall_store.specs.Store.{Content, IsSettled, Leads}
 use Rattle.hall_http.specs.declared.fault.ReplayFault.{ReplayFault}
 use Rattle.hall_http.specs.declared.fault.ReplayFault.TheVariants as fault
 use Rattle.hall_http.specs.Device.{WritesPart, NoneFailed, ReadFailed, WriteFailed}
@@ -81,6 +81,7 @@ pub record IsReplayed {H U : Type 0} (content : H → Content) (stream after wro
   pub unread : List ℕ
   pub pieces : ℕ
   pub reads : ℕ
+  pub settled : IsSettled (content old)
   pub answered : AreAnswered content old (exchanges_of records) new
   pub whole : All (λ x. IsRecord x.asked) records
   pub leads : Leads (content old) (content new)

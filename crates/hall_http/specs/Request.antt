@@ -1,5 +1,5 @@
 -- What the bytes of one request ask of the hall, or the first fault of their form.
-use Rattle.std.specs.Prelude.{◌≡◌, ◌⊎◌, ℕ, Bool, true, false, List, if◌then◌else◌, Option, Some, None}
+use Rattle.std.specs.Prelude.{◌≡◌, ◌≢◌, ◌⊎◌, ℕ, Bool, true, false, List, if◌then◌else◌, Option, Some, None}
 use Rattle.std.specs.Prelude.{option_and_then, option_map, Result, Ok, Err, codes}
 use Rattle.std.specs.Str.{bytes_eq}
 use Rattle.httparse.specs.Grammar.{RequestHead}
@@ -177,3 +177,7 @@ AsksRequest bytes = (request : Request) × RequestOf bytes (Ok request)
 abbrev pub AsksNothing : List ℕ → Type 0
 AsksNothing bytes =
     ¬ (AsksRequest bytes) ⊎ ((request : Request) × RequestOf bytes (Ok request) × IsNobodys request)
+
+-- the request is put to the store: the clock told a moment for it, and it is one of the hall that somebody may make
+abbrev pub ReachesStore : Option ℕ → List ℕ → Type 0
+ReachesStore moment bytes = (moment ≢ None) × ¬ (AsksNothing bytes)

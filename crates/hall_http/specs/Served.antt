@@ -3,7 +3,7 @@ use Rattle.std.specs.Prelude.{◌≡◌, ◌≢◌, ◌<◌, ◌≤◌, ◌+◌,
 use Rattle.std.specs.Io.KnownBytes.{Appends, Consumes, IsAtEnd}
 use Rattle.serde_json.specs.Written.{compact_text}
 use Rattle.hall_grid.specs.Device.{MadeCalls, Tally}
-use Rattle.hall_store.specs.Store.{Content, Leads}
+use Rattle.hall_store.specs.Store.{Content, IsSettled, Leads}
 use Rattle.hall_http.specs.Head.{IsWhole, IsUnfinished, NeverHas}
 use Rattle.hall_http.specs.Reading.{Reading, IsLast}
 use Rattle.hall_http.specs.Device.{WritesPart, NoneFailed, ReadFailed, WriteFailed}
@@ -144,6 +144,7 @@ pub record IsServed {H C : Type 0} (content : H → Content) (now_gives : C → 
   pub unread : List ℕ
   pub pieces : ℕ
   pub reads : ℕ
+  pub settled : IsSettled (content before.0)
   pub answered : AreAnswered content before.0 exchanges after.0
   pub whole : All (λ x. IsWhole x.request) exchanges
   pub moments : AreMoments now_gives before.1 exchanges after.1

@@ -1,10 +1,11 @@
 -- Requests that are answered over a store, one after another.
-use Rattle.std.specs.Prelude.{◌≡◌, ◌≢◌, ◌⊎◌, ℕ, List, [], ◌∷◌, ◌++◌, Option, Some, None, Ok, All}
+use Rattle.std.specs.Prelude.{◌≡◌, ◌≢◌, ◌⊎◌, ℕ, List, [], ◌∷◌, ◌++◌, Option, Some, None, Ok, All, false}
 use Rattle.hall_policy.specs.World.{World}
 use Rattle.hall_policy.specs.declared.request.Request.{Request}
 use Rattle.hall_store.specs.Store.{Content, IsSettled, Kept, Leads, LeavesOneOf, Over, WritesOnce}
 use Rattle.hall_desk.specs.Plans.{WritesIfAny}
 use Rattle.hall_desk.specs.Run.{IsTimed, Run}
+use Rattle.hall_desk.specs.Wanted.{MayWait}
 use Rattle.hall_desk.specs.declared.reply.Reply.{Reply}
 use Rattle.hall_desk.specs.declared.reply.Reply.TheVariants.{Unavailable as NotServed}
 use Rattle.hall_http.specs.Request.{RequestOf, AsksNothing}
@@ -33,6 +34,11 @@ pub record IsAnswered {H : Type 0} (content : H → Content) (old : H) (moment :
   pub answers : (content new).honest →
       Over (λ before after. AnswersAt before moment request reply after) (content old) (content new)
   pub untouched : AsksNothing request ⊎ (moment ≡ None) → new ≡ old
+
+-- the bytes are a request of the hall that needs a search, so that it may be kept waiting for one
+abbrev pub WaitsForSearch : {H : Type 0} → (H → Content) → H → List ℕ → Type 0
+WaitsForSearch content keeper bytes =
+    (request : Request) × RequestOf bytes (Ok request) × MayWait (content keeper) request false
 
 -- the requests are answered over a store, one after another, each over the store that the one before it left: where a
 -- fault has shut it, by 503, or by what no store decides

@@ -3,9 +3,12 @@ use Rattle.std.specs.Prelude.{◌≡◌, ◌≢◌, ◌<◌, ◌+◌, ◌==◌, 
 use Rattle.std.specs.Prelude.{length, take, drop, Option, Some, None}
 use Rattle.hall_http.specs.Answered.{IsUnavailable}
 use Rattle.hall_http.specs.Outgoing.{outgoing_text}
+use Rattle.hall_http.specs.Request.{ReachesStore}
 use Rattle.hall_http.specs.Connection.{Exchange, Exchanged, IsOpen, IsClosing}
-use Rattle.hall_http.specs.Head.{IsUnfinished, IsUnfinishedBelow, NeverHas}
+use Rattle.hall_http.specs.Head.{IsUnfinished, IsUnfinishedBelow, IsWhole, NeverHas}
 use Rattle.hall_http.specs.declared.outgoing.Outgoing.TheVariants.{Nothing, Refusal}
+use Rattle.hall_http.specs.declared.client.Step.{Step}
+use Rattle.hall_http.specs.declared.client.Step.TheVariants as step
 use Rattle.hall_http.specs.declared.connection.Connection.{Connection}
 use Rattle.hall_http.specs.declared.connection.ServeEnd.{ServeEnd}
 use Rattle.hall_http.specs.declared.connection.ServeEnd.TheVariants as end
@@ -57,22 +60,22 @@ EndsAfter request requests None = IsOpen request × (requests ≢ 1000)
 EndsAfter request requests (Some _) = ⊥
 
 -- A responder that goes on answers a request. Where it still goes on then, it can; and where it doesn't, the reply is
--- 503.
+-- 503, to a request that was put to the store at a moment.
 abbrev pub gated : {H : Type 0} → (H → Option ℕ → List ℕ → List ℕ → H → Type 0) → (H → List ℕ → H → Type 0)
     → H × Bool → Option ℕ → List ℕ → List ℕ → H × Bool → Type 0
 gated answers goes_on h moment request reply i =
     (h.1 ≡ true) × answers h.0 moment request reply i.0 × (i.1 ≡ true → goes_on h.0 reply i.0)
-    × (i.1 ≡ false → IsUnavailable reply)
+    × (i.1 ≡ false → IsUnavailable reply × ReachesStore moment request)
 
 -- a whole request stood at the front: it was answered, and its reply waits to be sent
 pub record Answers {H C : Type 0} (answers : H → Option ℕ → List ℕ → List ℕ → H → Type 0)
-    (now_gives : C → Option ℕ → C → Type 0) (h : H) (c : C) (k : Connection) (i : H) (d : C) (l : Connection) :
+    (now_gives : C → Option ℕ → C → Type 0) (before : H × C) (k : Connection) (after : H × C) (l : Connection) :
     Type 0 where
   pub exchange : Exchange
   pub size : ℕ
   pub ending : Option ServeEnd
   pub front : exchange.request ≡ take size k.inbox
-  pub exchanged : Exchanged answers now_gives h c exchange i d
+  pub exchanged : Exchanged answers now_gives before.0 before.1 exchange after.0 after.1
   pub reply : outgoing_text l.reply ≡ exchange.reply
   pub ends : EndsAfter exchange.request (k.requests + 1) ending
   pub left : l ≡ record k {
@@ -100,6 +103,15 @@ pub record Refuses (k l : Connection) : Type 0 where
 
 -- it was looked at what waits
 abbrev pub Looks : {H C : Type 0} → (H → Option ℕ → List ℕ → List ℕ → H → Type 0) → (C → Option ℕ → C → Type 0)
-    → H → C → Connection → H → C → Connection → Type 0
-Looks answers now_gives h c k i d l =
-    Answers answers now_gives h c k i d l ⊎ (((i ≡ h) × (d ≡ c)) × (Waits k l ⊎ Refuses k l))
+    → H × C → Connection → H × C → Connection → Type 0
+Looks answers now_gives before k after l =
+    Answers answers now_gives before k after l ⊎ ((after ≡ before) × (Waits k l ⊎ Refuses k l))
+
+-- a whole request stands at the front of what waits, and may be kept waiting
+abbrev pub KeepsWaiting : {H : Type 0} → (H → List ℕ → Type 0) → Connection → H → Type 0
+KeepsWaiting may_wait k h = (size : ℕ) × IsWhole (take size k.inbox) × may_wait h (take size k.inbox)
+
+-- where the step is that a request needs more work, it may be kept waiting, and so many were answered before it
+abbrev pub SearchesRightly : {H : Type 0} → (H → List ℕ → Type 0) → Connection → H → Step → Type 0
+SearchesRightly may_wait k h (step.Searches requests) = KeepsWaiting may_wait k h × (requests ≡ k.requests)
+SearchesRightly may_wait k h _ = Unit {0}

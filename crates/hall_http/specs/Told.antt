@@ -9,7 +9,8 @@ use Rattle.hall_policy.specs.declared.record.Round.{Round}
 use Rattle.hall_policy.specs.declared.request.Request.{Request}
 use Rattle.hall_store.specs.Caller.{caller_of}
 use Rattle.hall_desk.specs.Sane.{Sane}
-use Rattle.hall_desk.specs.Without.{GrantsNoPublication, is_other_person, stays, certifies, replies_where, replies_to, has_key}
+use Rattle.hall_desk.specs.Without.{GrantsNoPublication, is_other_person, stays, certifies}
+use Rattle.hall_desk.specs.Without.{replies_where, replies_to, has_key}
 use Rattle.hall_desk.specs.Exchanged.{swapped, exchanged_request, exchanged_replies, IsSealedRound}
 use Rattle.hall_desk.specs.declared.reply.Reply.{Reply}
 use Rattle.hall_desk.specs.declared.reply.Reply.TheVariants.{Unavailable as NotServed}
@@ -54,8 +55,8 @@ AllServed xs = All (λ x. ¬ (BytesOf NotServed x.reply)) xs
 abbrev pub ComesAgain : Exchange → Exchange → Type 0
 ComesAgain x y = (y.request ≡ x.request) × (y.moment ≡ x.moment)
 
--- whether the request's key belongs, in the world at the list's end, to another person than e who holds the role entrant
--- alone
+-- whether the request's key belongs, in the world at the list's end, to another person than e who holds the role
+-- entrant alone
 abbrev pub is_others : World → Person → Request → Bool
 is_others last e request = is_other_person e (caller_of last request.key)
 

@@ -6,8 +6,8 @@ use Rattle.hall_http.specs.Connection.{Exchange, AreMoments, AreOpen, requests_o
 use Rattle.hall_http.specs.Resting.{RestingSession, still}
 use Rattle.hall_http.specs.Steps.{gated}
 use Rattle.hall_http.specs.Head.{IsWhole, IsUnfinished, HasNone, NeverHas}
-use Rattle.hall_http.specs.History.{History, HasHistory, Ends}
-use Rattle.hall_http.specs.Peer.{Traffic}
+use Rattle.hall_http.specs.History.{History, HasHistory, Ends, told_at}
+use Rattle.hall_http.specs.Peer.{Traffic, IsOver}
 use Rattle.hall_http.specs.declared.client.Client.{Client}
 use Rattle.hall_http.specs.declared.client.Step.{Step}
 use Rattle.hall_http.specs.declared.client.Step.TheVariants as step
@@ -48,16 +48,18 @@ abbrev pub AreOpenButLast : List Exchange → Type 0
 AreOpenButLast xs =
     AreOpen xs ⊎ ((before : List Exchange) × (last : Exchange) × (xs ≡ before ++ last ∷ []) × AreOpen before)
 
--- why bytes are read off that are no longer answered, after so many reads that gave bytes: the connection has ended so
-abbrev pub HasEnded : List Exchange → ℕ → List ℕ → Type 0
-HasEnded xs pieces unread =
-    (e : ServeEnd) × (t : History) × (t.exchanges ≡ xs) × (t.pieces ≡ pieces) × (t.ended ≡ false) × Ends e t unread
+-- The connection has ended so after these requests: so many reads gave bytes and one more told the end of the input, or
+-- none did; these bytes are left; and all was sent that is told by then.
+abbrev pub HasEnded : List Exchange → ℕ → Bool → List ℕ → List ℕ → Type 0
+HasEnded xs pieces ended unread went =
+    (e : ServeEnd) × (t : History) × (t.exchanges ≡ xs) × (t.pieces ≡ pieces) × (t.ended ≡ ended) × Ends e t unread
+    × (went ≡ told_at e xs)
 
 -- The first bytes that came of a connection are these requests, at most 1,000, of which none but the last closes it.
 -- It was sent their replies, in their order, the last perhaps in part; or all of them and then the reply F7, where what
 -- was left may be refused, and no whole request stands at the front of what came after. At most 100,000 reads gave
 -- bytes, each where what waited was unfinished, and then these bytes were left. What came after them was read off once
--- the connection had ended.
+-- the connection had ended, and only then it was told that no more is sent.
 pub record IsTold (xs : List Exchange) (t : Traffic) : Type 0 where
   pub rest : List ℕ
   pub spelled : t.came ≡ requests_of xs ++ rest
@@ -72,10 +74,13 @@ pub record IsTold (xs : List Exchange) (t : Traffic) : Type 0 where
   pub reading : HaveRead xs pieces unread
   pub bounded : length unread ≤ 81920
   pub parts : rest ≡ unread ++ off
-  pub quiet : (off ≡ []) ⊎ HasEnded xs pieces unread
+  pub quiet : (off ≡ []) ⊎ HasEnded xs pieces false unread t.went
+  pub closes : t.hung_up ≡ true
+      → (ended : Bool) × (ended ≡ true → t.over ≡ true) × HasEnded xs pieces ended unread t.went
 
 -- the connection was answered these requests, and what it heard and was told is what came of its peer and went to it,
--- the end only where its peer told it; once it has ended, some more may have come, which is read off
+-- the end only where its peer told it; once it has ended, some more may have come, which is read off, and only then its
+-- peer is told that no more is sent
 pub record IsClient {P : Type 0} (traffic : P → Traffic) (xs : List Exchange) (k : Client P) : Type 0 where
   pub history : History
   pub has : HasHistory history k.connection
@@ -84,6 +89,9 @@ pub record IsClient {P : Type 0} (traffic : P → Traffic) (xs : List Exchange) 
   pub quiet : (off ≡ []) ⊎ ((e : ServeEnd) × (k.connection.state ≡ state.Ended e) × (history.ended ≡ false))
   pub over : k.is_over ≡ false → history.ended ≡ false
   pub at_end : history.ended ≡ true → (traffic k.peer).over ≡ true
+  pub read_over : k.is_over ≡ true → (traffic k.peer).over ≡ true
+  pub hung_up : (traffic k.peer).hung_up ≡ k.is_leaving
+  pub leaving : k.is_leaving ≡ true → (e : ServeEnd) × (k.connection.state ≡ state.Ended e)
   pub heard : (traffic k.peer).came ≡ history.came ++ off
   pub sent : (traffic k.peer).went ≡ history.went
 
@@ -97,9 +105,16 @@ abbrev pub goes_on : Step → Bool
 goes_on step.Shut = false
 goes_on _ = true
 
+-- a connection is over after its turn only where no more goes to its peer; or where that was told that no more is sent,
+-- and no more comes of it
+abbrev pub IsOverRightly : Step → Traffic → Type 0
+IsOverRightly step.Over t = IsOver t
+IsOverRightly _ t = Unit {0}
+
 -- it went a step without an answer, after which others may be answered
 abbrev pub IsMoved : {P : Type 0} → (P → Traffic) → Client P → Step → Client P → Type 0
-IsMoved traffic k step l = (goes_on step ≡ true) × IsClientKept traffic k l
+IsMoved traffic k step l =
+    (goes_on step ≡ true) × IsClientKept traffic k l × IsOverRightly step (traffic l.peer)
 
 -- how requests are answered: what a responder may answer, how it rests, and what a clock gives
 pub record Service (H C : Type 0) : Type 1 where
@@ -113,10 +128,11 @@ abbrev pub service_of : {H C : Type 0} → (H → Option ℕ → List ℕ → Li
 service_of answers goes_on rests now_gives =
     record { answers = gated answers goes_on; rests = still rests; now_gives = now_gives }
 
--- some more of its requests were answered, one after another, and it is of the same number
+-- some more of its requests were answered, one after another, it is of the same number, and it stands so
 pub record IsTurned {H C P : Type 0} (service : Service H C) (traffic : P → Traffic) (before : H × C) (k : Client P)
-    (after : H × C) (l : Client P) : Type 0 where
+    (after : H × C) (l : Client P) (step : Step) : Type 0 where
   pub number : (traffic l.peer).number ≡ (traffic k.peer).number
+  pub over : IsOverRightly step (traffic l.peer)
   pub turned : (xs : List Exchange) → IsClient traffic xs k
       → (more : List Exchange) × RestingSession service.answers service.rests before.0 more after.0
       × AreMoments service.now_gives before.1 more after.1 × IsClient traffic (xs ++ more) l
@@ -127,9 +143,9 @@ IsPlaceKept {P} traffic old new =
     ((old ≡ None) × (new ≡ None))
     ⊎ ((k l : Client P) × (old ≡ Some k) × (new ≡ Some l) × IsClientKept traffic k l)
 
--- the connection at a place went one step, if there is one
+-- the connection at a place had its turn, if there is one
 abbrev pub IsPlaceTurned : {H C P : Type 0} → Service H C → (P → Traffic) → H × C → Option (Client P) → H × C
-    → Option (Client P) → Type 0
-IsPlaceTurned {H} {C} {P} service traffic before old after new =
+    → Option (Client P) → Step → Type 0
+IsPlaceTurned {H} {C} {P} service traffic before old after new step =
     ((old ≡ None) × (new ≡ None) × (after ≡ before))
-    ⊎ ((k l : Client P) × (old ≡ Some k) × (new ≡ Some l) × IsTurned service traffic before k after l)
+    ⊎ ((k l : Client P) × (old ≡ Some k) × (new ≡ Some l) × IsTurned service traffic before k after l step)

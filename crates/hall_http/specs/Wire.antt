@@ -1,5 +1,6 @@
 -- What the bytes on some connections tell to one key.
-use Rattle.std.specs.Prelude.{◌≡◌, ◌&&◌, ◌⊎◌, ℕ, Bool, true, List, [], ◌∷◌, map, filter, Some, All, IsTrue, if◌then◌else◌}
+use Rattle.std.specs.Prelude.{◌≡◌, ◌&&◌, ◌⊎◌, ℕ, Bool, true, List, [], ◌∷◌, map, filter, Some, All}
+use Rattle.std.specs.Prelude.{IsTrue, if◌then◌else◌}
 use Rattle.std.specs.FinMap.{get}
 use Rattle.hall_policy.specs.World.{World}
 use Rattle.hall_policy.specs.OwnAlike.{is_entrant_alone}

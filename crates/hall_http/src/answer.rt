@@ -12,7 +12,7 @@ ghost use Rattle.hall_http.specs.Answered.{IsUnavailable};
 ghost use Rattle.hall_http.specs.Answered.{StopsAt, StopsAtBytes};
 ghost use Rattle.hall_http.specs.Head.{IsLentBy};
 ghost use Rattle.hall_http.specs.Request.{AsksNothing, RequestOf};
-ghost use Rattle.hall_http.specs.Serving.{GoesOn};
+ghost use Rattle.hall_http.specs.Serving.{GoesOn, WaitsForSearch};
 ghost use Rattle.hall_http.specs.declared.answer.Answer.TheVariants as Answer;
 ghost use Rattle.hall_policy.specs.declared.request.Request.{Request as Asked};
 
@@ -110,6 +110,7 @@ pub(crate) fn answer_raw_request<S: Store>(
     ensures untouched { (bytes : List ℕ) → IsLentBy bytes raw.now → AsksNothing bytes → desk.new ≡ desk.old }
     ensures goes_on { result ≢ Answer.Shut →
         GoesOn (λ desk. S.content (kept_by desk)) desk.old (answer_text result) desk.new }
+    ensures shut { (bytes : List ℕ) → IsLentBy bytes raw.now → result ≡ Answer.Shut → ¬ (AsksNothing bytes) }
     ensures sane { SaneThen Sane (S.content (kept_by desk.old)) (S.content (kept_by desk.new)) }
 {
     match request_of(alloc, routes, raw) {
@@ -126,7 +127,9 @@ pub(crate) fn prepare_raw_request<S: Store>(
     desk: &mut Desk<S>,
     raw: &RawRequest<'_>,
 ) -> bool
-    ensures { Kept (S.content (kept_by desk.old)) (S.content (kept_by desk.new)) }
+    ensures kept { Kept (S.content (kept_by desk.old)) (S.content (kept_by desk.new)) }
+    ensures waits { result ≡ false → (bytes : List ℕ) → IsLentBy bytes raw.now →
+        WaitsForSearch (λ desk. S.content (kept_by desk)) desk.new bytes }
 {
     match request_of(alloc, routes, raw) {
         Ok(request) => desk.prepare(alloc, &request),
@@ -136,7 +139,8 @@ pub(crate) fn prepare_raw_request<S: Store>(
 
 /// The answer to bytes that are no request.
 fn answer_fault(alloc: Global, fault: FormFault) -> Answer
-    ensures { AnswersFault fault (answer_text result) }
+    ensures told { AnswersFault fault (answer_text result) }
+    ensures opened { result ≢ Answer.Shut }
 {
     match fault_bytes(alloc, fault) {
         Ok(text) => Answer::Text(text),
@@ -162,12 +166,13 @@ fn answer_request<S: Store>(
     ensures untouched { IsNobodys request.now → desk.new ≡ desk.old }
     ensures goes_on { result ≢ Answer.Shut →
         GoesOn (λ desk. S.content (kept_by desk)) desk.old (answer_text result) desk.new }
+    ensures shut { result ≡ Answer.Shut → ¬ (IsNobodys request.now) }
 {
     // They are read for the ranges that their types keep.
     let _moment = moment.get();
     request.in_range();
     match step_bytes(alloc, desk, moment, request) {
-        Ok(text) => answer_of(text),
+        Ok(text) => answer_of(text, request),
         Err(_) => unavailable(alloc, desk, request),
     }
 }
@@ -179,6 +184,7 @@ fn unavailable<S: Store>(alloc: Global, desk: &mut Desk<S>, request: &Request) -
     ensures untouched { IsNobodys request.now → desk.new ≡ desk.old }
     ensures goes_on { result ≢ Answer.Shut → IsNobodys request.now
         ⊎ ((S.content (kept_by desk.new)).honest → (S.content (kept_by desk.new)).serves) }
+    ensures shut { result ≡ Answer.Shut → ¬ (IsNobodys request.now) }
 {
     if is_nobodys(request) {
         return Answer::Unavailable;
@@ -226,11 +232,16 @@ fn step_bytes<S: Store>(
     Ok(text)
 }
 
-/// The answer of this text. One of 503, which no step of the hall is answered, is taken for a shut store's.
-fn answer_of(text: String) -> Answer
+/// The answer of this text to the request. One of 503, which no step of the hall is answered, is taken for a shut store's
+/// where the request asks anything of the store.
+fn answer_of(text: String, request: &Request) -> Answer
     ensures text { answer_text result ≡ string_bytes text }
-    ensures goes_on { result ≢ Answer.Shut → ¬ (IsUnavailable (answer_text result)) }
+    ensures goes_on { result ≢ Answer.Shut → IsNobodys request.now ⊎ (¬ (IsUnavailable (answer_text result))) }
+    ensures shut { result ≡ Answer.Shut → ¬ (IsNobodys request.now) }
 {
+    if is_nobodys(request) {
+        return Answer::Text(text);
+    }
     if is_unavailable(text.as_str()) {
         return Answer::Shut;
     }

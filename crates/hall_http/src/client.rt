@@ -1,8 +1,11 @@
 //! One connection and the other side of it.
 ghost use Rattle.std.specs.Prelude.{◌≡◌, List};
+ghost use Rattle.hall_http.specs.Steps.{SearchesRightly};
+ghost use Rattle.hall_http.specs.Peer.{IsUntouched};
 ghost use Rattle.hall_http.specs.Turns.{IsClient, IsClientKept, IsMoved, IsTurned, goes_on, service_of};
 ghost use Rattle.hall_http.specs.Connection.{Exchange};
 ghost use Rattle.std.specs.Prelude.{[], Option, true, false};
+ghost use Rattle.hall_http.specs.declared.client.Step.TheVariants as Step;
 ghost use Rattle.hall_http.specs.declared.connection.State.TheVariants as State;
 ghost use Rattle.hall_http.specs.declared.connection.ServeEnd.{ServeEnd};
 
@@ -75,8 +78,7 @@ pub(crate) struct Client<P> {
 impl<P: Peer> Client<P> {
     /// A newcomer.
     pub(crate) fn new(inbox: Inbox, peer: P) -> Client<P>
-        requires came { (P.traffic peer).came ≡ [] }
-        requires went { (P.traffic peer).went ≡ [] }
+        requires { IsUntouched (P.traffic peer) }
         ensures peer { result.peer ≡ peer }
         ensures kept { IsClient P.traffic [] result }
     {
@@ -98,7 +100,7 @@ impl<P: Peer> Client<P> {
     ) -> Step
         requires { (xs : List Exchange) × IsClient P.traffic xs self.old }
         ensures { IsTurned (service_of H.answers H.goes_on H.rests C.now_gives) P.traffic
-            ((responder.old, true), clock.old) self.old ((responder.new, goes_on result), clock.new) self.new }
+            ((responder.old, true), clock.old) self.old ((responder.new, goes_on result), clock.new) self.new result }
     {
         for _step in 0..STEPS {
             match self.step(alloc, routes, responder, clock) {
@@ -119,7 +121,7 @@ impl<P: Peer> Client<P> {
     ) -> Step
         requires { (xs : List Exchange) × IsClient P.traffic xs self.old }
         ensures { IsTurned (service_of H.answers H.goes_on H.rests C.now_gives) P.traffic
-            ((responder.old, true), clock.old) self.old ((responder.new, goes_on result), clock.new) self.new }
+            ((responder.old, true), clock.old) self.old ((responder.new, goes_on result), clock.new) self.new result }
     {
         match self.connection.state() {
             State::Looking => self.look(alloc, routes, responder, clock),
@@ -139,8 +141,9 @@ impl<P: Peer> Client<P> {
     ) -> Step
         requires kept { (xs : List Exchange) × IsClient P.traffic xs self.old }
         requires at { self.old.connection.state ≡ State.Looking }
-        ensures { IsTurned (service_of H.answers H.goes_on H.rests C.now_gives) P.traffic
-            ((responder.old, true), clock.old) self.old ((responder.new, goes_on result), clock.new) self.new }
+        ensures turned { IsTurned (service_of H.answers H.goes_on H.rests C.now_gives) P.traffic
+            ((responder.old, true), clock.old) self.old ((responder.new, goes_on result), clock.new) self.new result }
+        ensures searches { SearchesRightly H.may_wait self.old.connection responder.new result }
     {
         if !self.connection.prepare(alloc, routes, responder) {
             return Step::Searches {
@@ -156,7 +159,7 @@ impl<P: Peer> Client<P> {
 
     /// It waits for this.
     fn waits(&self, wish: Wish) -> Step
-        ensures { goes_on result ≡ true }
+        ensures { result ≡ Step.Waits wish self.now.connection.requests }
     {
         Step::Waits {
             wish,
@@ -222,8 +225,11 @@ impl<P: Peer> Client<P> {
 
     /// Tells the peer, once, that no more is sent.
     fn hang_up(&mut self)
+        requires kept { (xs : List Exchange) × IsClient P.traffic xs self.old }
+        requires at { (end : ServeEnd) × (self.old.connection.state ≡ State.Ended end) }
         ensures connection { self.new.connection ≡ self.old.connection }
         ensures over { self.new.is_over ≡ self.old.is_over }
+        ensures hung_up { (P.traffic self.new.peer).hung_up ≡ true }
         ensures kept { IsClientKept P.traffic self.old self.new }
     {
         if self.is_leaving {
@@ -237,6 +243,7 @@ impl<P: Peer> Client<P> {
     fn read_off(&mut self) -> Step
         requires at { (end : ServeEnd) × (self.old.connection.state ≡ State.Ended end) }
         requires unended { self.old.is_over ≡ false }
+        requires hung_up { (P.traffic self.old.peer).hung_up ≡ true }
         ensures { IsMoved P.traffic self.old result self.new }
     {
         let mut chunk = [0u8; 4096];

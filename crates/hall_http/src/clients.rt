@@ -1,8 +1,10 @@
 //! The open connections, each at a place of its own.
 ghost use Rattle.std.specs.Prelude.{◌≡◌, ◌<◌, ℕ, List, [], IfOk, None, Some, length, slice_set, true};
 ghost use Rattle.hall_http.specs.Connection.{Exchange};
-ghost use Rattle.hall_http.specs.Crowd.{Admits, AreKept, AreSomeKept, AreGone, AnswersNoMore, Serves};
-ghost use Rattle.hall_http.specs.Turns.{IsClient, IsPlaceKept, IsPlaceTurned, goes_on, service_of};
+ghost use Rattle.hall_http.specs.Crowd.{Admits, AllLeave, AnswersNoMore, AreGone, AreKept, AreSomeKept, IsAt, IsFree};
+ghost use Rattle.hall_http.specs.Crowd.{MayGo, MayLose, Receives, Serves};
+ghost use Rattle.hall_http.specs.Peer.{IsUntouched};
+ghost use Rattle.hall_http.specs.Turns.{IsClient, IsOverRightly, IsPlaceKept, IsPlaceTurned, goes_on, service_of};
 ghost use Rattle.hall_http.specs.declared.client.Client.{Client};
 
 use crate::client::{Client, Step};
@@ -17,9 +19,22 @@ use std::alloc::{AllocError, Global};
 /// The most open connections. A process may usually have 1,024 files open.
 pub(crate) const MOST_CLIENTS: usize = 500;
 
-/// The connections that came and have gone, each as it was when it was closed, and the place that it had; one that was
-/// turned away had none. Only proofs read them.
-pub type Gone<P> = Log<Closed<P>, Option<usize>>;
+/// How a connection went that came.
+#[derive(Clone, Copy)]
+pub enum Departure {
+    /// It was turned away, for want of a place or of memory.
+    TurnedAway,
+    /// It was over after its turn.
+    Over,
+    /// The sockets let it go.
+    LetGo,
+    /// It was here until serving ended.
+    AtEnd,
+}
+
+/// The connections that came and have gone, each as it was when it was closed, how it went, and the place that it was
+/// handed out for. Only proofs read them.
+pub type Gone<P> = Log<Closed<P>, (Departure, usize)>;
 
 /// The open connections, and those that have gone.
 #[derive(Drop)]
@@ -38,7 +53,7 @@ fn turn_at<P: Peer, H: Responder, C: Clock>(
 ) -> Step
     requires { (k : Client P) → place.old ≡ Some k → (xs : List Exchange) × IsClient P.traffic xs k }
     ensures { IsPlaceTurned (service_of H.answers H.goes_on H.rests C.now_gives) P.traffic
-        ((responder.old, true), clock.old) place.old ((responder.new, goes_on result), clock.new) place.new }
+        ((responder.old, true), clock.old) place.old ((responder.new, goes_on result), clock.new) place.new result }
 {
     match place {
         Some(client) => client.turn(alloc, routes, responder, clock),
@@ -82,25 +97,25 @@ impl<P: Peer + Drop> Clients<P> {
 
     /// Lets a newcomer have the place, if it is free, or else turns it away.
     pub(crate) fn seat(&mut self, place: usize, inbox: Inbox, peer: P)
-        requires came { (P.traffic peer).came ≡ [] }
-        requires went { (P.traffic peer).went ≡ [] }
-        ensures { Admits P.traffic place peer self.old self.new }
+        requires { IsUntouched (P.traffic peer) }
+        ensures admits { Admits P.traffic place peer self.old self.new }
+        ensures receives { Receives place peer self.old self.new }
     {
         if place >= self.places.len() || self.places[place].is_some() {
-            self.turn_away(peer);
+            self.turn_away(place, peer);
             return;
         }
         self.places[place] = Some(Client::new(inbox, peer));
     }
 
-    /// Turns a newcomer away. It is sent nothing.
-    pub(crate) fn turn_away(&mut self, peer: P)
-        requires came { (P.traffic peer).came ≡ [] }
-        requires went { (P.traffic peer).went ≡ [] }
-        ensures { (place : ℕ) → Admits P.traffic place peer self.old self.new }
+    /// Turns a newcomer away that was to have the place. It is sent nothing.
+    pub(crate) fn turn_away(&mut self, place: usize, peer: P)
+        requires { IsUntouched (P.traffic peer) }
+        ensures admits { Admits P.traffic place peer self.old self.new }
+        ensures receives { Receives place peer self.old self.new }
     {
         let closed = Closed::new(peer);
-        self.gone = self.gone.and(&closed, &None);
+        self.gone = self.gone.and(&closed, &(Departure::TurnedAway, place));
     }
 
     /// The connection at the place has its turn.
@@ -113,8 +128,10 @@ impl<P: Peer + Drop> Clients<P> {
         clock: &mut C,
     ) -> Step
         requires { AreSomeKept P.traffic self.old }
-        ensures { Serves (service_of H.answers H.goes_on H.rests C.now_gives) P.traffic place
+        ensures serves { Serves (service_of H.answers H.goes_on H.rests C.now_gives) P.traffic place
             ((responder.old, true), clock.old) self.old ((responder.new, goes_on result), clock.new) self.new }
+        ensures over { (k : Client P) → IsAt self.new place k → IsOverRightly result (P.traffic k.peer) }
+        ensures gone { self.new.gone ≡ self.old.gone }
     {
         if place >= self.places.len() {
             return Step::Over;
@@ -125,7 +142,8 @@ impl<P: Peer + Drop> Clients<P> {
     /// Sends once more to each whose reply waits.
     pub(crate) fn finish(&mut self)
         requires { AreSomeKept P.traffic self.old }
-        ensures { AnswersNoMore P.traffic self.old self.new }
+        ensures kept { AnswersNoMore P.traffic self.old self.new }
+        ensures gone { self.new.gone ≡ self.old.gone }
     {
         for place in 0..self.places.len() {
             self.finish_one(place);
@@ -135,7 +153,8 @@ impl<P: Peer + Drop> Clients<P> {
     /// Sends once more to the connection at the place, where its reply waits.
     fn finish_one(&mut self, place: usize)
         requires { AreSomeKept P.traffic self.old }
-        ensures { AnswersNoMore P.traffic self.old self.new }
+        ensures kept { AnswersNoMore P.traffic self.old self.new }
+        ensures gone { self.new.gone ≡ self.old.gone }
     {
         if place >= self.places.len() {
             return;
@@ -143,11 +162,14 @@ impl<P: Peer + Drop> Clients<P> {
         finish_at(&mut self.places[place]);
     }
 
-    /// Closes the connection at the place.
-    pub(crate) fn forget(&mut self, place: usize)
+    /// Closes the connection at the place, if there is one, which goes so.
+    pub(crate) fn forget(&mut self, place: usize, departure: Departure)
+        requires { (k : Client P) → IsAt self.old place k → MayGo departure (P.traffic k.peer) }
+        ensures none { IsFree self.new place }
         ensures free { place < length self.old.places.items →
             self.new.places.items ≡ slice_set self.old.places.items place None }
         ensures kept { AnswersNoMore P.traffic self.old self.new }
+        ensures lost { MayLose P.traffic departure place self.old self.new }
     {
         if place >= self.places.len() {
             return;
@@ -156,16 +178,17 @@ impl<P: Peer + Drop> Clients<P> {
             return;
         };
         let closed = Closed::new(client.peer);
-        self.gone = self.gone.and(&closed, &Some(place));
+        self.gone = self.gone.and(&closed, &(departure, place));
     }
 
     /// Closes each that is still here.
     pub(crate) fn close(&mut self)
         ensures none { AreGone self.new }
         ensures kept { AnswersNoMore P.traffic self.old self.new }
+        ensures left { AllLeave P.traffic self.old self.new }
     {
         for place in 0..self.places.len() {
-            self.forget(place);
+            self.forget(place, Departure::AtEnd);
         }
     }
 }

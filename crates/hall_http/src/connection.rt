@@ -1,11 +1,11 @@
 //! One connection as steps over bytes, with no read and no write of its own: what is heard is handed in, and what is to
 //! be told is handed out.
-ghost use Rattle.std.specs.Prelude.{◌≡◌, ◌≤◌, ◌<◌, ◌+◌, ℕ, Option, length, true};
+ghost use Rattle.std.specs.Prelude.{◌≡◌, ◌≤◌, ◌<◌, ◌+◌, ℕ, Option, length, true, false};
 ghost use Rattle.hall_http.specs.Head.{IsUnfinishedBelow};
 ghost use Rattle.hall_http.specs.Outgoing.{outgoing_text};
 ghost use Rattle.hall_http.specs.Resting.{Rests};
 ghost use Rattle.hall_http.specs.Steps.{pending, fresh, IsAfterHearing, IsAfterSending, IsAfterEnd, Looks, gated};
-ghost use Rattle.hall_http.specs.Steps.{then_of};
+ghost use Rattle.hall_http.specs.Steps.{KeepsWaiting, then_of};
 
 use crate::client::Wish;
 use crate::head::{Cut, cut_from, cut_request};
@@ -154,7 +154,8 @@ impl Connection {
         routes: &Routes,
         responder: &mut H,
     ) -> bool
-        ensures { Rests H.rests responder.old responder.new }
+        ensures rests { Rests H.rests responder.old responder.new }
+        ensures waits { result ≡ false → KeepsWaiting H.may_wait self.now responder.new }
     {
         let unread = self.inbox.unread();
         if unread.len() < self.least || needs_nothing(unread) {
@@ -177,8 +178,8 @@ impl Connection {
     ) -> bool
         requires below { IsUnfinishedBelow self.old.least self.old.inbox }
         requires few { self.old.requests ≤ 1000 }
-        ensures { Looks (gated H.answers H.goes_on) C.now_gives (responder.old, true) clock.old self.old
-            (responder.new, result) clock.new self.new }
+        ensures { Looks (gated H.answers H.goes_on) C.now_gives ((responder.old, true), clock.old) self.old
+            ((responder.new, result), clock.new) self.new }
     {
         match cut_from(self.inbox.unread(), self.least) {
             Cut::Whole { size, request } => {

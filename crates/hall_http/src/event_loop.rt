@@ -1,13 +1,13 @@
 //! The system's sockets: who comes, whose turn it is, and who has waited too long.
-ghost use Rattle.std.specs.Prelude.{◌≡◌, ◌≢◌, ◌+◌, IfOk, IfSome};
+ghost use Rattle.std.specs.Prelude.{◌≡◌, IfOk, IfSome};
 ghost use Rattle.hall_http.specs.declared.server.Next.TheVariants as Next;
-ghost use Rattle.hall_http.specs.Coming.{IsFreshPeer, newcomer};
-ghost use Rattle.hall_http.specs.EventLoop.{IsFreshLoop, said_by};
-ghost use Rattle.hall_http.specs.Socket.{traffic_of};
+ghost use Rattle.hall_http.specs.EventLoop.{HandsOut, IsFreshLoop, MayHandOut, said_by};
+ghost use Rattle.hall_http.specs.Seats.{AreFresh, AreStill, HaveAllGone, IsOpen};
 
 use crate::client::{Step, Wish};
 use crate::clients::MOST_CLIENTS;
 use crate::device::write_all;
+use crate::places::{Places, Visit, Wait};
 use crate::server::{Next, Sockets};
 use crate::socket::Socket;
 use hall_grid::Counted;
@@ -19,7 +19,7 @@ use std::collections::VecDeque;
 use std::io::{ErrorKind, Write};
 use std::net::{Net, SocketAddr};
 use std::time::Duration;
-use std::{io, mem, time};
+use std::{io, time};
 
 /// What the listener's events are called. No connection has this place.
 const LISTENER: usize = usize::MAX;
@@ -61,27 +61,6 @@ enum Backlog {
     Later,
 }
 
-/// What a connection waited for last, after so many requests, and the millisecond at which its patience ends.
-#[derive(Clone, Copy, PartialEq, Eq)]
-struct Wait {
-    wish: Wish,
-    requests: usize,
-    until: u64,
-}
-
-/// What is known of the connection at a place.
-#[derive(Clone, Copy, PartialEq, Eq)]
-enum Visit {
-    /// None is there.
-    Free,
-    /// It is ready, or has its turn; and what it waited for last.
-    Ready(Option<Wait>),
-    /// It waits.
-    Waiting(Wait),
-    /// Its request needs more work.
-    Searching(Wait),
-}
-
 /// What is told once writes begin to be refused, and once they are taken again.
 const REFUSED: &str =
     "hall: the disk refuses writes: requests that write are answered 503 until it takes them again\n";
@@ -96,8 +75,6 @@ pub struct EventLoop<'r, N, E> {
     asked: Log<SocketAddr, u64>,
     /// All that was to be done next, and the millisecond of the schedule.
     nexts: Log<Next<Socket>, u64>,
-    /// The places that were given to newcomers, and the millisecond.
-    seated: Log<usize, u64>,
     /// Where it tells that writes are refused, and that they are taken again.
     journal: Option<Counted<E>>,
     refuses_writes: bool,
@@ -111,7 +88,7 @@ struct Schedule<'r, N> {
     events: Events,
     listener: TcpListener,
     backlog: Backlog,
-    places: Vec<Visit>,
+    places: Places,
     /// The places of those who are ready, in the order in which they became so.
     ready: VecDeque<usize>,
     /// The places of those whose requests need more work. One of them has its turn in a round, after all who are
@@ -121,8 +98,6 @@ struct Schedule<'r, N> {
     round: usize,
     /// All that befell the sockets was heard, and nobody had a turn since.
     has_heard: bool,
-    /// How many connections may still come or are here.
-    left: u64,
     /// The clock's millisecond when it was last read.
     read: u64,
     /// How many milliseconds have counted so far.
@@ -146,7 +121,6 @@ impl<'r, N: Net + AllocGlobal + time::Clock, E: Drop> EventLoop<'r, N, E> {
             schedule: Schedule::new(rt, address, connections)?,
             asked: Log::new().and(&address, &connections),
             nexts: Log::new(),
-            seated: Log::new(),
             journal,
             refuses_writes: false,
         })
@@ -154,30 +128,6 @@ impl<'r, N: Net + AllocGlobal + time::Clock, E: Drop> EventLoop<'r, N, E> {
 }
 
 impl<'r, N, E> EventLoop<'r, N, E> {
-    /// What is to be done next, with a newcomer's stream as a socket, which has the number after the one before it.
-    fn handed_out(&mut self, next: Next<TcpStream>) -> Next<Socket>
-        ensures fresh { IsFreshPeer traffic_of (said_by self.old).count result }
-        ensures count { (said_by self.new).count ≡ (said_by self.old).count + newcomer result }
-        ensures nexts { (said_by self.new).nexts ≡ (said_by self.old).nexts }
-        ensures schedule { self.new.schedule ≡ self.old.schedule }
-        ensures end { result ≡ Next.End → next ≡ Next.End }
-    {
-        match next {
-            Next::Newcomer { place, peer } => {
-                let seated = self.seated.and(&place, &self.schedule.now);
-                let before = mem::replace(&mut self.seated, seated);
-                Next::Newcomer {
-                    place,
-                    peer: Socket::new(peer, before),
-                }
-            }
-            Next::Turn(place) => Next::Turn(place),
-            Next::Gone(place) => Next::Gone(place),
-            Next::End => Next::End,
-            Next::Refused => Next::Refused,
-        }
-    }
-
     /// The address that it listens on.
     pub fn local_addr(&self) -> io::Result<SocketAddr> {
         self.schedule.listener.local_addr()
@@ -187,13 +137,12 @@ impl<'r, N, E> EventLoop<'r, N, E> {
 impl<'r, N: time::Clock, E: Write> Sockets for EventLoop<'r, N, E> {
     type Peer = Socket;
 
-    ghost is_over = { λ sockets. sockets.schedule.left ≡ 0 };
+    ghost is_over = { λ sockets. HaveAllGone sockets.schedule.places };
 
     ghost said = { said_by };
 
     fn next(&mut self) -> Next<Socket> {
         let next = self.schedule.next();
-        let next = self.handed_out(next);
         self.nexts = self.nexts.and(&next, &self.schedule.now);
         next
     }
@@ -217,15 +166,12 @@ impl<'r, N: time::Clock, E: Write> Sockets for EventLoop<'r, N, E> {
 impl<'r, N: Net + AllocGlobal + time::Clock> Schedule<'r, N> {
     /// Listens on the address, for so many connections.
     fn new(rt: &'r N, address: SocketAddr, connections: u64) -> io::Result<Schedule<'r, N>>
-        ensures { IfOk result (λ schedule. schedule.left ≡ connections) }
+        ensures { IfOk result (λ schedule. AreFresh connections schedule.places) }
     {
         let alloc = rt.alloc();
         let poll = Poll::new(rt)?;
         let events = Events::with_capacity(alloc, MOST_EVENTS)?;
-        let mut places = Vec::with_capacity(alloc, MOST_CLIENTS)?;
-        for _place in 0..MOST_CLIENTS {
-            places.push(Visit::Free)?;
-        }
+        let places = Places::new(alloc, MOST_CLIENTS, connections)?;
         let ready = VecDeque::with_capacity(alloc, MOST_CLIENTS)?;
         let searching = VecDeque::with_capacity(alloc, MOST_CLIENTS)?;
         let mut listener = TcpListener::bind(rt, address)?;
@@ -242,7 +188,6 @@ impl<'r, N: Net + AllocGlobal + time::Clock> Schedule<'r, N> {
             searching,
             round: 0,
             has_heard: false,
-            left: connections,
             read: 0,
             now: 0,
             quiet_until: u64::MAX,
@@ -252,29 +197,22 @@ impl<'r, N: Net + AllocGlobal + time::Clock> Schedule<'r, N> {
 
 impl<'r, N> Schedule<'r, N> {
     /// The connection at the place is ready.
-    fn wake(&mut self, place: usize) {
-        if let Some(visit) = self.places.get_mut(place)
-            && let Visit::Waiting(wait) = *visit
-        {
-            *visit = Visit::Ready(Some(wait));
+    fn wake(&mut self, place: usize)
+        ensures { AreStill self.old.places self.new.places }
+    {
+        if let Some(Visit::Waiting(wait)) = self.places.at(place) {
+            self.places.put(place, Visit::Ready(Some(wait)));
             let _queued = self.ready.push_back(place);
-        }
-    }
-
-    /// What is known of the place from now on.
-    fn put(&mut self, place: usize, visit: Visit) {
-        if let Some(known) = self.places.get_mut(place) {
-            *known = visit;
         }
     }
 
     /// What the connection waits for: where it waited for the same before, its patience goes on.
     fn wait(&self, place: usize, wish: Wish, requests: usize) -> Wait {
-        if let Some(Visit::Ready(Some(last))) = self.places.get(place)
+        if let Some(Visit::Ready(Some(last))) = self.places.at(place)
             && last.wish == wish
             && last.requests == requests
         {
-            return *last;
+            return last;
         }
         let patience = match wish {
             Wish::Leaving => LAST_PATIENCE,
@@ -289,31 +227,31 @@ impl<'r, N> Schedule<'r, N> {
 
     /// Whether the connection at the place has ended, and its patience too.
     fn has_left(&self, place: usize) -> bool {
-        match self.places.get(place) {
+        match self.places.at(place) {
             Some(Visit::Ready(Some(wait))) => wait.wish == Wish::Leaving && wait.until <= self.now,
             _ => false,
         }
     }
 
     /// The place is free again.
-    fn free(&mut self, place: usize) {
-        if let Some(visit) = self.places.get_mut(place) {
-            *visit = Visit::Free;
-        }
-        self.left = self.left.saturating_sub(1);
+    fn free(&mut self, place: usize)
+        ensures { AreStill self.old.places self.new.places }
+    {
+        self.places.free(place, self.now);
         if self.backlog == Backlog::Later {
             self.backlog = Backlog::Waiting;
         }
     }
 
     /// The first of those whose requests need more work is ready.
-    fn call_searching(&mut self) {
+    fn call_searching(&mut self)
+        ensures { AreStill self.old.places self.new.places }
+    {
         for _gone in 0..self.searching.len() {
             if let Some(place) = self.searching.pop_front()
-                && let Some(visit) = self.places.get_mut(place)
-                && let Visit::Searching(wait) = *visit
+                && let Some(Visit::Searching(wait)) = self.places.at(place)
             {
-                *visit = Visit::Ready(Some(wait));
+                self.places.put(place, Visit::Ready(Some(wait)));
                 let _queued = self.ready.push_back(place);
                 return;
             }
@@ -322,16 +260,16 @@ impl<'r, N> Schedule<'r, N> {
 
     /// A free place, where one more may be here; or else the place of the one that may go and times out first.
     /// Those whose requests need more work go last.
-    fn find_place(&self) -> (Option<usize>, Option<usize>) {
-        let mut count = 0u64;
+    fn find_place(&self) -> (Option<usize>, Option<usize>)
+        ensures { IfSome result.0 (IsOpen self.entry.now.places) }
+    {
         let mut found = None;
         let mut first = u64::MAX;
         let mut leaves = None;
         for place in 0..self.places.len() {
-            match self.places[place] {
-                Visit::Free => found = Some(place),
-                visit => {
-                    count = count.saturating_add(1);
+            match self.places.at(place) {
+                None => found = Some(place),
+                Some(visit) => {
                     if let Some(until) = self.may_go(visit)
                         && until < first
                     {
@@ -341,7 +279,7 @@ impl<'r, N> Schedule<'r, N> {
                 }
             }
         }
-        if count >= self.left {
+        if !self.places.has_room() {
             return (None, None);
         }
         (found, leaves)
@@ -360,18 +298,20 @@ impl<'r, N> Schedule<'r, N> {
             Visit::Searching(wait) if wait.until.saturating_sub(self.now) <= FRESH => {
                 Some(wait.until.saturating_add(LAST))
             }
-            Visit::Free | Visit::Ready(_) | Visit::Searching(_) => None,
+            Visit::Ready(_) | Visit::Searching(_) => None,
         }
     }
 
     /// One whose patience has ended.
-    fn expired(&mut self) -> Option<usize> {
+    fn expired(&mut self) -> Option<usize>
+        ensures { AreStill self.old.places self.new.places }
+    {
         if self.now < self.quiet_until {
             return None;
         }
         self.quiet_until = u64::MAX;
         for place in 0..self.places.len() {
-            if let Visit::Waiting(wait) = self.places[place] {
+            if let Some(Visit::Waiting(wait)) = self.places.at(place) {
                 if wait.until <= self.now {
                     self.quiet_until = 0;
                     return Some(place);
@@ -400,8 +340,8 @@ impl<'r, N> Schedule<'r, N> {
     }
 
     /// Whose turn it is, of those who are ready.
-    fn first(&mut self) -> Option<Next<TcpStream>>
-        ensures { IfSome result (λ next. next ≢ Next.End) }
+    fn first(&mut self) -> Option<Next<Socket>>
+        ensures { MayHandOut self.old.places result self.new.places }
     {
         if self.round == 0 {
             return None;
@@ -416,8 +356,8 @@ impl<'r, N> Schedule<'r, N> {
     }
 
     /// Who is let in, or has to go, now that all was heard.
-    fn judge(&mut self) -> Option<Next<TcpStream>>
-        ensures { IfSome result (λ next. next ≢ Next.End) }
+    fn judge(&mut self) -> Option<Next<Socket>>
+        ensures { MayHandOut self.old.places result self.new.places }
     {
         if self.backlog == Backlog::Waiting
             && let Some(next) = self.admit()
@@ -430,8 +370,8 @@ impl<'r, N> Schedule<'r, N> {
     }
 
     /// Lets a newcomer in, where there is one and a place for it.
-    fn admit(&mut self) -> Option<Next<TcpStream>>
-        ensures { IfSome result (λ next. next ≢ Next.End) }
+    fn admit(&mut self) -> Option<Next<Socket>>
+        ensures { MayHandOut self.old.places result self.new.places }
     {
         let place = match self.find_place() {
             (Some(place), _) => place,
@@ -457,9 +397,11 @@ impl<'r, N> Schedule<'r, N> {
         }
     }
 
-    /// Gives the newcomer the place, or lets it go where it can't be set up.
-    fn seat(&mut self, place: usize, mut stream: TcpStream) -> Option<Next<TcpStream>>
-        ensures { IfSome result (λ next. next ≢ Next.End) }
+    /// Gives the newcomer the place, or lets it go where it can't be set up. As a socket it has the number after the one
+    /// before it.
+    fn seat(&mut self, place: usize, mut stream: TcpStream) -> Option<Next<Socket>>
+        requires { IsOpen self.old.places place }
+        ensures { MayHandOut self.old.places result self.new.places }
     {
         let interests = Interest::READABLE | Interest::WRITABLE;
         let set = stream.set_nodelay(true).and_then(|_| {
@@ -468,16 +410,14 @@ impl<'r, N> Schedule<'r, N> {
                 .register(&mut stream, Token(place), interests)
         });
         if set.is_err() {
-            self.left = self.left.saturating_sub(1);
+            self.places.lose(self.now);
             return None;
         }
-        if let Some(visit) = self.places.get_mut(place) {
-            *visit = Visit::Ready(None);
-            let _queued = self.ready.push_back(place);
-        }
+        let before = self.places.seat(place, self.now);
+        let _queued = self.ready.push_back(place);
         Some(Next::Newcomer {
             place,
-            peer: stream,
+            peer: Socket::new(stream, before),
         })
     }
 }
@@ -485,7 +425,9 @@ impl<'r, N> Schedule<'r, N> {
 impl<'r, N: time::Clock> Schedule<'r, N> {
     /// Reads the clock. Of the milliseconds since it was last read, no more than these count; and so many do where it
     /// can't be read.
-    fn count_time(&mut self, most: u64) {
+    fn count_time(&mut self, most: u64)
+        ensures { AreStill self.old.places self.new.places }
+    {
         let passed = match self.time.monotonic() {
             Ok(since) => {
                 let read = since
@@ -503,7 +445,9 @@ impl<'r, N: time::Clock> Schedule<'r, N> {
 
     /// Waits until something befalls a socket or a patience ends. Whoever has asked by then is heard before anybody's
     /// patience is judged.
-    fn poll_once(&mut self) -> io::Result<()> {
+    fn poll_once(&mut self) -> io::Result<()>
+        ensures { AreStill self.old.places self.new.places }
+    {
         self.count_time(LONGEST_ROUND);
         let patience = self.patience();
         let told = self.hear(patience)?;
@@ -521,7 +465,9 @@ impl<'r, N: time::Clock> Schedule<'r, N> {
     }
 
     /// Hears all that has befallen the sockets so far, without waiting.
-    fn hear_all(&mut self) -> io::Result<()> {
+    fn hear_all(&mut self) -> io::Result<()>
+        ensures { AreStill self.old.places self.new.places }
+    {
         for _asked in 0..MOST_ASKED {
             if self.hear(Some(0))? < MOST_EVENTS {
                 return Ok(());
@@ -531,7 +477,9 @@ impl<'r, N: time::Clock> Schedule<'r, N> {
     }
 
     /// Waits at most so many milliseconds until something befalls a socket, and hears how many things did.
-    fn hear(&mut self, patience: Option<u64>) -> io::Result<usize> {
+    fn hear(&mut self, patience: Option<u64>) -> io::Result<usize>
+        ensures { AreStill self.old.places self.new.places }
+    {
         self.poll
             .poll(&mut self.events, patience.map(Duration::from_millis))?;
         let mut woken = [0usize; MOST_EVENTS];
@@ -561,11 +509,12 @@ fn place_of(event: &Event) -> usize {
 
 impl<'r, N: time::Clock> Schedule<'r, N> {
     /// Waits until something is to be done.
-    fn next(&mut self) -> Next<TcpStream>
-        ensures { result ≡ Next.End → self.new.left ≡ 0 }
+    fn next(&mut self) -> Next<Socket>
+        ensures handed_out { HandsOut self.old.places result self.new.places }
+        ensures over { result ≡ Next.End → HaveAllGone self.new.places }
     {
         for _round in 0..u64::MAX {
-            if self.left == 0 {
+            if self.places.are_over() {
                 return Next::End;
             }
             if self.has_heard {
@@ -587,19 +536,21 @@ impl<'r, N: time::Clock> Schedule<'r, N> {
     }
 
     /// Hears how the connection at the place stands after its turn.
-    fn stands(&mut self, place: usize, step: Step) {
+    fn stands(&mut self, place: usize, step: Step)
+        ensures { AreStill self.old.places self.new.places }
+    {
         match step {
             Step::Again => {
                 let _queued = self.ready.push_back(place);
             }
             Step::Searches { requests } => {
                 let wait = self.wait(place, Wish::Searching, requests);
-                self.put(place, Visit::Searching(wait));
+                self.places.put(place, Visit::Searching(wait));
                 let _queued = self.searching.push_back(place);
             }
             Step::Leaves => {
                 let wait = self.wait(place, Wish::Leaving, 0);
-                self.put(place, Visit::Ready(Some(wait)));
+                self.places.put(place, Visit::Ready(Some(wait)));
                 let _queued = self.ready.push_back(place);
             }
             Step::Waits { wish, requests } => {
@@ -608,7 +559,7 @@ impl<'r, N: time::Clock> Schedule<'r, N> {
                     _ => requests,
                 };
                 let wait = self.wait(place, wish, requests);
-                self.put(place, Visit::Waiting(wait));
+                self.places.put(place, Visit::Waiting(wait));
                 self.quiet_until = self.quiet_until.min(wait.until);
             }
             Step::Over | Step::Shut => self.free(place),

@@ -1,7 +1,7 @@
 //! The other side of one open connection.
-ghost use Rattle.std.specs.Prelude.{◌≡◌, ◌≤◌, ◌++◌, length, take, drop};
+ghost use Rattle.std.specs.Prelude.{◌≡◌, ◌≤◌, ◌++◌, false, length, take, drop};
 ghost use Rattle.hall_http.specs.Outgoing.{outgoing_text};
-ghost use Rattle.hall_http.specs.Peer.{Traffic, moved, over_after};
+ghost use Rattle.hall_http.specs.Peer.{Traffic, broke_after, moved, over_after, then_hung_up};
 
 use crate::outgoing::Outgoing;
 
@@ -19,7 +19,8 @@ pub enum Moved {
 /// The other side of one open connection.
 pub trait Peer {
     /// Its number among all that its sockets handed out, all bytes that were read of it, and all that it was sent; and
-    /// whether a read told that no more comes, or failed.
+    /// whether a read told that no more comes, or failed; a send told that no more goes; it was told that no more is
+    /// sent.
     ghost traffic: { Self → Traffic };
 
     /// Reads once, at the front of the chunk.
@@ -28,21 +29,26 @@ pub trait Peer {
         ensures number { (traffic self.new).number ≡ (traffic self.old).number }
         ensures came { (traffic self.new).came ≡ (traffic self.old).came ++ take (moved result) chunk.new }
         ensures went { (traffic self.new).went ≡ (traffic self.old).went }
-        ensures over { (traffic self.new).over ≡ over_after (traffic self.old).over result };
+        ensures over { (traffic self.new).over ≡ over_after (traffic self.old).over result }
+        ensures broke { (traffic self.new).broke ≡ (traffic self.old).broke }
+        ensures hung_up { (traffic self.new).hung_up ≡ (traffic self.old).hung_up };
 
-    /// Sends once, from this byte on.
+    /// Sends once, from this byte on, unless it was told that no more is sent.
     fn send(&mut self, bytes: &Outgoing, from: usize) -> Moved
-        requires { from ≤ length (outgoing_text bytes.now) }
+        requires from { from ≤ length (outgoing_text bytes.now) }
+        requires hung_up { (traffic self.old).hung_up ≡ false }
         ensures bound { moved result ≤ length (drop from (outgoing_text bytes.now)) }
         ensures number { (traffic self.new).number ≡ (traffic self.old).number }
         ensures came { (traffic self.new).came ≡ (traffic self.old).came }
         ensures went { (traffic self.new).went ≡
             (traffic self.old).went ++ take (moved result) (drop from (outgoing_text bytes.now)) }
-        ensures over { (traffic self.new).over ≡ (traffic self.old).over };
+        ensures over { (traffic self.new).over ≡ (traffic self.old).over }
+        ensures broke { (traffic self.new).broke ≡ broke_after (traffic self.old).broke result }
+        ensures hung_up { (traffic self.new).hung_up ≡ (traffic self.old).hung_up };
 
     /// Tells it that no more is sent.
     fn end_sending(&mut self)
-        ensures { traffic self.new ≡ traffic self.old };
+        ensures { traffic self.new ≡ then_hung_up (traffic self.old) };
 }
 
 /// The other side of a connection that is over. Nothing can be read of it or sent to it any more.

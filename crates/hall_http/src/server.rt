@@ -5,13 +5,15 @@ ghost use Rattle.hall_http.specs.declared.server.Next.TheVariants as Next;
 ghost use Rattle.hall_desk.specs.Desk.{kept_by, SaneThen};
 ghost use Rattle.hall_desk.specs.Sane.{Sane};
 ghost use Rattle.hall_desk.specs.Promises.{HasUniqueSolutions, RightAnswersAreSolutions};
-ghost use Rattle.hall_http.specs.Crowd.{Admits, AreAtTurns, AreHandled, AreKept, AreKeptAtTurns, AreServed};
-ghost use Rattle.hall_http.specs.Crowd.{AreSomeKept, EndsServing, Serves};
+ghost use Rattle.hall_http.specs.Crowd.{Admits, AreAsSaid, AreAtTurns, AreHandled, AreKept, AreKeptAtTurns, AreServed};
+ghost use Rattle.hall_http.specs.Crowd.{AreSomeKept, EndsServing, MayLose, Receives, Serves};
+ghost use Rattle.hall_http.specs.Peer.{IsUntouched};
+ghost use Rattle.hall_http.specs.declared.clients.Departure.TheVariants as Departure;
 ghost use Rattle.hall_http.specs.Coming.{AreDone, IsFreshPeer, Said, newcomer, since, stays_open};
 ghost use Rattle.hall_http.specs.Turns.{goes_on, service_of};
 
 use crate::client::Step;
-use crate::clients::{Clients, Gone, MOST_CLIENTS};
+use crate::clients::{Clients, Departure, Gone, MOST_CLIENTS};
 use crate::connection::Clock;
 use crate::inbox::Inbox;
 use crate::peer::Peer;
@@ -43,7 +45,8 @@ pub trait Sockets {
     /// All connections that may come have come and gone.
     ghost is_over: { Self → Type 0 };
 
-    /// All that it said was to be done next, in order, and how many newcomers it has handed out.
+    /// All that it said was to be done next, in order, how many newcomers it has handed out, and how many connections it
+    /// was asked for.
     ghost said: { Self → Said Self.Peer };
 
     /// Waits until something is to be done. A newcomer's number is how many there were before it.
@@ -51,6 +54,7 @@ pub trait Sockets {
         ensures fresh { IsFreshPeer Self.Peer.traffic (said self.old).count result }
         ensures count { (said self.new).count ≡ (said self.old).count + newcomer result }
         ensures nexts { (said self.new).nexts ≡ (said self.old).nexts ++ result ∷ [] }
+        ensures most { (said self.new).most ≡ (said self.old).most }
         ensures over { result ≡ Next.End → is_over self.new };
 
     /// Hears how the connection at the place stands after its turn.
@@ -81,11 +85,9 @@ pub fn serve_all<S: Store, N: Sockets, C: Clock>(
     sockets: &mut N,
     clock: &mut C,
 ) -> Result<(ServeAllEnd, Gone<N::Peer>), AllocError>
-    ensures served { IfOk result (λ served. AreServed S.content C.now_gives N.Peer.traffic served.0
-        (kept_by desk.old, clock.old) (kept_by desk.new, clock.new) served.1.items) }
-    ensures turned { IfOk result (λ served. (all : AreServed S.content C.now_gives N.Peer.traffic served.0
+    ensures served { IfOk result (λ served. (all : AreServed S.content C.now_gives N.Peer.traffic served.0
         (kept_by desk.old, clock.old) (kept_by desk.new, clock.new) served.1.items)
-        × AreAtTurns N.Peer.traffic (since (N.said sockets.old) (N.said sockets.new)) all.turns) }
+        × AreAtTurns N.Peer.traffic served.1.items (since (N.said sockets.old) (N.said sockets.new)) all.turns) }
     ensures ended { IfOk result (λ served. EndsServing N.is_over N.said N.Peer.traffic served.0
         sockets.old sockets.new served.1.items) }
     ensures memory { OnErr result ((desk.new ≡ desk.old) × (sockets.new ≡ sockets.old) × (clock.new ≡ clock.old)) }
@@ -109,11 +111,9 @@ fn serve_clients<S: Store, N: Sockets, C: Clock>(
     clock: &mut C,
 ) -> ServeAllEnd
     requires { AreKept N.Peer.traffic (N.said sockets.old).count (N.said sockets.old).count [] clients.old }
-    ensures served { AreServed S.content C.now_gives N.Peer.traffic result
-        (kept_by desk.old, clock.old) (kept_by desk.new, clock.new) clients.new.gone.items }
-    ensures turned { (all : AreServed S.content C.now_gives N.Peer.traffic result
+    ensures served { (all : AreServed S.content C.now_gives N.Peer.traffic result
         (kept_by desk.old, clock.old) (kept_by desk.new, clock.new) clients.new.gone.items)
-        × AreAtTurns N.Peer.traffic (since (N.said sockets.old) (N.said sockets.new)) all.turns }
+        × AreAtTurns N.Peer.traffic clients.new.gone.items (since (N.said sockets.old) (N.said sockets.new)) all.turns }
     ensures ended { EndsServing N.is_over N.said N.Peer.traffic result
         sockets.old sockets.new clients.new.gone.items }
     ensures sane { SaneThen Sane (S.content (kept_by desk.old)) (S.content (kept_by desk.new)) }
@@ -136,6 +136,7 @@ fn handle_all<H: Responder, S: Sockets, C: Clock>(
     requires { AreKept S.Peer.traffic (S.said sockets.old).count (S.said sockets.old).count [] clients.old }
     ensures done { AreDone S.Peer.traffic result (S.said sockets.old) (S.said sockets.new) }
     ensures over { result ≡ ServeAllEnd.Served → S.is_over sockets.new }
+    ensures said { AreAsSaid S.Peer.traffic (since (S.said sockets.old) (S.said sockets.new)) clients.new }
     ensures handled { AreHandled (service_of H.answers H.goes_on H.rests C.now_gives)
         (λ turns. AreKeptAtTurns S.Peer.traffic (S.said sockets.old) (S.said sockets.new) turns clients.new)
         ((responder.old, true), clock.old) ((responder.new, stays_open result), clock.new) }
@@ -151,7 +152,7 @@ fn handle_all<H: Responder, S: Sockets, C: Clock>(
                 sockets.stands(place, step);
                 sockets.hear_of_writes(responder.refuses_writes());
             }
-            Next::Gone(place) => clients.forget(place),
+            Next::Gone(place) => clients.forget(place, Departure::LetGo),
             Next::End => return ServeAllEnd::Served,
             Next::Refused => return ServeAllEnd::Refused,
         }
@@ -161,13 +162,13 @@ fn handle_all<H: Responder, S: Sockets, C: Clock>(
 
 /// Gives a newcomer the place, or turns it away.
 fn let_in<P: Peer + Drop>(alloc: Global, clients: &mut Clients<P>, place: usize, peer: P)
-    requires came { (P.traffic peer).came ≡ [] }
-    requires went { (P.traffic peer).went ≡ [] }
-    ensures { Admits P.traffic place peer clients.old clients.new }
+    requires { IsUntouched (P.traffic peer) }
+    ensures admits { Admits P.traffic place peer clients.old clients.new }
+    ensures receives { Receives place peer clients.old clients.new }
 {
     match Inbox::new(alloc) {
         Ok(inbox) => clients.seat(place, inbox, peer),
-        Err(_) => clients.turn_away(peer),
+        Err(_) => clients.turn_away(place, peer),
     }
 }
 
@@ -182,12 +183,13 @@ fn visit<P: Peer + Drop, H: Responder, C: Clock>(
     clock: &mut C,
 ) -> Step
     requires { AreSomeKept P.traffic clients.old }
-    ensures { Serves (service_of H.answers H.goes_on H.rests C.now_gives) P.traffic place
+    ensures serves { Serves (service_of H.answers H.goes_on H.rests C.now_gives) P.traffic place
         ((responder.old, true), clock.old) clients.old ((responder.new, goes_on result), clock.new) clients.new }
+    ensures lost { MayLose P.traffic Departure.Over place clients.old clients.new }
 {
     let step = clients.turn(alloc, routes, place, responder, clock);
     match step {
-        Step::Over => clients.forget(place),
+        Step::Over => clients.forget(place, Departure::Over),
         Step::Shut => clients.finish(),
         _ => {}
     }

@@ -1,5 +1,6 @@
 //! A socket, as the other side of a connection.
-ghost use Rattle.std.specs.Prelude.{◌≡◌, [], false, length};
+ghost use Rattle.std.specs.Prelude.{◌≡◌, length};
+ghost use Rattle.hall_http.specs.Peer.{IsUntouched};
 ghost use Rattle.hall_http.specs.Socket.{traffic_of};
 
 use crate::outgoing::Outgoing;
@@ -9,24 +10,26 @@ use mio::net::TcpStream;
 use std::io::{ErrorKind, Read, Write};
 use std::net::Shutdown;
 
-/// A socket, what was read of it and written to it, whether a read told that no more comes, and the places of those
-/// that were handed out before it.
+/// A socket, what was read of it and written to it, and the places of those that were handed out before it.
 #[derive(Drop)]
 pub struct Socket {
     stream: TcpStream,
     before: Log<usize, u64>,
     reads: Log<[u8; 4096], usize>,
     writes: Log<Outgoing, (usize, usize)>,
+    /// A read told that no more comes.
     is_over: bool,
+    /// A write told that no more goes.
+    is_broken: bool,
+    /// It was told that no more is sent.
+    is_hung_up: bool,
 }
 
 impl Socket {
     /// One that nothing was read of, after these.
     pub fn new(stream: TcpStream, before: Log<usize, u64>) -> Socket
         ensures number { (traffic_of result).number ≡ length before.items }
-        ensures came { (traffic_of result).came ≡ [] }
-        ensures went { (traffic_of result).went ≡ [] }
-        ensures over { (traffic_of result).over ≡ false }
+        ensures untouched { IsUntouched (traffic_of result) }
     {
         Socket {
             stream,
@@ -34,6 +37,8 @@ impl Socket {
             reads: Log::new(),
             writes: Log::new(),
             is_over: false,
+            is_broken: false,
+            is_hung_up: false,
         }
     }
 }
@@ -62,11 +67,15 @@ impl Peer for Socket {
                 Moved::Some(count)
             }
             Err(error) if error.kind() == ErrorKind::WouldBlock => Moved::Wait,
-            _ => Moved::None,
+            _ => {
+                self.is_broken = true;
+                Moved::None
+            }
         }
     }
 
     fn end_sending(&mut self) {
         let _shut = self.stream.shutdown(Shutdown::Write);
+        self.is_hung_up = true;
     }
 }

@@ -130,6 +130,10 @@ pub(crate) struct Scripted<'a> {
     writes: Log<Outgoing, (usize, usize)>,
     /// A read told that no more comes.
     is_over: bool,
+    /// A send told that no more goes.
+    is_broken: bool,
+    /// It was told that no more is sent.
+    is_hung_up: bool,
 }
 
 impl Peer for Scripted<'_> {
@@ -138,6 +142,8 @@ impl Peer for Scripted<'_> {
       came = flat_map (λ read. take read.1 read.0) peer.reads.items;
       went = flat_map (λ write. take write.1.1 (drop write.1.0 (outgoing_text write.0))) peer.writes.items;
       over = peer.is_over;
+      broke = peer.is_broken;
+      hung_up = peer.is_hung_up;
     } };
 
     fn receive(&mut self, chunk: &mut [u8; 4096]) -> Moved {
@@ -182,6 +188,7 @@ impl Peer for Scripted<'_> {
             count = left;
         }
         if count == 0 {
+            self.is_broken = true;
             return Moved::None;
         }
         seen.write(&bytes[..count]);
@@ -195,6 +202,7 @@ impl Peer for Scripted<'_> {
             seen.reads_before_end.set(seen.reads.get());
         }
         seen.ends.set(seen.ends.get().saturating_add(1));
+        self.is_hung_up = true;
     }
 }
 
@@ -246,7 +254,11 @@ impl<'a> Sockets for Listed<'a> {
 
     ghost is_over = { λ _. Unit {0} };
 
-    ghost said = { λ sockets. record { nexts = logged sockets.nexts; count = length sockets.seated.items } };
+    ghost said = { λ sockets. record {
+      nexts = logged sockets.nexts;
+      count = length sockets.seated.items;
+      most = 0;
+    } };
 
     fn next(&mut self) -> Next<Scripted<'a>> {
         if let Some(coming) = self.coming.pop() {
@@ -260,6 +272,8 @@ impl<'a> Sockets for Listed<'a> {
                 reads: Log::new(),
                 writes: Log::new(),
                 is_over: false,
+                is_broken: false,
+                is_hung_up: false,
             };
             return self.noted(Next::Newcomer { place, peer });
         }

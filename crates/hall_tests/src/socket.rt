@@ -41,7 +41,11 @@ impl<'r> Sockets for Brief<'r> {
 
     ghost is_over = { λ _. Unit {0} };
 
-    ghost said = { λ sockets. record { nexts = logged sockets.nexts; count = (said_by sockets.inner).count } };
+    ghost said = { λ sockets. record {
+      nexts = logged sockets.nexts;
+      count = (said_by sockets.inner).count;
+      most = (said_by sockets.inner).most;
+    } };
 
     fn next(&mut self) -> Next<Socket> {
         if self.has_gone {

@@ -25,7 +25,7 @@ returns-in-Some-clause-right g c = λ h s sane.
 pub returns-in-None-clause-answers : goal.returns-in-None-clause-answers
 returns-in-None-clause-answers g c = λ h.
     fault_answers (g.S.ReadStore.content (kept_by c.args.desk.now)) c.args.moment c.args.bytes.now _ fault.NotWhole
-    (inl (c.in-None.ensures, refl)) c.answer_fault.ensures
+    (inl (c.in-None.ensures, refl)) c.answer_fault.ensures.told
 
 pub returns-in-None-clause-unique : goal.returns-in-None-clause-unique
 returns-in-None-clause-unique g c = λ h s sane. unique_solutions (g.S.ReadStore.content (kept_by c.args.desk.now)).world sane

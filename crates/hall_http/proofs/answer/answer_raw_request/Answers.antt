@@ -42,7 +42,7 @@ pub returns-in-Err-Form-clause-answers : goal.returns-in-Err-Form-clause-answers
 returns-in-Err-Form-clause-answers g c =
     let says : AsksFor c.args.raw.now (Err c.in-Err-Form.fault) = rw c.in-Err-Form.field-0-is at c.in-Err-Form.ensures in
     let written : AnswersFault c.in-Err-Form.fault (answer_text c.answer_fault.result) =
-    rw c.in-Err-Form.field-0-is at c.answer_fault.ensures in
+    rw c.in-Err-Form.field-0-is at c.answer_fault.ensures.told in
     λ bytes lent h.
     fault_answers (g.S.ReadStore.content (kept_by c.args.desk.now)) c.args.moment bytes _ c.in-Err-Form.fault
     (asked_of bytes c.args.raw.now (Err c.in-Err-Form.fault) lent says) written
@@ -71,3 +71,14 @@ returns-in-Err-Form-clause-goes_on g c = λ stays told. inl refl
 
 pub returns-in-Err-Memory-clause-goes_on : goal.returns-in-Err-Memory-clause-goes_on
 returns-in-Err-Memory-clause-goes_on g c = λ stays told. inl refl
+
+pub returns-in-Ok-clause-shut : goal.returns-in-Ok-clause-shut
+returns-in-Ok-clause-shut g c = λ bytes lent shut nothing.
+    c.answer_request.ensures.shut shut
+    (nobodys bytes c.in-Ok.request (asked_of bytes c.args.raw.now (Ok c.in-Ok.request) lent c.in-Ok.ensures) nothing)
+
+pub returns-in-Err-Form-clause-shut : goal.returns-in-Err-Form-clause-shut
+returns-in-Err-Form-clause-shut g c = λ bytes lent shut. absurd (c.answer_fault.ensures.opened shut)
+
+pub returns-in-Err-Memory-clause-shut : goal.returns-in-Err-Memory-clause-shut
+returns-in-Err-Memory-clause-shut g c = λ bytes lent shut. absurd cc

@@ -67,7 +67,11 @@ returns-in-Err-clause-goes_on g c = λ stays told.
     ]
 
 pub returns-in-Ok-clause-goes_on : goal.returns-in-Ok-clause-goes_on
-returns-in-Ok-clause-goes_on g c = λ stays told. absurd (c.answer_of.ensures.goes_on stays (record { same = told }))
+returns-in-Ok-clause-goes_on g c = λ stays told.
+    elim (c.answer_of.ensures.goes_on stays) [
+      | inl nobody ↦ inl (c.in-Ok.ensures.untouched nobody)
+      | inr other ↦ absurd (other (record { same = told }))
+    ]
 
 pub returns-in-Ok-clause-stops : goal.returns-in-Ok-clause-stops
 returns-in-Ok-clause-stops g c =

@@ -1,22 +1,28 @@
 use Rattle.std.proofs.Common.{◌≡◌, ◌∙◌, ap, refl, arith, inl, true, false}
 use Rattle.hall_http.specs.Coming.{Said}
 use Rattle.hall_http.specs.Turns.{goes_on}
+use Rattle.hall_http.specs.declared.clients.Departure.TheVariants as departure
 use Rattle.hall_http.specs.declared.server.Next.TheVariants as next
 use Rattle.hall_http.specs.declared.server.ServeAllEnd.TheVariants as end
 use Rattle.hall_http.proofs.Comings.{done_start, done_step, done_turn, done_last, done_all, same_count, since_more}
-use Rattle.hall_http.proofs.SoFar.{handled_start, handled_turn, handled_keeps, handled_admits, keeps_all, seated_none, seated_keeps, seated_admits}
+use Rattle.hall_http.proofs.SoFar.{grows_none, handled_start, handled_turn, handled_keeps, handled_admits, keeps_all}
+use Rattle.hall_http.proofs.SoFar.{loses_grows, receives_grows, still_same}
+use Rattle.hall_http.proofs.SoFar.{said_comes, said_gone, said_none, said_still, said_turn}
 use Rattle.hall_http.proofs.server.handle_all.Goals as goal
 use Rattle.hall_http.proofs.server.handle_all.Goals.{in-Newcomer, in-Turn+else-not-goes_on, in-Gone}
 
 pub loop-step-init : goal.loop-step-init
 loop-step-init g c = record {
   so_far = handled_start _ g.S.Peer.Peer.traffic _ (g.S.Sockets.said c.args.sockets.now) _ c.requires;
-  seated = seated_none g.S.Peer.Peer.traffic _ _ _ _ c.requires;
+  said = said_none g.S.Peer.Peer.traffic _ _ _ _ c.requires;
   done = done_start g.S.Peer.Peer.traffic _;
 }
 
 pub visit-step-requires : goal.visit-step-requires
 visit-step-requires g c = (_, _, c.loop-step.invariant.so_far.turns, c.loop-step.invariant.so_far.holds.0)
+
+pub forget-requires : goal.forget-requires
+forget-requires g c = λ k at. tt
 
 pub loop-step-preserved : goal.loop-step-preserved
 loop-step-preserved g c =
@@ -24,19 +30,22 @@ loop-step-preserved g c =
     let now = g.S.Sockets.said c.loop-step.sockets in
     let then = g.S.Sockets.said c.next.new.self in
     let so_far = c.loop-step.invariant.so_far in
-    let seated = c.loop-step.invariant.seated in
+    let said = c.loop-step.invariant.said in
     let done = c.loop-step.invariant.done in
     elim c.match-next.branch [
       | in-Newcomer w ↦
-          let one = next.Newcomer w.in-Newcomer.place w.in-Newcomer.peer in
+          let place = w.in-Newcomer.place in
+          let one = next.Newcomer place w.in-Newcomer.peer in
           let more = since_more g.S.Peer.Peer.traffic old now _ done one then w.in-Newcomer.ensures.nexts in
+          let clients = w.let_in.new.clients in
           rw (w.clients-is, w.responder-is, w.clock-is, w.sockets-is) (record {
-            so_far = handled_admits _ g.S.Peer.Peer.traffic old now _ _ _ so_far then one more w.in-Newcomer.place w.in-Newcomer.peer _
-                w.in-Newcomer.ensures.fresh.0 w.in-Newcomer.ensures.count w.let_in.ensures;
-            seated = seated_admits g.S.Peer.Peer.traffic old now c.loop-step.clients then one more seated w.in-Newcomer.place w.in-Newcomer.peer
-                w.let_in.new.clients refl w.let_in.ensures.0;
-            done = done_step g.S.Peer.Peer.traffic old now _ done one then w.in-Newcomer.ensures.fresh w.in-Newcomer.ensures.count
-                w.in-Newcomer.ensures.nexts tt;
+            so_far = handled_admits _ g.S.Peer.Peer.traffic old now _ _ _ so_far then one more clients
+                (receives_grows g.S.Peer.Peer.traffic place w.in-Newcomer.peer c.loop-step.clients clients w.let_in.ensures.receives) place
+                w.in-Newcomer.peer w.in-Newcomer.ensures.fresh.0 w.in-Newcomer.ensures.count w.let_in.ensures.admits;
+            said = said_comes g.S.Peer.Peer.traffic old now c.loop-step.clients then one more said clients place
+                w.in-Newcomer.peer refl w.let_in.ensures.admits.0 w.let_in.ensures.receives;
+            done = done_step g.S.Peer.Peer.traffic old now _ done one then w.in-Newcomer.ensures.fresh
+                w.in-Newcomer.ensures.count w.in-Newcomer.ensures.nexts w.in-Newcomer.ensures.most tt;
           })
       | in-Turn+else-not-goes_on w ↦
           let told = w.goes_on.ensures in
@@ -45,23 +54,33 @@ loop-step-preserved g c =
           let same = w.hear_of_writes.ensures ∙ w.stands.ensures in
           let count = ap (λ (s : Said g.row.S-Peer.Denot). s.count) same ∙ w.in-Turn.ensures.count in
           let nexts = ap (λ (s : Said g.row.S-Peer.Denot). s.nexts) same ∙ w.in-Turn.ensures.nexts in
+          let most = ap (λ (s : Said g.row.S-Peer.Denot). s.most) same ∙ w.in-Turn.ensures.most in
           let later = g.S.Sockets.said w.hear_of_writes.new.self in
-          let one = next.Turn w.in-Turn.place in
+          let place = w.in-Turn.place in
+          let one = next.Turn place in
           let more = since_more g.S.Peer.Peer.traffic old now _ done one later nexts in
+          let clients = w.visit-step.new.clients in
           rw (w.clients-is, w.responder-is, w.clock-is, w.sockets-is) (record {
-            so_far = handled_turn _ g.S.Peer.Peer.traffic old now _ _ _ so_far later one more _ _ w.in-Turn.place refl
-                (count ∙ same_count _) seated (rw on at w.visit-step.ensures);
-            seated = seated_keeps g.S.Peer.Peer.traffic old now c.loop-step.clients later one more seated w.visit-step.new.clients w.visit-step.ensures.0;
-            done = done_step g.S.Peer.Peer.traffic old now _ done one later tt count nexts tt;
+            so_far = handled_turn _ g.S.Peer.Peer.traffic old now _ _ _ so_far later one more clients
+                (loses_grows g.S.Peer.Peer.traffic departure.Over place c.loop-step.clients clients
+                w.visit-step.ensures.lost) _ place refl (count ∙ same_count _) said (rw on at w.visit-step.ensures.serves);
+            said = said_turn g.S.Peer.Peer.traffic old now c.loop-step.clients later one more said clients place refl
+                w.visit-step.ensures.serves.0 w.visit-step.ensures.lost;
+            done = done_step g.S.Peer.Peer.traffic old now _ done one later tt count nexts most tt;
           })
       | in-Gone w ↦
-          let one = next.Gone w.in-Gone.place in
+          let place = w.in-Gone.place in
+          let one = next.Gone place in
           let more = since_more g.S.Peer.Peer.traffic old now _ done one then w.in-Gone.ensures.nexts in
+          let clients = w.forget.new.self in
           rw (w.clients-is, w.responder-is, w.clock-is, w.sockets-is) (record {
-            so_far = handled_keeps _ g.S.Peer.Peer.traffic old now _ _ _ so_far then one more _ (w.in-Gone.ensures.count ∙ same_count _)
-                w.forget.ensures.kept;
-            seated = seated_keeps g.S.Peer.Peer.traffic old now c.loop-step.clients then one more seated w.forget.new.self w.forget.ensures.kept.0;
-            done = done_step g.S.Peer.Peer.traffic old now _ done one then tt w.in-Gone.ensures.count w.in-Gone.ensures.nexts tt;
+            so_far = handled_keeps _ g.S.Peer.Peer.traffic old now _ _ _ so_far then one more clients
+                (loses_grows g.S.Peer.Peer.traffic departure.LetGo place c.loop-step.clients clients
+                w.forget.ensures.lost) (w.in-Gone.ensures.count ∙ same_count _) w.forget.ensures.kept;
+            said = said_gone g.S.Peer.Peer.traffic old now c.loop-step.clients then one more said clients place refl
+                w.forget.ensures.kept.0 w.forget.ensures.none w.forget.ensures.lost;
+            done = done_step g.S.Peer.Peer.traffic old now _ done one then tt w.in-Gone.ensures.count
+                w.in-Gone.ensures.nexts w.in-Gone.ensures.most tt;
           })
     ]
 
@@ -72,7 +91,7 @@ returns-in-End-clause-handled g c =
     let then = g.S.Sockets.said c.next.new.self in
     handled_keeps _ g.S.Peer.Peer.traffic old now _ _ _ c.loop-step.invariant.so_far then next.End
     (since_more g.S.Peer.Peer.traffic old now _ c.loop-step.invariant.done next.End then c.in-End.ensures.nexts) _
-    (c.in-End.ensures.count ∙ same_count _) (keeps_all g.S.Peer.Peer.traffic _)
+    (grows_none g.S.Peer.Peer.traffic _) (c.in-End.ensures.count ∙ same_count _) (keeps_all g.S.Peer.Peer.traffic _)
 
 pub returns-in-Refused-clause-handled : goal.returns-in-Refused-clause-handled
 returns-in-Refused-clause-handled g c =
@@ -81,7 +100,8 @@ returns-in-Refused-clause-handled g c =
     let then = g.S.Sockets.said c.next.new.self in
     handled_keeps _ g.S.Peer.Peer.traffic old now _ _ _ c.loop-step.invariant.so_far then next.Refused
     (since_more g.S.Peer.Peer.traffic old now _ c.loop-step.invariant.done next.Refused then c.in-Refused.ensures.nexts) _
-    (c.in-Refused.ensures.count ∙ same_count _) (keeps_all g.S.Peer.Peer.traffic _)
+    (grows_none g.S.Peer.Peer.traffic _) (c.in-Refused.ensures.count ∙ same_count _)
+    (keeps_all g.S.Peer.Peer.traffic _)
 
 pub returns-then-not-goes_on-clause-handled : goal.returns-then-not-goes_on-clause-handled
 returns-then-not-goes_on-clause-handled g c =
@@ -93,26 +113,61 @@ returns-then-not-goes_on-clause-handled g c =
     let then = g.S.Sockets.said c.next.new.self in
     let one = next.Turn c.in-Turn.place in
     handled_turn _ g.S.Peer.Peer.traffic old now _ _ _ c.loop-step.invariant.so_far then one
-    (since_more g.S.Peer.Peer.traffic old now _ c.loop-step.invariant.done one then c.in-Turn.ensures.nexts) _ _ c.in-Turn.place refl
-    (c.in-Turn.ensures.count ∙ same_count _) c.loop-step.invariant.seated (rw off at c.visit-step.ensures)
+    (since_more g.S.Peer.Peer.traffic old now _ c.loop-step.invariant.done one then c.in-Turn.ensures.nexts) _
+    (loses_grows g.S.Peer.Peer.traffic departure.Over c.in-Turn.place c.loop-step.clients c.visit-step.new.clients
+    c.visit-step.ensures.lost) _ c.in-Turn.place refl (c.in-Turn.ensures.count ∙ same_count _) c.loop-step.invariant.said (rw off at c.visit-step.ensures.serves)
 
 pub returns-clause-handled : goal.returns-clause-handled
 returns-clause-handled g c = c.loop-step.invariant.so_far
 
+pub returns-in-End-clause-said : goal.returns-in-End-clause-said
+returns-in-End-clause-said g c =
+    let old = g.S.Sockets.said c.args.sockets.now in
+    let now = g.S.Sockets.said c.loop-step.sockets in
+    let then = g.S.Sockets.said c.next.new.self in
+    said_still g.S.Peer.Peer.traffic old now c.loop-step.clients then next.End
+    (since_more g.S.Peer.Peer.traffic old now _ c.loop-step.invariant.done next.End then c.in-End.ensures.nexts)
+    c.loop-step.invariant.said c.loop-step.clients (λ place. tt)
+    (still_same g.S.Peer.Peer.traffic c.loop-step.clients) refl
+
+pub returns-in-Refused-clause-said : goal.returns-in-Refused-clause-said
+returns-in-Refused-clause-said g c =
+    let old = g.S.Sockets.said c.args.sockets.now in
+    let now = g.S.Sockets.said c.loop-step.sockets in
+    let then = g.S.Sockets.said c.next.new.self in
+    said_still g.S.Peer.Peer.traffic old now c.loop-step.clients then next.Refused
+    (since_more g.S.Peer.Peer.traffic old now _ c.loop-step.invariant.done next.Refused then c.in-Refused.ensures.nexts)
+    c.loop-step.invariant.said c.loop-step.clients (λ place. tt)
+    (still_same g.S.Peer.Peer.traffic c.loop-step.clients) refl
+
+pub returns-then-not-goes_on-clause-said : goal.returns-then-not-goes_on-clause-said
+returns-then-not-goes_on-clause-said g c =
+    let old = g.S.Sockets.said c.args.sockets.now in
+    let now = g.S.Sockets.said c.loop-step.sockets in
+    let then = g.S.Sockets.said c.next.new.self in
+    let one = next.Turn c.in-Turn.place in
+    said_turn g.S.Peer.Peer.traffic old now c.loop-step.clients then one
+    (since_more g.S.Peer.Peer.traffic old now _ c.loop-step.invariant.done one then c.in-Turn.ensures.nexts)
+    c.loop-step.invariant.said c.visit-step.new.clients c.in-Turn.place refl c.visit-step.ensures.serves.0
+    c.visit-step.ensures.lost
+
+pub returns-clause-said : goal.returns-clause-said
+returns-clause-said g c = c.loop-step.invariant.said
+
 pub returns-then-not-goes_on-clause-done : goal.returns-then-not-goes_on-clause-done
 returns-then-not-goes_on-clause-done g c =
     done_turn g.S.Peer.Peer.traffic _ _ _ c.loop-step.invariant.done c.in-Turn.place _ c.in-Turn.ensures.count
-    c.in-Turn.ensures.nexts
+    c.in-Turn.ensures.nexts c.in-Turn.ensures.most
 
 pub returns-in-End-clause-done : goal.returns-in-End-clause-done
 returns-in-End-clause-done g c =
     done_last g.S.Peer.Peer.traffic _ _ _ c.loop-step.invariant.done next.End _ tt c.in-End.ensures.count
-    c.in-End.ensures.nexts end.Served refl refl
+    c.in-End.ensures.nexts c.in-End.ensures.most end.Served refl refl
 
 pub returns-in-Refused-clause-done : goal.returns-in-Refused-clause-done
 returns-in-Refused-clause-done g c =
     done_last g.S.Peer.Peer.traffic _ _ _ c.loop-step.invariant.done next.Refused _ tt c.in-Refused.ensures.count
-    c.in-Refused.ensures.nexts end.Refused refl (inl refl)
+    c.in-Refused.ensures.nexts c.in-Refused.ensures.most end.Refused refl (inl refl)
 
 pub returns-clause-done : goal.returns-clause-done
 returns-clause-done g c =

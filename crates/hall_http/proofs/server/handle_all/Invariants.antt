@@ -1,9 +1,8 @@
 use Rattle.std.proofs.Common.{true}
 use Rattle.hall_http.specs.Coming.{since}
-use Rattle.hall_http.specs.Crowd.{AreHandled, AreKeptAtTurns}
+use Rattle.hall_http.specs.Crowd.{AreAsSaid, AreHandled, AreKeptAtTurns}
 use Rattle.hall_http.specs.Turns.{service_of}
 use Rattle.hall_http.proofs.Comings.{DoneSoFar}
-use Rattle.hall_http.proofs.SoFar.{AreSeated}
 use Rattle.hall_http.proofs.server.handle_all.Given as goal
 
 abbrev pub invariant-loop-step : goal.invariant-loop-step
@@ -11,6 +10,6 @@ invariant-loop-step g l = record {
   so_far : AreHandled (service_of g.H.Responder.answers g.H.Responder.goes_on g.H.Responder.rests g.C.Clock.now_gives)
       (λ turns. AreKeptAtTurns g.S.Peer.Peer.traffic (g.S.Sockets.said l.fn.sockets) (g.S.Sockets.said l.sockets) turns
       l.clients) ((l.fn.responder, true), l.fn.clock) ((l.responder, true), l.clock);
-  seated : AreSeated g.S.Peer.Peer.traffic (since (g.S.Sockets.said l.fn.sockets) (g.S.Sockets.said l.sockets)) l.clients;
+  said : AreAsSaid g.S.Peer.Peer.traffic (since (g.S.Sockets.said l.fn.sockets) (g.S.Sockets.said l.sockets)) l.clients;
   done : DoneSoFar g.S.Peer.Peer.traffic (g.S.Sockets.said l.fn.sockets) (g.S.Sockets.said l.sockets) l._step;
 }

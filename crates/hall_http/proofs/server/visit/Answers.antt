@@ -1,14 +1,34 @@
-use Rattle.hall_http.proofs.SoFar.{serves_kept, serves_then}
+use Rattle.std.proofs.Common.{◌∙◌}
+use Rattle.hall_http.specs.declared.clients.Departure.TheVariants as departure
+use Rattle.hall_http.proofs.SoFar.{loses_before, loses_none, serves_kept, serves_then}
 use Rattle.hall_http.proofs.server.visit.Goals as goal
+
+pub forget-requires : goal.forget-requires
+forget-requires g c = rw c.in-Over.is at c.turn-step.ensures.over
 
 pub finish-requires : goal.finish-requires
 finish-requires g c =
-    serves_kept _ g.P.Peer.traffic _ _ _ _ _ c.requires c.turn-step.ensures
+    serves_kept _ g.P.Peer.traffic _ _ _ _ _ c.requires c.turn-step.ensures.serves
 
-pub returns-in-Over : goal.returns-in-Over
-returns-in-Over g c =
-    serves_then _ g.P.Peer.traffic _ _ _ _ _ _ c.turn-step.ensures c.forget.ensures.kept
+pub returns-in-Over-clause-serves : goal.returns-in-Over-clause-serves
+returns-in-Over-clause-serves g c =
+    serves_then _ g.P.Peer.traffic _ _ _ _ _ _ c.turn-step.ensures.serves c.forget.ensures.kept
 
-pub returns-in-Shut : goal.returns-in-Shut
-returns-in-Shut g c =
-    serves_then _ g.P.Peer.traffic _ _ _ _ _ _ c.turn-step.ensures c.finish.ensures
+pub returns-in-Over-clause-lost : goal.returns-in-Over-clause-lost
+returns-in-Over-clause-lost g c =
+    loses_before g.P.Peer.traffic c.args.clients.now c.turn-step.new.self c.forget.new.self
+    c.turn-step.ensures.serves.0 c.turn-step.ensures.gone departure.Over c.args.place c.forget.ensures.lost
+
+pub returns-in-Shut-clause-serves : goal.returns-in-Shut-clause-serves
+returns-in-Shut-clause-serves g c =
+    serves_then _ g.P.Peer.traffic _ _ _ _ _ _ c.turn-step.ensures.serves c.finish.ensures.kept
+
+pub returns-in-Shut-clause-lost : goal.returns-in-Shut-clause-lost
+returns-in-Shut-clause-lost g c =
+    loses_none g.P.Peer.traffic departure.Over c.args.place c.args.clients.now c.finish.new.self
+    (c.finish.ensures.gone ∙ c.turn-step.ensures.gone)
+
+pub returns-in_default-clause-lost : goal.returns-in_default-clause-lost
+returns-in_default-clause-lost g c =
+    loses_none g.P.Peer.traffic departure.Over c.args.place c.args.clients.now c.turn-step.new.self
+    c.turn-step.ensures.gone

@@ -15,11 +15,12 @@ returns-in-Some g c =
       record {
         number = c.in-Some.ensures.number;
         kept = λ xs is.
-            client_heard g.P.Peer.traffic _ _ _ _ xs is _ _ _ bytes c.requires.at
+            client_heard g.P.Peer.traffic _ _ _ _ xs is _ _ bytes c.requires.at
             (omega (arith, whole, c.if-count-gt0.true)) (omega (arith, whole, c.in-Some.ensures.bound)) c.hear.ensures
             c.in-Some.ensures.came c.in-Some.ensures.went
-            (c.in-Some.ensures.over ∙ over_some _ c.in-Some.count c.if-count-gt0.true);
+            (c.in-Some.ensures.over ∙ over_some _ c.in-Some.count c.if-count-gt0.true) c.in-Some.ensures.hung_up;
       },
+      tt,
     )
 
 pub returns-in_default : goal.returns-in_default
@@ -39,8 +40,9 @@ returns-in_default g c =
       record {
         number = c.receive.ensures.number;
         kept = λ xs is.
-            client_ended g.P.Peer.traffic _ _ _ _ xs is _ _ _ (take (moved c.receive.result) c.receive.new.chunk)
+            client_ended g.P.Peer.traffic _ _ _ _ xs is _ _ (take (moved c.receive.result) c.receive.new.chunk)
             c.requires.at c.end_input.ensures (ap (λ (n : ℕ). take n c.receive.new.chunk) none)
-            c.receive.ensures.came c.receive.ensures.went (c.receive.ensures.over ∙ over _);
+            c.receive.ensures.came c.receive.ensures.went (c.receive.ensures.over ∙ over _) c.receive.ensures.hung_up;
       },
+      tt,
     )

@@ -1,5 +1,9 @@
+use Rattle.std.proofs.Common.{◌≡◌}
 use Rattle.hall_http.specs.Crowd.{AnswersNoMore}
 use Rattle.hall_http.proofs.clients.Clients.finish.Given as goal
 
 abbrev pub invariant-loop-place : goal.invariant-loop-place
-invariant-loop-place g l = AnswersNoMore g.P.Peer.traffic l.fn.self l.self
+invariant-loop-place g l = record {
+  kept : AnswersNoMore g.P.Peer.traffic l.fn.self l.self;
+  gone : l.self.gone ≡ l.fn.self.gone;
+}

@@ -13,8 +13,8 @@ finish_at-requires g c =
           (read_at c.args.self.now.places.items c.args.place c.index_mut.result.now (Some k) inside c.index_mut.ensures.value is),
     )
 
-pub returns : goal.returns
-returns g c =
+pub returns-clause-kept : goal.returns-clause-kept
+returns-clause-kept g c =
     let inside : c.args.place < length c.args.self.now.places.items =
     omega (arith, c.if-place-len.false, c.len.ensures, c.args.self.now.places.ok.0) in
     keep_place g.P.Peer.traffic c.args.self.now c.args.place inside c.index_mut.result.now c.finish_at.new.place

@@ -1,10 +1,49 @@
-use Rattle.std.proofs.Common.{◌∙◌, ap, arith, sym, refl, Some, Option, inl, ◌<◌, length}
+use Rattle.std.proofs.Common.{◌∙◌, ap, arith, sym, refl, None, Some, Option, inl, inr, ◌<◌, length}
+use Rattle.std.proofs.lemmas.List.{get_or-set_same, get_or_past}
 use Rattle.std.specs.Prelude.{slice_set}
 use Rattle.std.specs.Vec.{with_item}
 use Rattle.hall_http.specs.declared.client.Client.{Client}
 use Rattle.hall_http.proofs.Crowds.{kept_gone, keep_place, still_free}
 use Rattle.hall_http.proofs.Numbers.{read_at}
 use Rattle.hall_http.proofs.clients.Clients.forget.Goals as goal
+
+pub returns-then-place-len-clause-none : goal.returns-then-place-len-clause-none
+returns-then-place-len-clause-none g c =
+    get_or_past c.args.self.now.places.items c.args.place None
+    (omega (arith, c.if-place-len.true, c.len.ensures))
+
+pub returns-then-place-len-clause-lost : goal.returns-then-place-len-clause-lost
+returns-then-place-len-clause-lost g c = inl refl
+
+pub returns-in_default-clause-none : goal.returns-in_default-clause-none
+returns-in_default-clause-none g c =
+    get_or-set_same c.args.self.now.places.items c.args.place c.take_at.new.place None
+    (omega (arith, c.if-place-len.false, c.len.ensures, c.args.self.now.places.ok.0))
+    ∙ c.take_at.ensures.free
+
+pub returns-in_default-clause-lost : goal.returns-in_default-clause-lost
+returns-in_default-clause-lost g c = inl refl
+
+pub returns-clause-none : goal.returns-clause-none
+returns-clause-none g c =
+    get_or-set_same c.args.self.now.places.items c.args.place c.take_at.new.place None
+    (omega (arith, c.if-place-len.false, c.len.ensures, c.args.self.now.places.ok.0))
+    ∙ c.take_at.ensures.free
+
+pub returns-clause-lost : goal.returns-clause-lost
+returns-clause-lost g c =
+    let inside : c.args.place < length c.args.self.now.places.items =
+    omega (arith, c.if-place-len.false, c.len.ensures, c.args.self.now.places.ok.0) in
+    inr (
+      c.new-closed.result,
+      (
+        c.in-Some.client,
+        read_at c.args.self.now.places.items c.args.place c.index_mut.result.now (Some c.in-Some.client) inside
+            c.index_mut.ensures.value (sym c.take_at.ensures.taken ∙ c.in-Some.is),
+        sym (ap (λ (p : g.row.P.Denot). (g.P.Peer.traffic p).number) c.new-closed.ensures),
+      ),
+      c.and-self.ensures,
+    )
 
 pub returns-in_default-clause-kept : goal.returns-in_default-clause-kept
 returns-in_default-clause-kept g c =
@@ -30,7 +69,10 @@ returns-clause-kept g c =
             places = with_item c.args.self.now.places c.args.place c.take_at.new.place;
             gone = c.and-self.result;
           })
-          c.new-closed.result (Some c.args.place) c.new-closed.ensures (λ none. absurd cc)
+          c.new-closed.result (c.args.departure, c.args.place) c.new-closed.ensures
+          (c.requires c.in-Some.client
+          (read_at c.args.self.now.places.items c.args.place c.index_mut.result.now (Some c.in-Some.client) inside
+          c.index_mut.ensures.value (sym c.take_at.ensures.taken ∙ c.in-Some.is)))
           (ap (λ (o : Option (Client g.row.P.Denot)). slice_set c.args.self.now.places.items c.args.place o) c.take_at.ensures.free)
           c.and-self.ensures,
     )

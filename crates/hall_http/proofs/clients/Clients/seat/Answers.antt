@@ -1,13 +1,20 @@
-use Rattle.std.proofs.Common.{◌∙◌, ap, arith, None, ◌<◌, length}
+use Rattle.std.proofs.Common.{◌∙◌, ap, arith, inl, refl, None, ◌<◌, length}
 use Rattle.hall_http.proofs.Crowds.{comes_seated, kept_seated}
 use Rattle.hall_http.proofs.Numbers.{read_at, not_some}
 use Rattle.hall_http.proofs.clients.Clients.seat.Goals as goal
 
-pub returns-then-place-len : goal.returns-then-place-len
-returns-then-place-len g c = c.turn_away.ensures c.args.place
+pub returns-clause-receives : goal.returns-clause-receives
+returns-clause-receives g c =
+    let inside : c.args.place < length c.args.self.now.places.items =
+    omega (arith, c.if-place-len.false, c.len.ensures, c.args.self.now.places.ok.0) in
+    inl (
+      read_at c.args.self.now.places.items c.args.place c.index.result.now None inside c.index.ensures
+          (not_some _ c.if-is_some.ensures),
+      refl,
+    )
 
-pub returns : goal.returns
-returns g c =
+pub returns-clause-admits : goal.returns-clause-admits
+returns-clause-admits g c =
     let inside : c.args.place < length c.args.self.now.places.items =
     omega (arith, c.if-place-len.false, c.len.ensures, c.args.self.now.places.ok.0) in (
       comes_seated g.P.Peer.traffic c.args.self.now c.args.place inside c.new.result c.args.peer c.new.ensures.peer,

@@ -1,11 +1,18 @@
-use Rattle.std.proofs.Common.{arith, ◌<◌, Some, length}
-use Rattle.hall_http.proofs.Crowds.{serves_none, turn_place}
+use Rattle.std.proofs.Common.{◌∙◌, arith, ◌<◌, ◌≤◌, None, Some, length, sym}
+use Rattle.std.proofs.lemmas.List.{get_or_past}
+use Rattle.hall_http.proofs.Crowds.{serves_none, turn_over, turn_place}
 use Rattle.hall_http.proofs.Numbers.{read_at}
 use Rattle.hall_http.proofs.clients.Clients.turn.Goals as goal
 
-pub returns-then-place-len : goal.returns-then-place-len
-returns-then-place-len g c =
+pub returns-then-place-len-clause-serves : goal.returns-then-place-len-clause-serves
+returns-then-place-len-clause-serves g c =
     serves_none g.P.Peer.traffic _ _ _ _
+
+pub returns-then-place-len-clause-over : goal.returns-then-place-len-clause-over
+returns-then-place-len-clause-over g c = λ k at.
+    let past : length c.args.self.now.places.items ≤ c.args.place = omega (arith, c.if-place-len.true, c.len.ensures) in
+    let clash = sym (get_or_past c.args.self.now.places.items c.args.place None past) ∙ at in
+    absurd cc
 
 pub turn_at-requires : goal.turn_at-requires
 turn_at-requires g c =
@@ -17,9 +24,16 @@ turn_at-requires g c =
           (read_at c.args.self.now.places.items c.args.place c.index_mut.result.now (Some k) inside c.index_mut.ensures.value is),
     )
 
-pub returns : goal.returns
-returns g c =
+pub returns-clause-serves : goal.returns-clause-serves
+returns-clause-serves g c =
     let inside : c.args.place < length c.args.self.now.places.items =
     omega (arith, c.if-place-len.false, c.len.ensures, c.args.self.now.places.ok.0) in
     turn_place g.P.Peer.traffic c.args.self.now c.args.place inside c.index_mut.result.now c.turn_at.new.place
-    c.index_mut.ensures.value _ _ _ c.turn_at.ensures
+    c.index_mut.ensures.value _ _ _ _ c.turn_at.ensures
+
+pub returns-clause-over : goal.returns-clause-over
+returns-clause-over g c =
+    let inside : c.args.place < length c.args.self.now.places.items =
+    omega (arith, c.if-place-len.false, c.len.ensures, c.args.self.now.places.ok.0) in
+    turn_over g.P.Peer.traffic c.args.self.now c.args.place inside c.index_mut.result.now c.turn_at.new.place
+    c.index_mut.ensures.value _ _ _ _ c.turn_at.ensures

@@ -1,11 +1,14 @@
-use Rattle.std.proofs.Common.{refl, inl}
+use Rattle.std.proofs.Common.{refl, inl, inr}
 use Rattle.hall_http.proofs.Crowds.{kept_away}
 use Rattle.hall_http.proofs.clients.Clients.turn_away.Goals as goal
 
-pub returns : goal.returns
-returns g c = λ place. (
+pub returns-clause-admits : goal.returns-clause-admits
+returns-clause-admits g c = (
   λ other l at. inl (l, at, refl),
   λ few many turns next kept.
-      kept_away g.P.Peer.traffic few many turns c.args.self.now kept _ c.new-closed.result _
-      (rw c.new-closed.ensures next) refl c.and-self.ensures (rw c.new-closed.ensures c.requires.came) (rw c.new-closed.ensures c.requires.went),
+      kept_away g.P.Peer.traffic few many turns c.args.self.now kept _ c.new-closed.result c.args.place
+      (rw c.new-closed.ensures next) refl c.and-self.ensures (rw c.new-closed.ensures c.requires),
 )
+
+pub returns-clause-receives : goal.returns-clause-receives
+returns-clause-receives g c = inr (c.new-closed.result, c.new-closed.ensures, c.and-self.ensures)

@@ -20,7 +20,9 @@ returns-in-Whole g c =
           refl,
           c.answer-answer.ensures.answers bytes lent,
           (λ on. c.answer-answer.ensures.goes_on (c.goes_on-goes_on.ensures.opened on)),
-          λ off. record { same = ap answer_text (c.goes_on-goes_on.ensures.shut off) },
+          λ off.
+              let shut = c.goes_on-goes_on.ensures.shut off in
+              (record { same = ap answer_text shut }, c.answer-answer.ensures.shut bytes lent shut),
         ),
       );
       reply = refl;

@@ -25,3 +25,10 @@ returns-in-None-clause-answers g c = λ bytes lent. rw c.in-None.is (record {
 
 pub returns-in-None-clause-goes_on : goal.returns-in-None-clause-goes_on
 returns-in-None-clause-goes_on g c = λ stays told. inl refl
+
+pub returns-in-Some-clause-shut : goal.returns-in-Some-clause-shut
+returns-in-Some-clause-shut g c = λ bytes lent shut.
+    rw c.in-Some.is ((λ none. absurd cc), c.answer_raw_request-answer.ensures.shut bytes lent shut)
+
+pub returns-in-None-clause-shut : goal.returns-in-None-clause-shut
+returns-in-None-clause-shut g c = λ bytes lent shut. absurd cc

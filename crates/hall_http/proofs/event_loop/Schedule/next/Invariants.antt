@@ -1,0 +1,5 @@
+use Rattle.hall_http.specs.Seats.{AreStill}
+use Rattle.hall_http.proofs.event_loop.Schedule.next.Given as goal
+
+abbrev pub invariant-loop-round : goal.invariant-loop-round
+invariant-loop-round g l = AreStill l.fn.self.places l.self.places
