@@ -88,3 +88,6 @@ pub mod MigrationLemmas
 pub mod FilledWorlds
 pub mod CanonicalTexts
 pub mod Laws
+pub mod CopyLemmas
+pub mod BadRowLemmas
+pub mod OpenedRead

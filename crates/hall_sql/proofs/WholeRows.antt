@@ -16,6 +16,7 @@ use Rattle.hall_policy.specs.declared.record.AnswerRow.{AnswerRow}
 use Rattle.hall_policy.specs.declared.record.ProtestRow.{ProtestRow}
 use Rattle.hall_policy.proofs.Orders.{text_total, same_texts, puzzle_total, same_puzzle_keys, answer_total, same_answer_keys, protest_total, same_protest_keys}
 use Rattle.hall_store.specs.Maps.{empty_world}
+use Rattle.hall_store.specs.Whole.{AreUnderOwnKeys}
 use Rattle.hall_sql.specs.declared.rows.Rows.{Rows}
 use Rattle.hall_sql.specs.Migrate.{row_count}
 use Rattle.hall_sql.specs.Rows.{answer_of, kept, person_of, protest_of, puzzle_row_of, round_of, world_of}
@@ -52,6 +53,16 @@ rows_of trees rows people puzzles heads places answers protests = record {
   places = sym places;
   answers = entries_listed answer_total same_answer_keys (λ (x : AnswerRow). x.key) answer_of (trees 9) rows.answers.items answers;
   protests = entries_listed protest_total same_protest_keys (λ (x : ProtestRow). x.key) protest_of (trees 12) rows.protests.items protests;
+}
+
+-- each row of the world stands under its own key
+pub own_keys : (trees : Trees) → AreUnderOwnKeys (world_of trees)
+own_keys trees = record {
+  people = entries_listed text_total same_texts (λ (x : Person). x.name) person_of (trees 0) _ refl;
+  puzzles = entries_listed puzzle_total same_puzzle_keys (λ (x : PuzzleRow). x.key) puzzle_row_of (trees 3) _ refl;
+  rounds = entries_listed text_total same_texts (λ (x : Round). x.id) round_of (trees 5) _ refl;
+  answers = entries_listed answer_total same_answer_keys (λ (x : AnswerRow). x.key) answer_of (trees 9) _ refl;
+  protests = entries_listed protest_total same_protest_keys (λ (x : ProtestRow). x.key) protest_of (trees 12) _ refl;
 }
 
 -- testers don't count

@@ -30,3 +30,7 @@ pub mod AllRead
 pub mod WholeRows
 pub mod Migrate
 pub mod Fill
+pub mod PathCalls
+pub mod Copied
+pub mod BadRows
+pub mod OpenedRead

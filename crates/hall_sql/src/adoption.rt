@@ -16,7 +16,7 @@ use sqlite::{Alter, Connection};
 use sqlite_schema::schema::Schema;
 
 /// There is neither a table nor an index nor a view.
-fn has_nothing(schema: &Schema) -> bool
+pub(crate) fn has_nothing(schema: &Schema) -> bool
     ensures is { IsTrue result → schema.now ≡ no_schema }
     ensures only { schema.now ≡ no_schema → IsTrue result }
 {

@@ -3,15 +3,21 @@
 
 mod adoption;
 mod answers;
+mod bad_rows;
 mod calls;
+mod copied;
+mod copied_files;
 mod counts;
 mod feed;
 mod fill;
+mod given_back;
 mod law;
 mod make;
 mod migration;
 mod old_store;
 mod open;
+mod open_read;
+mod path_calls;
 mod people;
 mod protests;
 mod puzzles;
@@ -29,9 +35,18 @@ mod tables;
 mod testers;
 
 pub use adoption::{adopt, adopt_old};
+pub use bad_rows::{BadRows, is_whole};
+pub use copied::Copied;
+pub use copied_files::CopiedFiles;
+pub use given_back::GivenBack;
 pub use law::law_statements;
 pub use migration::{Migrated, migrate};
 pub use old_store::{OldStore, Taken};
-pub use open::{OpenFault, PathFiles, law_opened, open_at, open_in_memory, open_old, open_there};
+pub use open::{
+    OpenFault, PathFiles, give_back, law_opened, open_at, open_in_memory, open_old, open_there,
+};
+pub use open_read::{FoundHall, open_to_read};
+pub use path_calls::PathCall;
 pub use sql_store::{Declined, SqlStore};
 pub use system_files::SystemFiles;
+pub use tables::HallTable;

@@ -6,6 +6,8 @@ ghost use Rattle.hall_store.specs.Store.{IsSettled, Served};
 ghost use Rattle.hall_store.specs.declared.fault.StoreFault.TheVariants.{Failed};
 ghost use Rattle.hall_sql.specs.AdoptCause.{AdoptOldFails};
 ghost use Rattle.hall_sql.specs.AllRead.{AreAllRead};
+ghost use Rattle.hall_sql.specs.BadRows.{AreNone, AreToldBad};
+ghost use Rattle.hall_sql.specs.Made.{old_tables};
 ghost use Rattle.hall_sql.specs.Migrate.{old_content_of};
 ghost use Rattle.hall_sql.specs.OldStore.{IsTaken};
 ghost use Rattle.hall_sql.specs.Standing.{AddsNoOutcome, HasDeclined, IsTabled, RestedIn};
@@ -13,9 +15,11 @@ ghost use Rattle.hall_sql.specs.Tables.{old_schema};
 ghost use Rattle.hall_sql.specs.WholeRows.{AreRowsOf};
 
 use crate::adoption::adopt_old;
+use crate::bad_rows::{BadRows, bad_rows};
 use crate::calls::live;
 use crate::rows::{Rows, read_rows};
 use crate::sql_store::Declined;
+use crate::tables::OLD;
 use hall_store::StoreFault;
 use sqlite::{Alter, Connection};
 use std::alloc::Global;
@@ -88,6 +92,17 @@ impl<S: Alter + Drop> OldStore<S> {
     {
         self.in_old_hall();
         live(&self.conn);
+    }
+
+    /// The rows of the tables that are no record, table by table.
+    pub fn bad_rows(&mut self, alloc: Global) -> Result<Vec<BadRows>, StoreFault>
+        ensures rested { RestedIn old_schema (state S.Store self.old) (state S.Store self.new) }
+        ensures bad { HasCleanDisk (state S.Store self.new) → IfOk result (λ bad.
+            AreToldBad old_tables (state S.Store self.old) (state S.Store self.new) bad.items) }
+        ensures whole { HasCleanDisk (state S.Store self.new) → IfOk result (λ bad.
+            AreNone bad.items → AreAllRead old_schema (state S.Store self.old).now.trees) }
+    {
+        bad_rows(&mut self.conn, alloc, &OLD)
     }
 
     /// All rows of the tables.

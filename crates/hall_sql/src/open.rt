@@ -15,6 +15,7 @@ ghost use Rattle.sqlite_trees.specs.View.{IsClean};
 ghost use Rattle.hall_sql.specs.Opened.{IsCauseAt, IsCauseThere, IsOldAsked, OpensAt, OpensThere, Starts, StartsOld};
 ghost use Rattle.hall_sql.specs.Opened.{MemoryServes, OneWorldIsFound};
 
+use crate::given_back::GivenBack;
 use crate::old_store::{OldStore, Taken};
 use crate::schema::is_old_schema;
 use crate::sql_store::{Declined, SqlStore};
@@ -84,17 +85,17 @@ pub trait PathFiles<S: Alter> {
         ensures found { IfOk result (λ conn. IsFound (image_at path.now) (state S.Store conn)) }
         ensures refused { IfErr result (λ error. refuses self.old path.now error self.new) };
 
-    /// Takes a database back, as it was left, and leaves nothing in its place.
-    fn close(&mut self, left: &mut Option<Connection<S>>)
-        ensures closed { IfSome left.old (λ conn. closes self.old conn self.new) }
+    /// Takes a database back, as it was left, and leaves nothing in its place. No body can reach what it is given.
+    fn close(&mut self, left: &mut Option<GivenBack<Connection<S>>>)
+        ensures closed { IfSome left.old (λ back. closes self.old back.conn self.new) }
         ensures taken { left.new ≡ None };
 }
 
 /// Gives the files a database back, as it was left.
-fn give_back<S: Alter + Drop, F: PathFiles<S>>(files: &mut F, conn: Connection<S>)
+pub fn give_back<S: Alter + Drop, F: PathFiles<S>>(files: &mut F, conn: Connection<S>)
     ensures { F.closes files.old conn files.new }
 {
-    files.close(&mut Some(conn));
+    files.close(&mut Some(GivenBack::new(conn)));
 }
 
 /// The hall's tables in the files at the path, made there where there is none.

@@ -6,31 +6,40 @@ ghost use Rattle.sqlite.specs.State.{HasCleanDisk};
 ghost use Rattle.hall_policy.specs.World.{World};
 ghost use Rattle.hall_store.specs.declared.fault.StoreFault.TheVariants.{Failed};
 ghost use Rattle.hall_sql.specs.AdoptCause.{AdoptFails};
+ghost use Rattle.hall_sql.specs.AllRead.{AreAllRead};
+ghost use Rattle.hall_sql.specs.BadRows.{AreNone, AreToldBad};
+ghost use Rattle.hall_sql.specs.Made.{all_tables};
 ghost use Rattle.hall_sql.specs.Migrate.{Leaves, StopsAtWorld, Takes};
-ghost use Rattle.hall_sql.specs.Standing.{HasAdopted, HasDeclined, IsHall, MakesAtMost};
+ghost use Rattle.hall_sql.specs.Standing.{HasAdopted, HasDeclined, IsHall, MakesAtMost, Rested};
+ghost use Rattle.hall_sql.specs.Tables.{hall_schema};
 ghost use Rattle.hall_sql.specs.WholeRows.{AreRowsOf};
 
 use crate::adoption::adopt;
 use crate::answers::{
-    add_answer, answer, answers_given, answers_in, answers_of, has_answered, is_number_taken,
+    add_answer, all_answers, answer, answers_given, answers_in, answers_of, has_answered,
+    is_number_taken,
 };
+use crate::bad_rows::{BadRows, bad_rows};
 use crate::calls::live;
 use crate::feed::{feed_answers, feed_protests};
 use crate::migration::{Migrated, take_rows};
 use crate::people::{all_people, import, person, person_by_key};
 use crate::protests::{
-    add_protest, has_open_protest, protest, protests_in, protests_made, protests_of, rule_protest,
+    add_protest, all_protests, has_open_protest, protest, protests_in, protests_made, protests_of,
+    rule_protest,
 };
 use crate::puzzles::{all_puzzles, put_puzzle, puzzle, puzzles_of, puzzles_put, set_state};
+use crate::record::{Place, Tester};
 use crate::round_writes::{put_round, set_round_flag};
-use crate::rounds::{round, rounds, rounds_using};
+use crate::rounds::{all_places, round, rounds, rounds_using};
 use crate::rows::Rows;
-use crate::testers::testers_of;
+use crate::tables::ALL;
+use crate::testers::{all_testers, testers_of};
 use hall_policy::{
     AnswerKey, AnswerNumber, AnswerRow, Key, Name, People, Person, ProtestKey, ProtestRow,
     PuzzleKey, PuzzleNumber, PuzzleRow, PuzzleState, Round, RoundId, RoundRow, Ruling, Sink,
 };
-use hall_store::{ReadStore, RoundFlag, Store, StoreFault};
+use hall_store::{ReadStore, RoundFlag, Store, StoreFault, WholeStore};
 use sqlite::{Alter, Connection};
 use std::alloc::Global;
 use std::marker::Model;
@@ -90,6 +99,17 @@ impl<S: Alter + Drop> SqlStore<S> {
         ensures { IsHall (state S.Store self.now) }
     {
         let _conn = &self.conn;
+    }
+
+    /// The rows of the tables that are no record, table by table.
+    pub fn bad_rows(&mut self, alloc: Global) -> Result<Vec<BadRows>, StoreFault>
+        ensures rested { Rested (state S.Store self.old) (state S.Store self.new) }
+        ensures bad { HasCleanDisk (state S.Store self.new) → IfOk result (λ bad.
+            AreToldBad all_tables (state S.Store self.old) (state S.Store self.new) bad.items) }
+        ensures whole { HasCleanDisk (state S.Store self.new) → IfOk result (λ bad.
+            AreNone bad.items → AreAllRead hall_schema (state S.Store self.old).now.trees) }
+    {
+        bad_rows(&mut self.conn, alloc, &ALL)
     }
 
     /// Puts the rows in tables that hold nothing, and tells of tables that hold these or others.
@@ -571,6 +591,71 @@ impl<S: Alter + Drop> ReadStore for SqlStore<S> {
             (state S.Store self.new) sink.old sink.new) result }
     {
         feed_protests(&mut self.conn, alloc, round, sink)
+    }
+}
+
+impl<S: Alter + Drop> WholeStore for SqlStore<S> {
+    ghost use Rattle.std.specs.Prelude.{◌≡◌, IfOk, []};
+    ghost use Rattle.std.specs.FinMap.{entries, values};
+    ghost use Rattle.sqlite.specs.Held.{state};
+    ghost use Rattle.sqlite.specs.State.{HasCleanDisk};
+    ghost use Rattle.hall_store.specs.Store.{Kept, Served, Fails};
+    ghost use Rattle.hall_sql.specs.Cause.{ReadFails};
+    ghost use Rattle.hall_sql.specs.Rows.{answer_in, place_in, protest_in, tester_in};
+    ghost use Rattle.hall_sql.specs.Standing.{Rested, content_of};
+    ghost use Rattle.hall_sql.specs.declared.answers.TheConstants.{ALL_ANSWERS};
+    ghost use Rattle.hall_sql.specs.declared.protests.TheConstants.{ALL_PROTESTS};
+    ghost use Rattle.hall_sql.specs.declared.rounds.TheConstants.{ALL_PLACES};
+    ghost use Rattle.hall_sql.specs.declared.testers.TheConstants.{ALL_TESTERS};
+
+    fn under_own_keys(&self) {}
+
+    fn all_places(&mut self, alloc: Global) -> Result<Vec<Place>, StoreFault>
+        ensures kept { Kept (content_of (state S.Store self.old)) (content_of (state S.Store self.new)) }
+        ensures rested { Rested (state S.Store self.old) (state S.Store self.new) }
+        ensures served { Served (content_of (state S.Store self.new)) result
+            (λ world places. places.items ≡ entries world.places) }
+        ensures fault { Fails (Unit {0}) result }
+        ensures cause { HasCleanDisk (state S.Store self.new) → Fails
+            (ReadFails place_in ALL_PLACES.now [] (state S.Store self.old) (state S.Store self.new)) result }
+    {
+        all_places(&mut self.conn, alloc)
+    }
+
+    fn all_testers(&mut self, alloc: Global) -> Result<Vec<Tester>, StoreFault>
+        ensures kept { Kept (content_of (state S.Store self.old)) (content_of (state S.Store self.new)) }
+        ensures rested { Rested (state S.Store self.old) (state S.Store self.new) }
+        ensures served { Served (content_of (state S.Store self.new)) result
+            (λ world testers. testers.items ≡ entries world.testers) }
+        ensures fault { Fails (Unit {0}) result }
+        ensures cause { HasCleanDisk (state S.Store self.new) → Fails
+            (ReadFails tester_in ALL_TESTERS.now [] (state S.Store self.old) (state S.Store self.new)) result }
+    {
+        all_testers(&mut self.conn, alloc)
+    }
+
+    fn all_answers(&mut self, alloc: Global) -> Result<Vec<AnswerRow>, StoreFault>
+        ensures kept { Kept (content_of (state S.Store self.old)) (content_of (state S.Store self.new)) }
+        ensures rested { Rested (state S.Store self.old) (state S.Store self.new) }
+        ensures served { Served (content_of (state S.Store self.new)) result
+            (λ world rows. rows.items ≡ values world.answers) }
+        ensures fault { Fails (Unit {0}) result }
+        ensures cause { HasCleanDisk (state S.Store self.new) → Fails
+            (ReadFails answer_in ALL_ANSWERS.now [] (state S.Store self.old) (state S.Store self.new)) result }
+    {
+        all_answers(&mut self.conn, alloc)
+    }
+
+    fn all_protests(&mut self, alloc: Global) -> Result<Vec<ProtestRow>, StoreFault>
+        ensures kept { Kept (content_of (state S.Store self.old)) (content_of (state S.Store self.new)) }
+        ensures rested { Rested (state S.Store self.old) (state S.Store self.new) }
+        ensures served { Served (content_of (state S.Store self.new)) result
+            (λ world rows. rows.items ≡ values world.protests) }
+        ensures fault { Fails (Unit {0}) result }
+        ensures cause { HasCleanDisk (state S.Store self.new) → Fails
+            (ReadFails protest_in ALL_PROTESTS.now [] (state S.Store self.old) (state S.Store self.new)) result }
+    {
+        all_protests(&mut self.conn, alloc)
     }
 }
 

@@ -8,7 +8,7 @@ use sqlite_schema::schema::{Action, Kind};
 
 /// A table of the hall.
 #[derive(Clone, Copy)]
-pub(crate) enum HallTable {
+pub enum HallTable {
     People,
     Puzzles,
     Rounds,

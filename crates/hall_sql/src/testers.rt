@@ -87,7 +87,10 @@ pub(crate) fn testers_of<S: Alter>(
 const ALL_TESTERS: &str = "SELECT round, name FROM testers ORDER BY round, name";
 
 /// All testers under their keys, in the order of the keys.
-fn all_testers<S: Alter>(conn: &mut Connection<S>, alloc: Global) -> Result<Vec<Tester>, StoreFault>
+pub(crate) fn all_testers<S: Alter>(
+    conn: &mut Connection<S>,
+    alloc: Global,
+) -> Result<Vec<Tester>, StoreFault>
     requires hall { IsHall (state S.Store conn.old) }
     ensures rested { Rested (state S.Store conn.old) (state S.Store conn.new) }
     ensures served { Served (content_of (state S.Store conn.new)) result
@@ -95,6 +98,8 @@ fn all_testers<S: Alter>(conn: &mut Connection<S>, alloc: Global) -> Result<Vec<
     ensures whole { HasCleanDisk (state S.Store conn.new) → IfOk result (λ _.
         AreRecords tester_in ALL_TESTERS.now [] (state S.Store conn.old)
         (state S.Store conn.new)) }
+    ensures cause { HasCleanDisk (state S.Store conn.new) → Fails
+        (ReadFails tester_in ALL_TESTERS.now [] (state S.Store conn.old) (state S.Store conn.new)) result }
 {
     let _schema = conn.schema();
     read(conn, alloc, ALL_TESTERS, &[])

@@ -1,0 +1,28 @@
+use Rattle.std.proofs.lemmas.Result.{IfOk-weaker}
+use Rattle.std.proofs.Common.{IfOk, subst}
+use Rattle.sqlite.specs.Held.{state}
+use Rattle.sqlite.specs.State.{HasCleanDisk}
+use Rattle.hall_sql.specs.AllRead.{AreAllRead}
+use Rattle.hall_sql.specs.BadRows.{AreNone, AreToldBad}
+use Rattle.hall_sql.specs.Made.{old_tables}
+use Rattle.hall_sql.specs.Tables.{old_schema}
+use Rattle.hall_sql.proofs.BadRowLemmas.{none_in_old}
+use Rattle.hall_sql.proofs.old_store.OldStore.bad_rows.Goals as goal
+
+pub invariant_of-self : goal.invariant_of-self
+invariant_of-self g c = (c.bad_rows.ensures.rested old_schema c.self.invariant).tabled
+
+pub returns-clause-rested : goal.returns-clause-rested
+returns-clause-rested g c = rw (← c.self.view_is) (c.bad_rows.ensures.rested old_schema c.self.invariant)
+
+pub returns-clause-bad : goal.returns-clause-bad
+returns-clause-bad g c =
+    let new = state g.S.Store c.bad_rows.new.conn in
+    subst (λ s. HasCleanDisk new → IfOk c.bad_rows.result (λ bad. AreToldBad old_tables (state g.S.Store s) new bad.items)) c.self.view_is
+    c.bad_rows.ensures.bad
+
+pub returns-clause-whole : goal.returns-clause-whole
+returns-clause-whole g c =
+    let new = state g.S.Store c.bad_rows.new.conn in
+    subst (λ s. HasCleanDisk new → IfOk c.bad_rows.result (λ bad. AreNone bad.items → AreAllRead old_schema (state g.S.Store s).now.trees)) c.self.view_is
+    (λ clean. IfOk-weaker c.bad_rows.result _ _ (λ bad told none. none_in_old _ bad.items told.1 none) (c.bad_rows.ensures.bad clean))

@@ -1,0 +1,29 @@
+use Rattle.std.proofs.lemmas.Result.{IfOk-weaker}
+use Rattle.std.proofs.Common.{IfOk, subst}
+use Rattle.sqlite.specs.Held.{state}
+use Rattle.sqlite.specs.State.{HasCleanDisk}
+use Rattle.hall_sql.specs.AllRead.{AreAllRead}
+use Rattle.hall_sql.specs.BadRows.{AreNone, AreToldBad}
+use Rattle.hall_sql.specs.Made.{all_tables}
+use Rattle.hall_sql.specs.Tables.{hall_schema}
+use Rattle.hall_sql.proofs.StoreLemmas.{rested_hall}
+use Rattle.hall_sql.proofs.BadRowLemmas.{none_in_hall}
+use Rattle.hall_sql.proofs.sql_store.SqlStore.bad_rows.Goals as goal
+
+pub invariant_of-self : goal.invariant_of-self
+invariant_of-self g c = (rested_hall c.self.invariant c.bad_rows.ensures.rested).tabled
+
+pub returns-clause-rested : goal.returns-clause-rested
+returns-clause-rested g c = rw (← c.self.view_is) (rested_hall c.self.invariant c.bad_rows.ensures.rested)
+
+pub returns-clause-bad : goal.returns-clause-bad
+returns-clause-bad g c =
+    let new = state g.S.Store c.bad_rows.new.conn in
+    subst (λ s. HasCleanDisk new → IfOk c.bad_rows.result (λ bad. AreToldBad all_tables (state g.S.Store s) new bad.items)) c.self.view_is
+    c.bad_rows.ensures.bad
+
+pub returns-clause-whole : goal.returns-clause-whole
+returns-clause-whole g c =
+    let new = state g.S.Store c.bad_rows.new.conn in
+    subst (λ s. HasCleanDisk new → IfOk c.bad_rows.result (λ bad. AreNone bad.items → AreAllRead hall_schema (state g.S.Store s).now.trees)) c.self.view_is
+    (λ clean. IfOk-weaker c.bad_rows.result _ _ (λ bad told none. none_in_hall _ bad.items told.1 none) (c.bad_rows.ensures.bad clean))
