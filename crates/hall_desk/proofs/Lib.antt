@@ -62,3 +62,16 @@ pub mod Certified
 pub mod GoingOn
 pub mod Wants
 pub mod Places
+pub mod Scans
+pub mod Asking
+pub mod Counting
+pub mod Judging
+pub mod Standing
+pub mod RoundLists
+pub mod Tellings
+pub mod StateTelling
+pub mod EachRow
+pub mod OwnRows
+pub mod WholeLists
+pub mod SaneTold
+pub mod WholeWorlds

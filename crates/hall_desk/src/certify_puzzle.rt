@@ -154,7 +154,11 @@ fn found_or_searched(
 }
 
 /// What the search of the puzzle finds in at most `budget` visits.
-fn find_state(alloc: Global, puzzle: &Puzzle, budget: u64) -> Result<FoundState, AllocError>
+pub(crate) fn find_state(
+    alloc: Global,
+    puzzle: &Puzzle,
+    budget: u64,
+) -> Result<FoundState, AllocError>
     ensures state { IfOk result (λ found. IsFound puzzle.now budget found.state) }
     ensures spent { IfOk result (λ found. HasSpent budget (Reply.Certify (state_name found.state)) found.visits) }
 {

@@ -2,10 +2,19 @@
 #![tactic(auto)]
 
 mod answers;
+mod ask;
+mod ask_answers;
+mod ask_people;
+mod ask_places;
+mod ask_protests;
+mod ask_puzzles;
+mod ask_rounds;
+mod ask_testers;
 mod census;
 mod certify_puzzle;
 mod desk;
 mod finding;
+mod group;
 mod handler;
 mod import;
 pub mod laws;
@@ -20,6 +29,7 @@ mod publish;
 mod put_puzzle;
 mod put_round;
 mod puzzle_search;
+mod ranges;
 mod read_puzzle;
 mod read_round;
 mod release;
@@ -28,17 +38,23 @@ mod released_rounds;
 mod reply;
 mod rows;
 mod rule_protest;
+mod sanity;
 mod search;
 mod seed;
+mod sentence;
+mod sentences;
 mod serving;
 mod solutions;
+mod states;
 mod step;
 mod submit;
 mod table;
 mod table_copy;
+mod tally;
 mod under_way;
 mod verdict;
 mod wanted;
+mod whole;
 
 pub use census::Census;
 pub use desk::Desk;
@@ -48,5 +64,8 @@ pub use reply::{
     TableText,
 };
 pub use rows::Rows;
+pub use sanity::{Checked, check};
 pub use search::certify;
+pub use sentence::{Breaches, Sentence, Spot};
+pub use states::States;
 pub use verdict::judge;

@@ -4,3 +4,4 @@ pub mod Caller
 pub mod Keyed
 pub mod Cache
 pub mod Maps
+pub mod Whole

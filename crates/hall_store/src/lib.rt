@@ -13,6 +13,7 @@ mod map_store;
 mod protest_reads;
 mod slot;
 mod store;
+mod whole;
 mod writes;
 
 pub use cached_store::CachedStore;
@@ -20,3 +21,4 @@ pub use change::{Change, RoundFlag};
 pub use fault::StoreFault;
 pub use map_store::MapStore;
 pub use store::{ReadStore, Store};
+pub use whole::{Place, Tester, WholeStore};

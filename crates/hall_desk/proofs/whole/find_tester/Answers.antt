@@ -1,0 +1,12 @@
+use Rattle.std.proofs.Common.{◌≡◌, ◌&&◌, ◌==◌, rules, tests}
+use Rattle.std.proofs.lemmas.Iterator.{YieldsList-from_slice}
+use Rattle.std.proofs.lemmas.Iterator.Search.{find_from_yields_List}
+use Rattle.hall_policy.specs.World.{same_text}
+use Rattle.hall_policy.specs.declared.record.Entry.{Entry}
+use Rattle.hall_policy.specs.declared.record.PlaceKey.{PlaceKey}
+use Rattle.hall_policy.specs.declared.record.TesterKey.{TesterKey}
+use Rattle.hall_desk.proofs.whole.find_tester.Goals as goal
+
+pub returns : goal.returns
+returns c =
+    find_from_yields_List (λ (row : TesterKey × Unit {0}). same_text row.0.round c.args.round.now && same_text row.0.name c.args.name.now) _ _ c.find.result c.find.ensures.ran (YieldsList-from_slice c.args.testers.now cc) (λ x b q k. search (rules, tests))
