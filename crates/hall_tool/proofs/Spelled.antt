@@ -9,9 +9,9 @@ use Rattle.hall_tool.specs.declared.pages.Page.{Page}
 use Rattle.hall_tool.specs.declared.pages.Page.TheVariants as pages
 use Rattle.hall_tool.specs.declared.words.Command.{Command}
 use Rattle.hall_tool.specs.declared.words.Command.TheVariants.{Judge, Solve, Init, Serve, Replay, Table, Migrate}
-use Rattle.hall_tool.specs.declared.words.Command.TheVariants.{Help, Version}
+use Rattle.hall_tool.specs.declared.words.Command.TheVariants.{Check, Help, Version}
 use Rattle.hall_tool.specs.declared.words.Numbers.{Numbers}
-use Rattle.hall_tool.specs.Words.{AreSpelled, AsksFor, IsNumber, IsTaken, SpellOneCommand}
+use Rattle.hall_tool.specs.Words.{AreSpelled, AsksFor, IsNumber, IsNumberIfAny, IsTaken, SpellOneCommand}
 use Rattle.hall_tool.specs.Words.{budgets, connection_limits, options_of, page_of, ports}
 use Rattle.hall_tool.proofs.Spelling.{asked_is, none_is_some, same_kind}
 
@@ -29,6 +29,8 @@ are_spelled = record {
   table = λ db round. inl (refl, (refl, refl, refl));
   migrate = λ from to. inl (refl, (refl, refl, refl));
   turned = λ from to. inl (refl, (refl, refl, refl));
+  check = λ db. inl (refl, (refl, refl, tt));
+  search = λ db text budget is. inl (refl, (refl, refl, is));
   help = inr (DisplayHelp, refl, (refl, refl));
   judge_help = inr (DisplayHelp, refl, (refl, refl));
   solve_help = inr (DisplayHelp, refl, (refl, refl));
@@ -37,6 +39,7 @@ are_spelled = record {
   replay_help = inr (DisplayHelp, refl, (refl, refl));
   table_help = inr (DisplayHelp, refl, (refl, refl));
   migrate_help = inr (DisplayHelp, refl, (refl, refl));
+  check_help = inr (DisplayHelp, refl, (refl, refl));
   version = inr (DisplayVersion, refl, refl);
 }
 
@@ -62,6 +65,10 @@ TakenBy pages.Table rows command =
 TakenBy pages.Migrate rows command =
     (from : Text) × (to : Text) × (first_of (codes "from") rows ≡ Some from) × (first_of (codes "to") rows ≡ Some to)
     × (command ≡ Migrate from to)
+TakenBy pages.Check rows command =
+    (db : Text) × (budget : Option ℕ) × (first_of (codes "db") rows ≡ Some db)
+    × IsNumberIfAny budgets (first_of (codes "budget") rows) budget
+    × (command ≡ Check db budget)
 
 taken_by : (page : Page) (rows : List Row) (command : Command) → IsTaken page rows command → TakenBy page rows command
 taken_by page rows Judge t = subst (λ p. TakenBy p rows Judge) (sym t) refl
@@ -76,6 +83,8 @@ taken_by page rows (Table db round) t =
     subst (λ p. TakenBy p rows (Table db round)) (sym t.0) (db, round, t.1, t.2, refl)
 taken_by page rows (Migrate from to) t =
     subst (λ p. TakenBy p rows (Migrate from to)) (sym t.0) (from, to, t.1, t.2, refl)
+taken_by page rows (Check db budget) t =
+    subst (λ p. TakenBy p rows (Check db budget)) (sym t.0) (db, budget, t.1, t.2, refl)
 taken_by page rows (Help asked) t = absurd t
 taken_by page rows Version t = absurd t
 
@@ -86,6 +95,15 @@ same_number numbers None m n s t = some_one (sym s ∙ t)
     some_one : {x y : ℕ} → Some x ≡ Some y → x ≡ y
     some_one e = cc
 same_number numbers (Some text) m n s t = s.1 ∙ sym t.1
+
+same_if_any : (numbers : Numbers) (text : Option Text) (m n : Option ℕ) → IsNumberIfAny numbers text m
+    → IsNumberIfAny numbers text n → m ≡ n
+same_if_any numbers None None None s t = refl
+same_if_any numbers None None (Some n) s t = absurd t
+same_if_any numbers None (Some m) n s t = absurd s
+same_if_any numbers (Some text) None n s t = absurd s
+same_if_any numbers (Some text) (Some m) None s t = absurd t
+same_if_any numbers (Some text) (Some m) (Some n) s t = ap Some (s.1 ∙ sym t.1)
 
 same_word : {given : Option Text} {l m : Text} → given ≡ Some l → given ≡ Some m → l ≡ m
 same_word s t = let e = sym s ∙ t in cc
@@ -115,6 +133,10 @@ one_by pages.Migrate rows one other s t =
     let from = same_word s.2 t.2 in
     let to = same_word s.3 t.3 in
     s.4 ∙ ap (λ f. Migrate f s.1) from ∙ ap (λ g. Migrate t.0 g) to ∙ sym t.4
+one_by pages.Check rows one other s t =
+    let db = same_word s.2 t.2 in
+    let budget = same_if_any budgets (first_of (codes "budget") rows) s.1 t.1 s.3 t.3 in
+    s.4 ∙ ap (λ d. Check d s.1) db ∙ ap (λ b. Check t.0 b) budget ∙ sym t.4
 
 one_asked : (page : Page) (kind : ErrorKind) (one other : Command) → AsksFor page kind one → AsksFor page kind other
     → one ≡ other

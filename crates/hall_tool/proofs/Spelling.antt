@@ -17,7 +17,7 @@ use Rattle.hall_tool.specs.declared.pages.Page.{Page}
 use Rattle.hall_tool.specs.declared.pages.Page.TheVariants as pages
 use Rattle.hall_tool.specs.declared.words.Command.{Command}
 use Rattle.hall_tool.specs.declared.words.Command.TheVariants.{Judge, Solve, Init, Serve, Replay, Table, Migrate}
-use Rattle.hall_tool.specs.declared.words.Command.TheVariants.{Help, Version}
+use Rattle.hall_tool.specs.declared.words.Command.TheVariants.{Check, Help, Version}
 use Rattle.hall_tool.specs.Pages.{line_of}
 use Rattle.hall_tool.specs.declared.words.WordsFault.{WordsFault}
 use Rattle.hall_tool.specs.declared.words.WordsFault.TheVariants.{Memory, Line}
@@ -35,9 +35,9 @@ differs a b unlike = go (bytes_eq a b) refl
 -- a first word that is no command's name
 pub no_command : {X : Type 0} (f : X → Text) (xs : List X) (x : X) → Some x ≡ slice_get xs 0
     → f x ≢ codes "judge" → f x ≢ codes "solve" → f x ≢ codes "init" → f x ≢ codes "serve" → f x ≢ codes "replay"
-    → f x ≢ codes "table" → f x ≢ codes "migrate" → pages.Hall ≡ page_of (map f xs)
-no_command f [] x e judge solve init serve replay table migrate = cc
-no_command f (y ∷ ys) x e judge solve init serve replay table migrate =
+    → f x ≢ codes "table" → f x ≢ codes "migrate" → f x ≢ codes "check" → pages.Hall ≡ page_of (map f xs)
+no_command f [] x e judge solve init serve replay table migrate check = cc
+no_command f (y ∷ ys) x e judge solve init serve replay table migrate check =
     let same : f x ≡ f y = ap f (ap (λ o. unwrap_or o x) e) in
     rw (
       ← same,
@@ -48,6 +48,7 @@ no_command f (y ∷ ys) x e judge solve init serve replay table migrate =
       differs (f x) (codes "replay") replay,
       differs (f x) (codes "table") table,
       differs (f x) (codes "migrate") migrate,
+      differs (f x) (codes "check") check,
     ) refl
 
 -- what holds of the value that clap's matches give for an option
@@ -75,6 +76,7 @@ no_budget rows none (Serve db port connections) t = let page = t.0 in cc
 no_budget rows none (Replay people) t = let page = t.0 in cc
 no_budget rows none (Table db round) t = let page = t.0 in cc
 no_budget rows none (Migrate from to) t = let page = t.0 in cc
+no_budget rows none (Check db budget) t = let page = t.0 in cc
 no_budget rows none (Help page) t = absurd t
 no_budget rows none Version t = absurd t
 
@@ -89,6 +91,7 @@ line_simple pages.Serve = refl
 line_simple pages.Replay = refl
 line_simple pages.Table = refl
 line_simple pages.Migrate = refl
+line_simple pages.Check = refl
 
 pub line_free : (page : Page) → is_simple_and_free (line_of page) ≡ true
 unfolding clap_on_literals
@@ -100,6 +103,7 @@ line_free pages.Serve = refl
 line_free pages.Replay = refl
 line_free pages.Table = refl
 line_free pages.Migrate = refl
+line_free pages.Check = refl
 
 one_fault : (page : Page) (words : List Text) → IsSingle (fault_of (line_of page) words)
 one_fault pages.Hall words =
@@ -118,6 +122,8 @@ one_fault pages.Table words =
     built_one (built (line_of pages.Table)).top (argument_words (built (line_of pages.Table)) words) refl
 one_fault pages.Migrate words =
     built_one (built (line_of pages.Migrate)).top (argument_words (built (line_of pages.Migrate)) words) refl
+one_fault pages.Check words =
+    built_one (built (line_of pages.Check)).top (argument_words (built (line_of pages.Check)) words) refl
 
 pub none_is_some : (k : ErrorKind) → ◌≡◌ {A = Kinds} [] (k ∷ []) → ⊥
 none_is_some k e = cc
@@ -135,6 +141,7 @@ asked_is page kind (Serve db port connections) asks = absurd asks
 asked_is page kind (Replay people) asks = absurd asks
 asked_is page kind (Table db round) asks = absurd asks
 asked_is page kind (Migrate from to) asks = absurd asks
+asked_is page kind (Check db budget) asks = absurd asks
 asked_is page kind (Help asked) asks = inl (asks.1, ap Help asks.0)
 asked_is page kind Version asks = inr (asks, refl)
 

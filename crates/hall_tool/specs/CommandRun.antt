@@ -2,6 +2,7 @@
 use Rattle.std.specs.Prelude.{◌≡◌, ⊤, ℕ, Result}
 use Rattle.sqlite.specs.Held.{state}
 use Rattle.hall_sql.specs.Standing.{content_of}
+use Rattle.hall_tool.specs.CheckRun.{IsCheckAt}
 use Rattle.hall_tool.specs.Commands.{IsInitAt, IsReplayInMemory, IsTaskAt, tables}
 use Rattle.hall_tool.specs.Help.{help_text, version_text}
 use Rattle.hall_tool.specs.JudgeText.{IsJudgeRun}
@@ -14,7 +15,7 @@ use Rattle.hall_tool.specs.declared.fault.CommandFault.{CommandFault}
 use Rattle.hall_tool.specs.declared.fault.ToolFault.{ToolFault}
 use Rattle.hall_tool.specs.declared.words.Command.{Command}
 use Rattle.hall_tool.specs.declared.words.Command.TheVariants.{Judge, Solve, Init, Serve, Replay, Table, Migrate}
-use Rattle.hall_tool.specs.declared.words.Command.TheVariants.{Help, Version}
+use Rattle.hall_tool.specs.declared.words.Command.TheVariants.{Check, Help, Version}
 
 -- what was done ended so, and with it the command
 abbrev pub EndsAs : (Result ℕ ToolFault → Type 0) → Result ℕ CommandFault → Type 0
@@ -43,6 +44,11 @@ IsCommandRun all host known (Table db round) before after result =
 IsCommandRun all host known (Migrate from to) before after result =
     IsMigrateAt all known.contents from to (copied_over before) (copied_over after) result
     × (after.on.host ≡ before.on.host) × (after.on.stand.reader ≡ before.on.stand.reader)
+IsCommandRun all host known (Check db budget) before after result =
+    IsCheckAt all.sources known.contents db budget before.sources after.sources before.on.stand.writer
+    after.on.stand.writer result
+    × (after.on.stand.kept ≡ before.on.stand.kept) × (after.on.host ≡ before.on.host)
+    × (after.on.stand.reader ≡ before.on.stand.reader)
 IsCommandRun all host known (Help page) before after result =
     EndsAs (IsShown known.contents (help_text page) before.on.stand.writer after.on.stand.writer) result
     × (after.on.stand.kept ≡ before.on.stand.kept) × (after.on.host ≡ before.on.host)
@@ -52,7 +58,8 @@ IsCommandRun all host known Version before after result =
     × (after.on.stand.kept ≡ before.on.stand.kept) × (after.on.host ≡ before.on.host)
     × (after.on.stand.reader ≡ before.on.stand.reader)
 
--- each command but this one leaves what it is for it alone to take
-abbrev pub UnlessMigrate : Command → Type 0 → Type 0
-UnlessMigrate (Migrate from to) claim = ⊤
-UnlessMigrate other claim = claim
+-- each command but these two leaves what it is for them alone to take
+abbrev pub UnlessRead : Command → Type 0 → Type 0
+UnlessRead (Migrate from to) claim = ⊤
+UnlessRead (Check db budget) claim = ⊤
+UnlessRead other claim = claim

@@ -4,7 +4,7 @@ use Rattle.clap.specs.Words.{App, Rule, Text, new_app, new_rule, with_rule}
 use Rattle.clap.specs.Simple.{on_top}
 use Rattle.clap.specs.declared.builder.action.ArgAction.TheVariants.{Set}
 use Rattle.hall_tool.specs.declared.pages.Page.{Page}
-use Rattle.hall_tool.specs.declared.pages.Page.TheVariants.{Hall, Judge, Solve, Init, Serve, Replay, Table, Migrate}
+use Rattle.hall_tool.specs.declared.pages.Page.TheVariants.{Hall, Judge, Solve, Init, Serve, Replay, Table, Migrate, Check}
 
 -- the option `--NAME VALUE`: one value, any text, given once
 abbrev pub option_named : Text → Rule
@@ -30,3 +30,5 @@ line_of Table =
     with_rule (with_rule (new_app (codes "table")) (option_named (codes "db"))) (option_named (codes "round"))
 line_of Migrate =
     with_rule (with_rule (new_app (codes "migrate")) (option_named (codes "from"))) (option_named (codes "to"))
+line_of Check =
+    with_rule (with_rule (new_app (codes "check")) (option_named (codes "db"))) (option_named (codes "budget"))

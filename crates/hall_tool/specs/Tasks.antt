@@ -82,7 +82,7 @@ DoesServe {N} {L} {C} {P} {S} h content offered before after result =
     × h.host.tells listening offered.port offered.path census told × h.host.shows told clock
     × (((left : L) × (late : C) × (gone : List (Past P)) × (e : ServeAllEnd)
     × ((all : AreServed content h.clock.now_gives h.peer.traffic e (later, clock) (after.stand.kept, late) gone)
-    × AreAtTurns h.peer.traffic (since (h.sockets.said sockets) (h.sockets.said left)) all.turns)
+    × AreAtTurns h.peer.traffic gone (since (h.sockets.said sockets) (h.sockets.said left)) all.turns)
     × EndsServing h.sockets.is_over h.sockets.said h.peer.traffic e sockets left gone
     × h.host.ends told left gone after.host × (result ≡ serve_end e))
     ⊎ ((after.host ≡ told) × (after.stand.kept ≡ later) × (result ≡ Err (Tool Memory)))))

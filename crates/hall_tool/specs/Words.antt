@@ -10,7 +10,7 @@ use Rattle.hall_tool.specs.declared.pages.Page.{Page}
 use Rattle.hall_tool.specs.declared.pages.Page.TheVariants as pages
 use Rattle.hall_tool.specs.declared.words.Command.{Command}
 use Rattle.hall_tool.specs.declared.words.Command.TheVariants.{Judge, Solve, Init, Serve, Replay, Table, Migrate}
-use Rattle.hall_tool.specs.declared.words.Command.TheVariants.{Help, Version}
+use Rattle.hall_tool.specs.declared.words.Command.TheVariants.{Check, Help, Version}
 use Rattle.hall_tool.specs.declared.words.Numbers.{Numbers}
 use Rattle.hall_tool.specs.declared.words.WordsFault.{WordsFault}
 use Rattle.hall_tool.specs.declared.words.WordsFault.TheVariants.{Memory, Line}
@@ -27,7 +27,8 @@ page_of (name ∷ rest) =
     else (if bytes_eq name (codes "replay") then pages.Replay
     else (if bytes_eq name (codes "table") then pages.Table
     else (if bytes_eq name (codes "migrate") then pages.Migrate
-    else pages.Hall))))))
+    else (if bytes_eq name (codes "check") then pages.Check
+    else pages.Hall)))))))
 
 -- what is wrong with the words, or asked for by them in place of a run
 abbrev pub faults_of : List Text → Kinds
@@ -47,6 +48,12 @@ IsNumberWithin least most text number =
 abbrev pub IsNumber : Numbers → Option Text → ℕ → Type 0
 IsNumber numbers (Some text) number = IsNumberWithin numbers.least numbers.most text number
 IsNumber numbers None number = numbers.usual ≡ Some number
+
+-- a number that is named is one of those that the option takes; there is none where none is named
+abbrev pub IsNumberIfAny : Numbers → Option Text → Option ℕ → Type 0
+IsNumberIfAny numbers (Some text) (Some number) = IsNumberWithin numbers.least numbers.most text number
+IsNumberIfAny numbers None None = ⊤
+IsNumberIfAny numbers text other = ⊥
 
 -- the visits that a search may make: 0 to 1,000,000, and 200,000 where none are named
 abbrev pub budgets : Numbers
@@ -82,6 +89,10 @@ IsTaken page options (Migrate from to) =
     (page ≡ pages.Migrate)
     × (first_of (codes "from") options ≡ Some from)
     × (first_of (codes "to") options ≡ Some to)
+IsTaken page options (Check db budget) =
+    (page ≡ pages.Check)
+    × (first_of (codes "db") options ≡ Some db)
+    × IsNumberIfAny budgets (first_of (codes "budget") options) budget
 IsTaken page options other = ⊥
 
 -- what a fault of this kind asks for in place of a run: a page of help, or the version
@@ -111,6 +122,10 @@ IfLine (Line error) claim = claim
 -- no number is the one that the text stands for
 abbrev pub IsNoNumber : (ℕ → Type 0) → Type 0
 IsNoNumber Is = (number : ℕ) → Is number → ⊥
+
+-- a number is named, and none is the one that the text stands for
+abbrev pub IsNoNumberIfAny : Numbers → Option Text → Type 0
+IsNoNumberIfAny numbers text = (number : Option ℕ) → IsNumberIfAny numbers text number → ⊥
 
 -- no command is that of the page and the options
 abbrev pub TakesNone : Page → List Row → Type 0
@@ -150,6 +165,9 @@ pub record AreSpelled : Type 0 where
       → Spells (codes "migrate" ∷ (codes "--from=" ++ from) ∷ (codes "--to=" ++ to) ∷ []) (Migrate from to)
   pub turned : (from to : Text)
       → Spells (codes "migrate" ∷ (codes "--to=" ++ to) ∷ (codes "--from=" ++ from) ∷ []) (Migrate from to)
+  pub check : (db : Text) → Spells (codes "check" ∷ (codes "--db=" ++ db) ∷ []) (Check db None)
+  pub search : (db text : Text) (budget : ℕ) → IsNumberWithin 0 1000000 text budget
+      → Spells (codes "check" ∷ (codes "--db=" ++ db) ∷ (codes "--budget=" ++ text) ∷ []) (Check db (Some budget))
   pub help : Spells (codes "--help" ∷ []) (Help pages.Hall)
   pub judge_help : Spells (codes "judge" ∷ codes "--help" ∷ []) (Help pages.Judge)
   pub solve_help : Spells (codes "solve" ∷ codes "--help" ∷ []) (Help pages.Solve)
@@ -158,4 +176,5 @@ pub record AreSpelled : Type 0 where
   pub replay_help : Spells (codes "replay" ∷ codes "--help" ∷ []) (Help pages.Replay)
   pub table_help : Spells (codes "table" ∷ codes "--help" ∷ []) (Help pages.Table)
   pub migrate_help : Spells (codes "migrate" ∷ codes "--help" ∷ []) (Help pages.Migrate)
+  pub check_help : Spells (codes "check" ∷ codes "--help" ∷ []) (Help pages.Check)
   pub version : Spells (codes "--version" ∷ []) Version

@@ -9,7 +9,7 @@ use crate::fault::{CommandFault, ToolFault};
 use crate::task::{Init, Replay, Task};
 use hall_desk::Desk;
 use hall_grid::Counted;
-use hall_sql::{PathFiles, SqlStore, open_at, open_in_memory, open_there};
+use hall_sql::{PathFiles, SqlStore, give_back, open_at, open_in_memory, open_there};
 use hall_store::{CachedStore, Store};
 use sqlite::{Alter, MemStore};
 use std::alloc::Global;
@@ -47,7 +47,7 @@ fn task_in<S: Alter + Drop, F: PathFiles<S>, N, K: Task<N>, R: Read, W: Write>(
         (on_host host.old store reader.old writer.old) (on_host host.new last reader.new writer.new) result }
 {
     let (left, ended) = task_over(alloc, host, store, task, reader, writer);
-    files.close(&mut Some(left.into_connection()));
+    give_back(files, left.into_connection());
     ended
 }
 

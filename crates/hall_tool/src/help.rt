@@ -11,7 +11,7 @@ const HALL: &str = "\
 A contest hall: judges answers to puzzles, searches for the solutions of a puzzle, and holds rounds over HTTP, whose
 records stand in an SQLite database.
 
-Usage: hall judge|solve|init|serve|table|replay|migrate [OPTIONS] < FILE
+Usage: hall judge|solve|init|serve|table|replay|migrate|check [OPTIONS] < FILE
 
 Options:
   -h, --help     Print help
@@ -25,12 +25,13 @@ Commands:
   table    Write the table of a published round
   replay   Answer recorded requests
   migrate  Copy a database file of the first version into one of the second
+  check    Tell whether a database file is a hall's, whole, and sane
 
 `hall COMMAND --help` tells more of a command, and the page docs/HTTP.md what each code means, as `denied 4`,
 `refused E7 0` or `wrong U2`.
 
-Exit status: 0 done; 1 a wrong answer, or not one solution; 2 refused input, or denied; 3 a fault of memory, of a device
-or of the database, with `fault` on standard error and what to do; 64 a wrong command line.
+Exit status: 0 done; 1 a wrong answer, not one solution, or a broken file; 2 refused input, or denied; 3 a fault of
+memory, of a device or of the database, with `fault` on standard error and what to do; 64 a wrong command line.
 
 Example:
   $ hall judge < examples/judge/right.txt
@@ -185,6 +186,30 @@ Example:
   migrated 6
 ";
 
+const CHECK: &str = "\
+Tells whether a database file is a hall's, whole, and sane. Neither it nor its log is changed, and none is made.
+
+Writes a line of what is there, and then `sane`. Or it writes, for each row that is no record, and else for each
+sentence of a sane hall that is false, a line that begins `broken: ` and tells where: the first 20 of a kind, and how
+many more. Without a budget a solution that is stored is judged, and not whether it is the only one. With one each
+puzzle is searched anew; one whose search gives up is told as `not decided`. A file of the first version is read too.
+
+Usage: hall check --db F [--budget N]
+
+Options:
+      --db <F>      The database file F
+      --budget <N>  Search each puzzle anew, and visit at most N partial fillings: 0 to 1000000
+  -h, --help        Print help
+
+Exit status: 0 sane, as far as was searched; 1 broken; 3 where the file can't be read, is served, or is no hall's, with
+`fault` on standard error and what to do.
+
+Example:
+  $ hall check --db hall.db
+  people 6, puzzles 0, rounds 0, answers 0, protests 0
+  sane as far as is stored: whether a solution is the only one wasn't searched anew
+";
+
 /// The text of a page of help: what the command does, its options with their ranges and defaults, and an example.
 pub fn help_text(page: Page) -> &'static str
     ensures { result.now ≡ help_text page }
@@ -198,5 +223,6 @@ pub fn help_text(page: Page) -> &'static str
         Page::Replay => REPLAY,
         Page::Table => TABLE,
         Page::Migrate => MIGRATE,
+        Page::Check => CHECK,
     }
 }

@@ -10,7 +10,7 @@ use crate::show::show;
 use crate::task::command_end;
 use hall_grid::Counted;
 use hall_http::write_all;
-use hall_sql::{Migrated, OldStore, PathFiles, SqlStore, migrate, open_at, open_old};
+use hall_sql::{Migrated, OldStore, PathFiles, SqlStore, give_back, migrate, open_at, open_old};
 use hall_store::ReadStore;
 use sqlite::Alter;
 use std::alloc::Global;
@@ -79,7 +79,7 @@ fn migrate_into<S: Alter + Drop, T: Alter + Drop, F: PathFiles<T>, W: Write>(
     match open_at(files, to) {
         Ok(mut target) => {
             let ended = migrate_run(alloc, source, &mut target, writer);
-            files.close(&mut Some(target.into_connection()));
+            give_back(files, target.into_connection());
             command_end(ended)
         }
         Err(cause) => Err(CommandFault::Database(cause)),
@@ -104,7 +104,7 @@ pub fn migrate_at<S: Alter + Drop, E: PathFiles<S>, T: Alter + Drop, F: PathFile
     match open_old(sources, from) {
         Ok(Some(mut source)) => {
             let ended = migrate_into(alloc, files, &mut source, to, writer);
-            sources.close(&mut Some(source.into_connection()));
+            give_back(sources, source.into_connection());
             ended
         }
         Ok(None) => command_end(show("refused source\n", 2, writer)),

@@ -65,6 +65,7 @@ pub enum Page {
     Replay,
     Table,
     Migrate,
+    Check,
 }
 
 /// The command line that the page is of.
@@ -80,6 +81,7 @@ pub(crate) fn command_line<'a>(alloc: Global, page: Page) -> Result<Command<'a>,
         Page::Replay => replay_line(alloc),
         Page::Table => table_line(alloc),
         Page::Migrate => migrate_line(alloc),
+        Page::Check => check_line(alloc),
     }
 }
 
@@ -90,7 +92,7 @@ fn hall_line<'a>(alloc: Global) -> Command<'a>
     Command::new(alloc, "hall")
         .no_binary_name(true)
         .version(VERSION)
-        .override_usage("hall judge|solve|init|serve|table|replay|migrate [OPTIONS] < FILE")
+        .override_usage("hall judge|solve|init|serve|table|replay|migrate|check [OPTIONS] < FILE")
 }
 
 fn judge_line<'a>(alloc: Global) -> Command<'a>
@@ -150,6 +152,15 @@ fn migrate_line<'a>(alloc: Global) -> Result<Command<'a>, AllocError>
         .override_usage("hall migrate --from F --to G")
         .arg(option(alloc, &FROM))?
         .arg(option(alloc, &TO))
+}
+
+fn check_line<'a>(alloc: Global) -> Result<Command<'a>, AllocError>
+    ensures { IfOk result (λ line. app_of line ≡ line_of Page.Check) }
+{
+    Command::new(alloc, "check")
+        .override_usage("hall check --db F [--budget N]")
+        .arg(option(alloc, &DB))?
+        .arg(option(alloc, &BUDGET))
 }
 
 fn option<'a>(alloc: Global, named: &ValueOption) -> Arg<'a>

@@ -1,7 +1,7 @@
 //! The program: its words are read, the command that they spell is run, and its end is told.
 ghost use Rattle.std.specs.Prelude.{◌≡◌, ◌⊎◌, map, string_bytes};
 ghost use Rattle.std.specs.IoError.{error_kind};
-ghost use Rattle.hall_tool.specs.CommandRun.{IsCommandRun, UnlessMigrate};
+ghost use Rattle.hall_tool.specs.CommandRun.{IsCommandRun, UnlessRead};
 ghost use Rattle.hall_tool.specs.Machine.{all_files, files_of, host_of, machine, streams};
 ghost use Rattle.hall_tool.specs.Status.{status_of};
 ghost use Rattle.hall_tool.specs.WordsRun.{AreNoWords, AreWordsRun, IsEndTold, IsRefused, IsTold, IsWanting};
@@ -31,7 +31,7 @@ const NO_TEXT: &str = "error: a word is no text\n";
 /// fault it is told on `error`, on two lines, that there is one and what to do; words that spell no command are refused
 /// there. Where `error` fails, the status is the same.
 pub fn run_words<M: Machine>(alloc: Global, parts: &mut Parts<M>, words: &[String]) -> u8
-    ensures { AreWordsRun (λ command ended. UnlessMigrate command (parts.new.sources ≡ parts.old.sources)
+    ensures { AreWordsRun (λ command ended. UnlessRead command (parts.new.sources ≡ parts.old.sources)
         × IsCommandRun (all_files (files_of M.Old.Store M.Sources.PathFiles) (files_of M.Kept.Store M.Files.PathFiles))
         (host_of M.Host.Host M.Host.Sockets.Sockets M.Host.Sockets.Peer.Peer M.Host.Clock.Clock)
         (streams M.Input.remaining M.Output.contents) command

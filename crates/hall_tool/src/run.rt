@@ -1,8 +1,9 @@
 //! One command, run over files, an input and an output.
 ghost use Rattle.std.specs.Prelude.{◌≡◌};
-ghost use Rattle.hall_tool.specs.CommandRun.{IsCommandRun, UnlessMigrate};
+ghost use Rattle.hall_tool.specs.CommandRun.{IsCommandRun, UnlessRead};
 ghost use Rattle.hall_tool.specs.Machine.{all_files, files_of, host_of, machine, streams};
 
+use crate::check::check_at;
 use crate::commands::{init_at, replay_in_memory, task_at};
 use crate::fault::CommandFault;
 use crate::help::{VERSION, help_text};
@@ -44,7 +45,7 @@ pub fn run_command<
         command.now
         (machine sources.old host.old files.old input.old output.old)
         (machine sources.new host.new files.new input.new output.new) result }
-    ensures sources { UnlessMigrate command.now (sources.new ≡ sources.old) }
+    ensures sources { UnlessRead command.now (sources.new ≡ sources.old) }
 {
     match command {
         Command::Judge => command_end(judge_run(alloc, input, output)),
@@ -78,6 +79,7 @@ pub fn run_command<
         Command::Migrate { from, to } => {
             migrate_at(alloc, sources, files, from.as_str(), to.as_str(), output)
         }
+        Command::Check { db, budget } => check_at(alloc, sources, db.as_str(), *budget, output),
         Command::Help(page) => command_end(show_run(help_text(*page), output)),
         Command::Version => command_end(show_run(VERSION, output)),
     }

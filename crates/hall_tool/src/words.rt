@@ -1,8 +1,8 @@
 //! The words of the command line.
 ghost use Rattle.std.specs.Prelude.{◌≡◌, ◌≤◌, IfOk, IfErr, IfSome, MatchOption, None, Some, map, string_bytes};
 ghost use Rattle.clap.specs.Words.{first_of, found_of, kind_of, rows_of};
-ghost use Rattle.hall_tool.specs.Words.{IfLine, SpellsNone, IsNumber, IsNumberWithin, Spells, page_of};
-ghost use Rattle.hall_tool.specs.Words.{IsNoNumber, IsTaken, TakesNone, AsksFor, AsksNone};
+ghost use Rattle.hall_tool.specs.Words.{IfLine, SpellsNone, IsNumber, IsNumberIfAny, IsNumberWithin, Spells, page_of};
+ghost use Rattle.hall_tool.specs.Words.{IsNoNumber, IsNoNumberIfAny, IsTaken, TakesNone, AsksFor, AsksNone};
 
 use crate::pages::{
     BUDGET, CONNECTIONS, DB, FROM, PEOPLE, PORT, Page, ROUND, TO, ValueOption, command_line,
@@ -77,6 +77,12 @@ pub enum Command {
         from: Word,
         to: Word,
     },
+    /// Check the database file at the path: whether it is a hall's, whole, and sane; with a budget, each puzzle is
+    /// searched anew in at most so many visits, 0 to 1,000,000.
+    Check {
+        db: Word,
+        budget: Option<u64>,
+    },
     /// Show a page of help.
     Help(Page),
     /// Show the version.
@@ -132,6 +138,7 @@ fn page_of(words: &[String]) -> Page
         "replay" => Page::Replay,
         "table" => Page::Table,
         "migrate" => Page::Migrate,
+        "check" => Page::Check,
         _ => Page::Hall,
     }
 }
@@ -155,6 +162,7 @@ fn taken<'a>(
         Page::Replay => replay_taken(alloc, line, matches),
         Page::Table => table_taken(alloc, line, matches),
         Page::Migrate => migrate_taken(alloc, line, matches),
+        Page::Check => check_taken(alloc, line, matches),
     }
 }
 
@@ -241,6 +249,19 @@ fn migrate_taken<'a>(
     Ok(Command::Migrate { from, to })
 }
 
+fn check_taken<'a>(
+    alloc: Global,
+    line: &mut clap::Command<'a>,
+    matches: &ArgMatches<'a>,
+) -> Result<Command, WordsFault>
+    ensures command { IfOk result (IsTaken Page.Check (rows_of (found_of matches.now))) }
+    ensures fault { IfErr result (λ fault. IfLine fault (TakesNone Page.Check (rows_of (found_of matches.now)))) }
+{
+    let db = word(alloc, line, matches, &DB)?;
+    let budget = number_if_any(alloc, line, matches, &BUDGET, &BUDGETS)?;
+    Ok(Command::Check { db, budget })
+}
+
 /// What words ask for that the line of the page doesn't take.
 fn asked(page: Page, error: Error) -> Result<Command, WordsFault>
     ensures command { IfOk result (AsksFor page (kind_of error)) }
@@ -291,6 +312,28 @@ fn number(
         },
         (None, Some(usual)) => Ok(usual),
         (None, None) => Err(missing(alloc, line, option)),
+    }
+}
+
+/// The number that the words give the option, if they give any.
+fn number_if_any(
+    alloc: Global,
+    line: &mut clap::Command<'_>,
+    matches: &ArgMatches<'_>,
+    option: &ValueOption,
+    numbers: &Numbers,
+) -> Result<Option<u64>, WordsFault>
+    ensures number { IfOk result
+        (IsNumberIfAny numbers.now (first_of option.now.name.now (rows_of (found_of matches.now)))) }
+    ensures fault { IfErr result (λ fault. IfLine fault
+        (IsNoNumberIfAny numbers.now (first_of option.now.name.now (rows_of (found_of matches.now))))) }
+{
+    match matches.get_str(option.name) {
+        Some(text) => match number_within(text, numbers.least, numbers.most) {
+            Some(number) => Ok(Some(number)),
+            None => Err(no_number(alloc, line, option, numbers, text)),
+        },
+        None => Ok(None),
     }
 }
 

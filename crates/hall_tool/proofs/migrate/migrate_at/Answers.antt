@@ -12,7 +12,7 @@ returns-in-Ok-Some g c = (
   rw c.in-Ok-Some.field-0-is at c.in-Ok-Some.ensures.asked,
   (
     c.migrate_into-ended.new.source,
-    rw c.into_connection.ensures.same at c.close.ensures.closed,
+    rw c.into_connection.ensures.same at c.give_back.ensures,
     elim c.migrate_into-ended.ensures [
       | inl it ↦ it.8.rested
       | inr it ↦

@@ -8,7 +8,7 @@ returns-in-Ok g c = inl (
   c.open_at.new.files,
   c.migrate_run-ended.result,
   c.in-Ok.ensures.opened,
-  rw c.into_connection.ensures.same at c.close.ensures.closed,
+  rw c.into_connection.ensures.same at c.give_back.ensures,
   rw c.into_connection.ensures.same at c.into_connection.ensures.hall,
   c.in-Ok.ensures.starts,
   c.migrate_run-ended.ensures,

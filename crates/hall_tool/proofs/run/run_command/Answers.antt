@@ -19,3 +19,6 @@ pub returns-in-Migrate-clause-run : goal.returns-in-Migrate-clause-run
 returns-in-Migrate-clause-run g c =
     rw c.in-Migrate.is
     (rw (c.as_str-in-Migrate.ensures, c.as_str-in-Migrate-2.ensures) at c.migrate_at.ensures, refl, refl)
+
+pub returns-in-Check-clause-run : goal.returns-in-Check-clause-run
+returns-in-Check-clause-run g c = rw c.in-Check.is (rw c.as_str-in-Check.ensures at c.check_at.ensures, refl, refl, refl)

@@ -9,4 +9,4 @@ returns-in_default-as_str c =
     no_command string_bytes c.args.words.now c.in-Some.name.now c.in-Some.ensures.value
     (rw text at others.not-judge) (rw text at others.not-solve) (rw text at others.not-init)
     (rw text at others.not-serve) (rw text at others.not-replay) (rw text at others.not-table)
-    (rw text at others.not-migrate)
+    (rw text at others.not-migrate) (rw text at others.not-check)

@@ -39,7 +39,7 @@ returns g c = (
       _,
       _,
       c.in-Ok-serve_all.end,
-      c.in-Ok-serve_all.ensures.turned,
+      c.in-Ok-serve_all.ensures.served,
       c.in-Ok-serve_all.ensures.ended,
       c.end.ensures,
       c.serve_end.ensures,

@@ -1,0 +1,38 @@
+-- What is told of rows that are no record.
+use Rattle.std.specs.Prelude.{ℕ, zero, suc, ℤ, ◌-◌, List, [], ◌++◌, length, take, codes, decimal}
+use Rattle.std.specs.Fmt.{signed_decimal}
+use Rattle.std.specs.List.{flat_map}
+use Rattle.hall_sql.specs.declared.bad_rows.BadRows.{BadRows}
+use Rattle.hall_sql.specs.declared.tables.HallTable.{HallTable}
+use Rattle.hall_sql.specs.declared.tables.HallTable.TheVariants as table
+use Rattle.hall_tool.specs.JudgeText.{line_of}
+
+-- the table's name in the database
+abbrev pub table_name : HallTable → List ℕ
+table_name table.People = codes "people"
+table_name table.Puzzles = codes "puzzles"
+table_name table.Rounds = codes "rounds"
+table_name table.Places = codes "round_puzzles"
+table_name table.Answers = codes "answers"
+table_name table.Protests = codes "protests"
+table_name table.Testers = codes "testers"
+
+-- the row of the table that has this rowid, on a line
+abbrev pub row_line : HallTable → ℤ → List ℕ
+row_line table id =
+    codes "broken: a row is no record: " ++ table_name table ++ codes " rowid=" ++ line_of (signed_decimal id)
+
+-- how many more rows there are, on a line, if any
+abbrev pub rest_line : HallTable → ℕ → List ℕ
+rest_line table zero = []
+rest_line table (suc n) =
+    codes "broken: and " ++ (decimal (suc n) ++ (codes " more rows are no record: " ++ line_of (table_name table)))
+
+-- the first 20 rows of the table that are no record, and how many more there are
+abbrev pub bad_table : BadRows → List ℕ
+bad_table bad =
+    flat_map (row_line bad.table) (take 20 bad.rowids.items) ++ rest_line bad.table (length bad.rowids.items - 20)
+
+-- so of each table
+abbrev pub bad_text : List BadRows → List ℕ
+bad_text bad = flat_map bad_table bad
