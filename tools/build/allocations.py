@@ -97,7 +97,7 @@ PLACES = {
 ANSWERS = {
     "hall_http/src/answer.rt": (
         "unavailable(alloc, desk, request)",
-        "match step_bytes(alloc, desk, moment, request) { Ok(text) => answer_of(text), Err(_) => ",
+        "match step_bytes(alloc, desk, moment, request) { Ok(text) => answer_of(text, request), Err(_) => ",
     ),
 }
 # Where a failure of the store has no cause by contract (`can_fail`): what is called there has one.
