@@ -20,9 +20,9 @@ use sqlite::Alter;
 use std::alloc::Global;
 use std::io::{Read, Write};
 
-/// Runs the command over the files, the host, the input and the output. A database that is migrated is asked for among
-/// the files `sources`, which no other command asks for anything. The result is the exit status: as the command's own
-/// function gives it, and 0 for a page of help and the version.
+/// Runs the command over the files, the host, the input and the output. A database that is only read, to be migrated or
+/// checked, is asked for among the files `sources`, which no other command asks for anything. The result is the exit
+/// status: as the command's own function gives it, and 0 for a page of help and the version.
 pub fn run_command<
     O: Alter + Drop,
     E: PathFiles<O>,
