@@ -13,8 +13,8 @@ Lack Says [] count = count ≡ 0
 Lack Says (row ∷ rows) count =
     (Says row × Lack Says rows count) ⊎ (¬ (Says row) × ((rest : ℕ) × (count ≡ rest + 1) × Lack Says rows rest))
 
--- each place that is named is one of a row of which it is false, so many there are in all, and where none is named it is
--- true of each row
+-- each place that is named is one of a row of which it is false, so many there are in all, and where none is named it
+-- is true of each row
 pub record Finds {X : Type 0} (Says : X → Type 0) (spot_of : X → Spot) (rows : List X) (found : Breaches) : Type 0 where
   pub named : (spot : Spot) → Contains found.first.items spot →
       (row : X) × Contains rows row × (spot ≡ spot_of row) × ¬ (Says row)

@@ -1,5 +1,6 @@
 //! That the rows lie in the ranges of their types: what is read tells what its type keeps.
-ghost use Rattle.hall_policy.specs.Ranges.{AreRowsInRange, IsPerson, IsPuzzleKey, IsState, IsPuzzleRow, IsRound, IsEntry};
+ghost use Rattle.hall_policy.specs.Ranges.{AreRowsInRange, IsPerson, IsPuzzleKey, IsState, IsPuzzleRow, IsRound};
+ghost use Rattle.hall_policy.specs.Ranges.{IsEntry};
 ghost use Rattle.hall_policy.specs.Ranges.{IsName, IsAnswerRow, IsProtestRow, IsRuling};
 ghost use Rattle.std.specs.Prelude.{IfSome};
 ghost use Rattle.hall_desk.specs.Finds.{Each};

@@ -232,8 +232,8 @@ fn step_bytes<S: Store>(
     Ok(text)
 }
 
-/// The answer of this text to the request. One of 503, which no step of the hall is answered, is taken for a shut store's
-/// where the request asks anything of the store.
+/// The answer of this text to the request. One of 503, which no step of the hall is answered, is taken for a shut
+/// store's where the request asks anything of the store.
 fn answer_of(text: String, request: &Request) -> Answer
     ensures text { answer_text result ≡ string_bytes text }
     ensures goes_on { result ≢ Answer.Shut → IsNobodys request.now ⊎ (¬ (IsUnavailable (answer_text result))) }

@@ -397,8 +397,8 @@ impl<'r, N> Schedule<'r, N> {
         }
     }
 
-    /// Gives the newcomer the place, or lets it go where it can't be set up. As a socket it has the number after the one
-    /// before it.
+    /// Gives the newcomer the place, or lets it go where it can't be set up. As a socket it has the number after the
+    /// one before it.
     fn seat(&mut self, place: usize, mut stream: TcpStream) -> Option<Next<Socket>>
         requires { IsOpen self.old.places place }
         ensures { MayHandOut self.old.places result self.new.places }

@@ -45,8 +45,8 @@ pub trait Sockets {
     /// All connections that may come have come and gone.
     ghost is_over: { Self → Type 0 };
 
-    /// All that it said was to be done next, in order, how many newcomers it has handed out, and how many connections it
-    /// was asked for.
+    /// All that it said was to be done next, in order, how many newcomers it has handed out, and how many connections
+    /// it was asked for.
     ghost said: { Self → Said Self.Peer };
 
     /// Waits until something is to be done. A newcomer's number is how many there were before it.

@@ -35,8 +35,8 @@ type CopiedConnection<B> = Connection<FileStore<Copied<B>>>;
 /// The files of this machine, of which one database is read into memory, with its log, and opened there: what it held,
 /// `B` stands for. Until it is given back, no other program has the database open.
 ///
-/// As of `SystemFiles`, no clause ties a path to what the machine has there: `ask_copy`, which names the path that it is
-/// given, asks the system of that path. The history that is kept here tells which path was asked for by which call.
+/// As of `SystemFiles`, no clause ties a path to what the machine has there: `ask_copy`, which names the path that it
+/// is given, asks the system of that path. The history that is kept here tells which path was asked for by which call.
 #[derive(Drop)]
 pub struct CopiedFiles<'r, B: Start> {
     rt: &'r HostRuntime,
@@ -74,8 +74,8 @@ fn had<T>(found: io::Result<T>) -> Result<T, Error>
     }
 }
 
-/// The file at the path, to be read, and the lock that it may have: one that keeps all others away needs a file that may
-/// be written.
+/// The file at the path, to be read, and the lock that it may have: one that keeps all others away needs a file that
+/// may be written.
 fn opened(rt: &HostRuntime, path: &str) -> io::Result<(File, RangeLock)> {
     match OpenOptions::new().read(true).write(true).open(rt, path) {
         Ok(file) => Ok((beside_streams(file)?, RangeLock::Exclusive)),
@@ -83,8 +83,8 @@ fn opened(rt: &HostRuntime, path: &str) -> io::Result<(File, RangeLock)> {
     }
 }
 
-/// The same file, where it has the number of a standard stream under another: what is meant for a stream that was closed
-/// must not land in the database.
+/// The same file, where it has the number of a standard stream under another: what is meant for a stream that was
+/// closed must not land in the database.
 fn beside_streams(file: File) -> io::Result<File> {
     if file.as_raw_fd() <= LAST_STREAM {
         file.try_clone()

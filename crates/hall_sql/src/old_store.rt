@@ -55,8 +55,8 @@ impl<S: Alter> Model for OldStore<S> {
 }
 
 impl<S: Alter + Drop> OldStore<S> {
-    /// Takes over a connection with the tables of the version before. One with others, or one that is refused, is handed
-    /// back as it was.
+    /// Takes over a connection with the tables of the version before. One with others, or one that is refused, is
+    /// handed back as it was.
     pub fn over(mut conn: Connection<S>) -> Result<Taken<S>, Declined<S>>
         ensures taken { IfOk result (IsTaken S.Store conn) }
         ensures declined { IfErr result (λ declined. HasDeclined (state S.Store conn) (state S.Store declined.conn)) }

@@ -3,7 +3,8 @@ use Rattle.std.specs.Prelude.{ℕ, List}
 use Rattle.hall_tool.specs.declared.help.TheConstants.{HALL, JUDGE, SOLVE, INIT, SERVE, REPLAY, TABLE, MIGRATE, CHECK}
 use Rattle.hall_tool.specs.declared.help.TheConstants.{VERSION}
 use Rattle.hall_tool.specs.declared.pages.Page.{Page}
-use Rattle.hall_tool.specs.declared.pages.Page.TheVariants.{Hall, Judge, Solve, Init, Serve, Replay, Table, Migrate, Check}
+use Rattle.hall_tool.specs.declared.pages.Page.TheVariants.{Hall, Judge, Solve, Init, Serve, Replay, Table}
+use Rattle.hall_tool.specs.declared.pages.Page.TheVariants.{Migrate, Check}
 
 -- the page of the program, or of the command
 abbrev pub help_text : Page → List ℕ

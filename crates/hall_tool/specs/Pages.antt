@@ -4,7 +4,8 @@ use Rattle.clap.specs.Words.{App, Rule, Text, new_app, new_rule, with_rule}
 use Rattle.clap.specs.Simple.{on_top}
 use Rattle.clap.specs.declared.builder.action.ArgAction.TheVariants.{Set}
 use Rattle.hall_tool.specs.declared.pages.Page.{Page}
-use Rattle.hall_tool.specs.declared.pages.Page.TheVariants.{Hall, Judge, Solve, Init, Serve, Replay, Table, Migrate, Check}
+use Rattle.hall_tool.specs.declared.pages.Page.TheVariants.{Hall, Judge, Solve, Init, Serve, Replay, Table}
+use Rattle.hall_tool.specs.declared.pages.Page.TheVariants.{Migrate, Check}
 
 -- the option `--NAME VALUE`: one value, any text, given once
 abbrev pub option_named : Text → Rule
