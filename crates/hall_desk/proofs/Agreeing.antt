@@ -29,7 +29,8 @@ use Rattle.hall_store.specs.Store.{IsListing}
 use Rattle.hall_desk.specs.Judged.{IsVerdictOn}
 use Rattle.hall_desk.specs.Totals.{AreTotals}
 use Rattle.hall_desk.specs.Shown.{state_name, sees_all, sees_answer, shows_verdict, answer_line, told_verdict, ShowsRound, AreSolutions}
-use Rattle.hall_desk.specs.Step.{answer_row, StandsAlready, IsPutAnew, IsSearched, IsSettled, Allowed, FirstReply, Decided, IsAnswered}
+use Rattle.hall_desk.specs.Step.{answer_row, StandsAlready, IsPutAnew, IsSearched, IsSearchEnded, Allowed, FirstReply}
+use Rattle.hall_desk.specs.Step.{Decided, IsAnswered}
 use Rattle.hall_desk.specs.Step.{IsReadPuzzleStep, IsCertifyStep, IsReleaseStep, IsSubmitStep, IsAnswersStep, IsSolutionsStep, IsRuleProtestStep, IsPublishStep, IsTableStep}
 use Rattle.hall_desk.specs.Agreement.{AnswersAgree, StepsAgree}
 use Rattle.hall_desk.specs.declared.reply.Reply.{Reply}
@@ -73,9 +74,9 @@ module _ (world : World) (typed : IsWorld world) where
       IsCertifyStep world key budget found given new → IsCertifyStep world key budget again other next → One given other new next
   one_search key budget found again given other new next same (row, kept, a) (twin, stands, b) =
       let rows : row ≡ twin = one_row (get world.puzzles key) row twin kept stands in
-      outcome twin (subst (λ (r : PuzzleRow). IsSearched world key r budget found given new ⊎ IsSettled world r given new) rows a) b
+      outcome twin (subst (λ (r : PuzzleRow). IsSearched world key r budget found given new ⊎ IsSearchEnded world r given new) rows a) b
     where
-      outcome : (row : PuzzleRow) → IsSearched world key row budget found given new ⊎ IsSettled world row given new → IsSearched world key row budget again other next ⊎ IsSettled world row other next → One given other new next
+      outcome : (row : PuzzleRow) → IsSearched world key row budget found given new ⊎ IsSearchEnded world row given new → IsSearched world key row budget again other next ⊎ IsSearchEnded world row other next → One given other new next
       outcome row (inl a) (inl b) = (
         a.told ∙ ap (λ (s : PuzzleState). reply.Certify (state_name s)) same ∙ sym b.told,
         a.stored ∙ ap (λ (s : PuzzleState). record world { puzzles = insert world.puzzles key (record row { state = s }) }) same ∙ sym b.stored,

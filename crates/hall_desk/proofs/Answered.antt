@@ -14,14 +14,14 @@ use Rattle.hall_store.specs.Caller.{caller_of}
 use Rattle.hall_desk.specs.Shown.{told_verdict}
 use Rattle.hall_desk.specs.Step.{Step, FirstReply}
 use Rattle.hall_desk.specs.Promises.{RetriesAreAnswered}
-use Rattle.hall_desk.specs.Records.{Remains}
+use Rattle.hall_desk.specs.Records.{KeptRecords}
 use Rattle.hall_desk.specs.declared.reply.Reply.{Reply}
 use Rattle.hall_desk.specs.declared.reply.Reply.TheVariants as reply
 use Rattle.hall_desk.proofs.Tokens.{same_text_stands}
 use Rattle.hall_desk.proofs.Remaining.{remains_on, step_remains, records_stay}
 use Rattle.hall_desk.proofs.Retries.{repeats_at_six, accepted, same_caller, same_told, was_released, none_forbids}
 
-module _ (world later : World) (remains : Remains world later) (t u : ℕ) (key : Option (List ℕ)) (id : List ℕ) (number : ℕ) (token answer again : List ℕ)
+module _ (world later : World) (remains : KeptRecords world later) (t u : ℕ) (key : Option (List ℕ)) (id : List ℕ) (number : ℕ) (token answer again : List ℕ)
     (round : Round) (found : get world.rounds id ≡ Some round) (none : NoneBelow 6 world (caller_of later key) (action.Submit id number token answer) t)
     (person : Person) (is : caller_of later key ≡ Some person) (row : AnswerRow)
     (stands : get later.answers (record { entrant = person.name; round = id; number = number; token = token }) ≡ Some row)
@@ -62,8 +62,8 @@ module _ (world later : World) (remains : Remains world later) (t u : ℕ) (key 
 pub retries_are_answered : RetriesAreAnswered
 retries_are_answered world kept later t u key id number token answer again n told events first life =
     let h = accepted world kept t key id number token answer n told first in
-    let between : Remains kept later = records_stay kept later events life in
-    let remains : Remains world later = remains_on world kept later (step_remains world t (record { key = key; action = action.Submit id number token answer }) (reply.Submit n told) kept first) between in
+    let between : KeptRecords kept later = records_stay kept later events life in
+    let remains : KeptRecords world later = remains_on world kept later (step_remains world t (record { key = key; action = action.Submit id number token answer }) (reply.Submit n told) kept first) between in
     let same : caller_of later key ≡ caller_of world key = same_caller world later key h.person remains h.is in
     answers_again world later remains t u key id number token answer again h.round h.found
     (subst (λ (c : Option Person). NoneBelow 6 world c (action.Submit id number token answer) t) (sym same) h.none)

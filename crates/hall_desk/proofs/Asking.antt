@@ -1,7 +1,7 @@
 -- A sentence that is asked of one row more.
 use Rattle.std.proofs.Common.{◌≡◌, ◌≢◌, ◌⊎◌, ◌+◌, ◌<◌, ◌≤◌, ◌++◌, ℕ, zero, suc, List, [], ◌∷◌, length, take, slice_get, Contains, Some, inl, inr, refl, sym, ap, ◌∙◌, subst, arith, add-one}
 use Rattle.hall_store.proofs.Tests.{contained, placed}
-use Rattle.hall_desk.specs.Finds.{Finds, Lack, IsTold, IsNotedIn}
+use Rattle.hall_desk.specs.Finds.{Finds, Lack, IsBreachTold, IsNotedIn}
 use Rattle.hall_desk.specs.declared.sentence.Spot.{Spot}
 use Rattle.hall_desk.specs.declared.sentence.Breaches.{Breaches}
 
@@ -70,7 +70,7 @@ module _ {X : Type 0} where
   }
 
   -- what is found with one row more
-  pub finds_more : (P : X → Type 0) (spot_of : X → Spot) (xs : List X) (x : X) (old new : Breaches) → IsTold (P x) (spot_of x) old new → Finds P spot_of xs old → Finds P spot_of (xs ++ x ∷ []) new
+  pub finds_more : (P : X → Type 0) (spot_of : X → Spot) (xs : List X) (x : X) (old new : Breaches) → IsBreachTold (P x) (spot_of x) old new → Finds P spot_of xs old → Finds P spot_of (xs ++ x ∷ []) new
   finds_more P spot_of xs x old new (inl (has, kept)) finds = subst (λ (found : Breaches). Finds P spot_of (xs ++ x ∷ []) found) (sym kept) (record {
     named = λ spot among. let at = finds.named spot among in (at.0, among_front xs x at.0 at.1, at.2, at.3);
     whole = λ none row among. elim (first_or_later xs x row among) [

@@ -35,7 +35,7 @@ use Rattle.hall_desk.specs.Lookups.{IsReleasedRound}
 use Rattle.hall_desk.specs.Shown.{state_name}
 use Rattle.hall_desk.specs.Step.{Step, new_row, draft_of, answer_row, open_protest}
 use Rattle.hall_desk.specs.History.{Event, requested, seeded, Happens, History}
-use Rattle.hall_desk.specs.Records.{Remains}
+use Rattle.hall_desk.specs.Records.{KeptRecords}
 use Rattle.hall_desk.specs.Authorship.{HasAsked, IsAdmitted, MayWrite, HadPuzzle, IsPut, HadState, NoneIsPut, IsSearchedFor, IsFromSheet, HadRound, IsDrafted, IsPublishedRound, IsFlagged}
 use Rattle.hall_desk.specs.Authorship.{IsHandedIn, HadProtest, TakesProtests, IsProtested, HadRuling, IsRuledSo, RowsAreAuthored}
 use Rattle.hall_desk.specs.declared.reply.Reply.{Reply}
@@ -169,7 +169,7 @@ same_times round after same = (sym (ap (λ (r : Round). r.start) same), sym (ap 
 
 -- where a protest is taken, the round is released, over and not closed, and it stays so
 takes : (world later : World) (caller : Option Person) (id token : List ℕ) (number : ℕ) (text : List ℕ) (t : ℕ) → NoneBelow 21 world caller (action.Protest id token number text) t →
-    Remains world later → TakesProtests later id t
+    KeptRecords world later → TakesProtests later id t
 takes world later caller id token number text t none remains =
     let (round, kept, released) = released_found world caller (action.Protest id token number text) id refl (λ missing. (none rule.Missing (lit< tt)).0 ((2, lit< tt, refl), inl missing)) in
     let over : end_of round ≤ t = le_unless (end_of round) t (λ early. (none rule.NotEnded (lit< tt)).0 ((5, lit< tt, refl), (id, round, refl, kept, early))) in

@@ -2,7 +2,7 @@
 use Rattle.std.proofs.Common.{◌≡◌, ◌+◌, ◌<◌, ◌≤◌, ℕ, List, Some, Contains, get_or, length, slice_get, below_more, sym, ◌∙◌, subst, arith}
 use Rattle.std.proofs.lemmas.Option.{get_or_from_slice_get, slice_get_within}
 use Rattle.hall_store.proofs.Tests.{placed}
-use Rattle.hall_desk.specs.Finds.{Each}
+use Rattle.hall_desk.specs.Finds.{EveryRow}
 
 module _ {X : Type 0} (Says : X → Type 0) (rows : List X) where
   -- one row more
@@ -12,7 +12,7 @@ module _ {X : Type 0} (Says : X → Type 0) (rows : List X) where
       (λ x at_i. subst Says (is ∙ get_or_from_slice_get rows i x row at_i) here) k less other at
 
   -- all rows
-  pub each_done : (i : ℕ) → ((k : ℕ) (other : X) → k < i → slice_get rows k ≡ Some other → Says other) → length rows ≤ i → Each Says rows
+  pub each_done : (i : ℕ) → ((k : ℕ) (other : X) → k < i → slice_get rows k ≡ Some other → Says other) → length rows ≤ i → EveryRow Says rows
   each_done i before all row among =
       let at = placed rows row among in
       let low = slice_get_within rows at.0 row at.1 in

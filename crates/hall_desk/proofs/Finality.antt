@@ -31,11 +31,11 @@ use Rattle.hall_store.specs.Store.{is_of}
 use Rattle.hall_store.proofs.Inserts.{found_after}
 use Rattle.hall_store.proofs.Tests.{not_true}
 use Rattle.hall_desk.specs.Lookups.{IsReleasedRound}
-use Rattle.hall_desk.specs.Totals.{answers_by, protests_by, AreTotals, IsTableAt}
+use Rattle.hall_desk.specs.Totals.{round_answers_by, round_protests_by, AreTotals, IsTableAt}
 use Rattle.hall_desk.specs.Sane.{Sane}
 use Rattle.hall_desk.specs.Step.{Step, IsTableStep, answer_row, open_protest}
 use Rattle.hall_desk.specs.History.{Event, requested, seeded, History, IsTyped}
-use Rattle.hall_desk.specs.Records.{StaysReleased, Remains}
+use Rattle.hall_desk.specs.Records.{StaysReleased, KeptRecords}
 use Rattle.hall_desk.specs.Final.{PublishedRoundsStay, TablesAreFinal, AreAnswersInTime, AnswersStayInTime}
 use Rattle.hall_desk.specs.declared.reply.Reply.{Reply}
 use Rattle.hall_desk.specs.declared.reply.Reply.TheVariants as reply
@@ -57,7 +57,7 @@ record IsShut (world : World) (id : List ℕ) : Type 0 where
   pub published : round.published ≡ true
 
 -- it stays so
-still_shut : (world later : World) (id : List ℕ) → Remains world later → IsShut world id → IsShut later id
+still_shut : (world later : World) (id : List ℕ) → KeptRecords world later → IsShut world id → IsShut later id
 still_shut world later id remains shut =
     let stays = remains.rounds id shut.round shut.kept shut.released in
     record {
@@ -127,7 +127,7 @@ none_added P id first (event ∷ rest) world later life shut at =
 
 -- ---- the rows of a published round
 module _ (world later : World) (events : List Event) (id : List ℕ) (sane : Sane world) (typed : All IsTyped events) (life : History world events later) (shut : IsShut world id) where
-  remains : Remains world later
+  remains : KeptRecords world later
   remains = records_stay world later events life
 
   stays : StaysReleased world later id shut.round
@@ -174,7 +174,7 @@ module _ (world later : World) (events : List Event) (id : List ℕ) (sane : San
 
   -- ---- its table
   -- an entrant's rows
-  answers_alike : (entrant : List ℕ) → answers_by world id entrant ≡ answers_by later id entrant
+  answers_alike : (entrant : List ℕ) → round_answers_by world id entrant ≡ round_answers_by later id entrant
   answers_alike entrant =
       let retyped = (history_sane events world later typed life sane).typed in
       left_same answer_total same_answer_keys (λ k. same_text k.round id && same_text k.entrant entrant) (is_of entrant id) world.answers later.answers
@@ -182,7 +182,7 @@ module _ (world later : World) (events : List Event) (id : List ℕ) (sane : San
       (λ k r here. ap (λ (x : AnswerKey). same_text x.round id && same_text x.entrant entrant) (retyped.answers k r here))
       (λ k passes. sym (same_answers k ((text_decides k.round id).0 (and_first _ _ passes))))
 
-  protests_alike : (entrant : List ℕ) → protests_by world id entrant ≡ protests_by later id entrant
+  protests_alike : (entrant : List ℕ) → round_protests_by world id entrant ≡ round_protests_by later id entrant
   protests_alike entrant =
       let retyped = (history_sane events world later typed life sane).typed in
       left_same protest_total same_protest_keys (λ k. same_text k.round id && same_text k.entrant entrant) (λ r. same_text r.key.round id && same_text r.key.entrant entrant) world.protests later.protests
@@ -192,7 +192,7 @@ module _ (world later : World) (events : List Event) (id : List ℕ) (sane : San
 
 -- the same rows make the same table
 table_moved : (world other : World) (id text : List ℕ) → get other.rounds id ≡ get world.rounds id → ((row : RoundRow) → IsRoundAt world id row → IsRoundAt other id row) →
-    ((entrant : List ℕ) → answers_by world id entrant ≡ answers_by other id entrant) → ((entrant : List ℕ) → protests_by world id entrant ≡ protests_by other id entrant) →
+    ((entrant : List ℕ) → round_answers_by world id entrant ≡ round_answers_by other id entrant) → ((entrant : List ℕ) → round_protests_by world id entrant ≡ round_protests_by other id entrant) →
     IsTableAt world id text → IsTableAt other id text
 table_moved world other id text round moved answers protests (row, at, (totals, are, written)) = (row, moved row at, (totals, of_other, written))
   where
@@ -205,8 +205,8 @@ table_moved world other id text round moved answers protests (row, at, (totals, 
       );
       right = λ entrant total among.
           are.right entrant total among
-          ∙ ap (λ (rows : List AnswerRow). total_of row rows (protests_by world id entrant)) (answers entrant)
-          ∙ ap (λ (rows : List ProtestRow). total_of row (answers_by other id entrant) rows) (protests entrant);
+          ∙ ap (λ (rows : List AnswerRow). total_of row rows (round_protests_by world id entrant)) (answers entrant)
+          ∙ ap (λ (rows : List ProtestRow). total_of row (round_answers_by other id entrant) rows) (protests entrant);
     }
 
 pub published_rounds_stay : PublishedRoundsStay
@@ -300,7 +300,7 @@ abbrev IsInTime : World → List ℕ → ℕ → Type 0
 IsInTime world id t = (round : Round) × (get world.rounds id ≡ Some round) × (round.start ≤ t) × (t < end_of round)
 
 -- a released round's times stay
-still_in_time : (world next : World) (id : List ℕ) (t : ℕ) → Remains world next → IsReleasedRound world id → IsInTime world id t → IsInTime next id t
+still_in_time : (world next : World) (id : List ℕ) (t : ℕ) → KeptRecords world next → IsReleasedRound world id → IsInTime world id t → IsInTime next id t
 still_in_time world next id t remains (other, there, released) (round, kept, started, before) =
     let both : Some other ≡ Some round = sym there ∙ kept in
     let one : other ≡ round = cc in
@@ -327,7 +327,7 @@ submitted_in_time world key person id number token answer t round sane is kept n
     )
 
 -- an event keeps the answers in time
-in_time_now : (world : World) (event : Event) (next : World) → Sane world → Remains world next → Changes world event next → AreAnswersInTime world → AreAnswersInTime next
+in_time_now : (world : World) (event : Event) (next : World) → Sane world → KeptRecords world next → Changes world event next → AreAnswersInTime world → AreAnswersInTime next
 in_time_now world (seeded people given) next sane remains (count, told, made) before key row at =
     let was = ap (λ (w : World). get w.answers key) (sym made) ∙ at in
     still_in_time world next key.round row.moment remains (sane.answers_released key row was) (before key row was)

@@ -4,7 +4,7 @@ use Rattle.std.specs.FinMap.{FinMap, get, insert}
 use Rattle.hall_policy.specs.Text.{text_cmp}
 use Rattle.hall_policy.specs.World.{World, IsTesterOf}
 use Rattle.hall_policy.specs.Ranges.{IsRound, AreRowsInRange, HasWholeList, IsWorld}
-use Rattle.hall_policy.specs.Rules.{Lists, StandsReleased, IsCertified}
+use Rattle.hall_policy.specs.Rules.{ListsEntry, StandsReleased, IsCertified}
 use Rattle.hall_policy.specs.declared.record.PuzzleKey.{PuzzleKey}
 use Rattle.hall_policy.specs.declared.record.Round.{Round}
 use Rattle.hall_policy.specs.declared.record.RoundRow.{RoundRow}
@@ -38,9 +38,9 @@ module _ (world : World) (id : List ℕ) (round : Round) (released published : B
   ]
 
   -- a puzzle of a released round is one of this round, or was in another released round before
-  stands_then : (q : List ℕ) (key : PuzzleKey) → StandsReleased after key q → ((q ≡ id) × ((entry : Entry) × Lists world id entry × (entry.puzzle ≡ key))) ⊎ ((q ≢ id) × StandsReleased world key q)
+  stands_then : (q : List ℕ) (key : PuzzleKey) → StandsReleased after key q → ((q ≡ id) × ((entry : Entry) × ListsEntry world id entry × (entry.puzzle ≡ key))) ⊎ ((q ≢ id) × StandsReleased world key q)
   stands_then q key (r, entry, found, is, lists, of) = elim (after_flags q r found) [
-    | inl h ↦ inl (h.0, (entry, subst (λ (x : List ℕ). Lists world x entry) h.0 lists, of))
+    | inl h ↦ inl (h.0, (entry, subst (λ (x : List ℕ). ListsEntry world x entry) h.0 lists, of))
     | inr h ↦ inr (h.0, (r, entry, h.1, is, lists, of))
   ]
 
@@ -118,8 +118,8 @@ module _ (world : World) (id : List ℕ) (round : Round) (released published : B
     protested = sane.refers.protested;
   }
 
-  module _ (all_certified : (entry : Entry) → Lists world id entry → IsCertified world entry.puzzle)
-      (none_shared : (entry : Entry) (other : List ℕ) → Lists world id entry → other ≢ id → ¬ (StandsReleased world entry.puzzle other))
+  module _ (all_certified : (entry : Entry) → ListsEntry world id entry → IsCertified world entry.puzzle)
+      (none_shared : (entry : Entry) (other : List ℕ) → ListsEntry world id entry → other ≢ id → ¬ (StandsReleased world entry.puzzle other))
       (none_open : IsTrue published → (key : ProtestKey) (row : ProtestRow) → key.round ≡ id → get world.protests key ≡ Some row → row.ruling ≢ None) where
     -- a puzzle of this round is certified, and one of another round was before
     certified_then : (q : List ℕ) (key : PuzzleKey) → StandsReleased after key q → IsCertified world key

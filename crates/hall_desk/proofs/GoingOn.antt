@@ -4,11 +4,11 @@ use Rattle.hall_grid.specs.Board.{Board}
 use Rattle.hall_grid.specs.declared.board.Kind.{Kind}
 use Rattle.hall_solve.specs.declared.paused.Search.{Search}
 use Rattle.hall_solve.specs.declared.searched.Searched.{Searched}
-use Rattle.hall_solve.specs.Question.{Question, IsSame, plain_tree, open_places}
+use Rattle.hall_solve.specs.Question.{Question, IsSameQuestion, plain_tree, open_places}
 use Rattle.hall_solve.specs.Answer.{OutcomeOf}
 use Rattle.hall_solve.specs.Puzzle.{question_of, start_of}
 use Rattle.hall_solve.specs.Searched.{visits_made, outcome_of, visits_of, IsSpent}
-use Rattle.hall_solve.specs.Paused.{start_of as started_at, budget_of, IsEnd, IsPause}
+use Rattle.hall_solve.specs.Paused.{started_at, budget_of, IsEnd, IsPause}
 use Rattle.hall_solve.proofs.Boards.{same_twice}
 use Rattle.hall_solve.proofs.Underway.{OutcomeOf-same}
 use Rattle.hall_desk.specs.Finding.{IsFoundBy}
@@ -36,7 +36,7 @@ found_of k puzzle r budget visits after asked going searched is s end frugal = r
     few = rw end.counted (subst (λ (v : ℕ). after ≤ plain_tree v (open_places (start_of k puzzle))) s.same.values open_there)
 
 -- after a pause the search is under way
-pub paused_of : (q r t : Question) (start : List (Option ℕ)) (budget visits asked until after asked_after : ℕ) (old new : Search) → Searches q r start budget visits asked old → IsSame r t → IsPause t old until after new → asked_after ≤ after → Searches q t start budget after asked_after new
+pub paused_of : (q r t : Question) (start : List (Option ℕ)) (budget visits asked until after asked_after : ℕ) (old new : Search) → Searches q r start budget visits asked old → IsSameQuestion r t → IsPause t old until after new → asked_after ≤ after → Searches q t start budget after asked_after new
 paused_of q r t start budget visits asked until after asked_after old new s e p le = record {
   same = same_twice q r t s.same e;
   begun = p.start ∙ s.begun;

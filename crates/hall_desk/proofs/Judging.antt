@@ -12,7 +12,7 @@ use Rattle.hall_policy.specs.declared.record.Entry.{Entry}
 use Rattle.hall_policy.specs.declared.record.PlaceKey.{PlaceKey}
 use Rattle.hall_policy.specs.declared.record.PuzzleRow.{PuzzleRow}
 use Rattle.hall_policy.specs.declared.record.PuzzleState.TheVariants as state
-use Rattle.hall_desk.specs.Sane.{Solves, IsVerdictAt}
+use Rattle.hall_desk.specs.Sane.{SolvesPuzzle, IsVerdictAt}
 use Rattle.hall_desk.specs.Sentences.{HasSolution}
 use Rattle.hall_desk.proofs.Promises.{one_filling}
 use Rattle.hall_desk.proofs.VerdictOnce.{one_verdict}

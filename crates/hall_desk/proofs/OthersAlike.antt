@@ -22,7 +22,7 @@ use Rattle.hall_desk.specs.AnsweredRun.{AnsweredRun, timed, left_in, OthersHidde
 use Rattle.hall_desk.specs.Without.{GrantsNoPublication, has_key, replies_to, is_other_person}
 use Rattle.hall_desk.specs.declared.reply.Reply.{Reply}
 use Rattle.hall_desk.specs.History.{events_of}
-use Rattle.hall_desk.specs.Records.{Remains}
+use Rattle.hall_desk.specs.Records.{KeptRecords}
 use Rattle.hall_desk.proofs.Histories.{runs_are_histories}
 use Rattle.hall_desk.proofs.Remaining.{records_stay}
 use Rattle.hall_desk.proofs.StepsSane.{step_sane, run_sane}
@@ -42,7 +42,7 @@ run_of world last (q ∷ list) [] run = absurd run
 run_of world last (q ∷ list) (g ∷ replies) run = (run.0, step_of world run.0 q g run.1, run_of run.0 last list replies run.2)
 
 -- what is kept when the list begins is kept at its end
-pub run_remains : (world : World) (list : List (ℕ × Request)) (replies : List Reply) (last : World) → Run world list replies last → Remains world last
+pub run_remains : (world : World) (list : List (ℕ × Request)) (replies : List Reply) (last : World) → Run world list replies last → KeptRecords world last
 run_remains world list replies last run = records_stay world last (events_of list replies) (runs_are_histories world last list replies run)
 
 -- ---- a publication that isn't granted
@@ -65,7 +65,7 @@ module _ (last : World) (e : Person) (settled : IsWorld last) (there : get last.
   -- the first request
   module _ (q : Asked) (rest : List Asked) (world other : World) (given : Reply) (replies : List Reply) (sane : Sane world) (also : Sane other) (alike : Alike world other)
       (typed : All IsTimed (map timed (q ∷ rest))) (never : All GrantsNoPublication (given ∷ replies)) (run : AnsweredRun world (q ∷ rest) (given ∷ replies) last) where
-    pub remains : Remains world last
+    pub remains : KeptRecords world last
     remains = run_remains world (map timed (q ∷ rest)) (given ∷ replies) last (run_of world last (q ∷ rest) (given ∷ replies) run)
 
     pub head_timed : IsTimed (timed q)

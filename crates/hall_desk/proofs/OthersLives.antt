@@ -18,7 +18,7 @@ use Rattle.hall_store.proofs.Tests.{later, Contains-all, all-false, and_both}
 use Rattle.hall_desk.specs.Sane.{Sane}
 use Rattle.hall_desk.specs.Step.{Asked, IsAnswered, Step}
 use Rattle.hall_desk.specs.History.{Event, requested, seeded, History, IsTyped}
-use Rattle.hall_desk.specs.Records.{Remains}
+use Rattle.hall_desk.specs.Records.{KeptRecords}
 use Rattle.hall_desk.specs.Without.{is_other_person, is_certify}
 use Rattle.hall_desk.specs.Lives.{reply_to, is_e_or_none, is_told, without_others, IsRefusedAlike, HappenAgain}
 use Rattle.hall_desk.specs.Lives.{is_round, is_others_in, HistoriesHideOthers}
@@ -41,7 +41,7 @@ answered_serves world next asked given (decision, first, decided) =
 
 module _ (last : World) (e : Person) (settled : IsWorld last) (there : get last.people e.name ≡ Some e) (alone : is_entrant_alone e ≡ true) where
   -- a key that is e's or nobody's at the end calls e, or nobody yet
-  pub told_calls : (world : World) → Remains world last → (key : Option (List ℕ)) → is_e_or_none e (caller_of last key) ≡ true → IsAtMost (caller_of world key) e
+  pub told_calls : (world : World) → KeptRecords world last → (key : Option (List ℕ)) → is_e_or_none e (caller_of last key) ≡ true → IsAtMost (caller_of world key) e
   told_calls world remains key told = elim (caller_of world key) as (λ (c : Option Person). caller_of world key ≡ c → IsAtMost c e) [
     | None ↦ λ gone. inr refl
     | Some person ↦ λ is.
@@ -86,7 +86,7 @@ module _ (last : World) (e : Person) (settled : IsWorld last) (there : get last.
       pub told : is_e_or_none e (caller_of last key) ≡ true → given ≡ answered
 
     -- a request that both answer
-    both_answered : (world other next after : World) (t : ℕ) (request : Request) (given answered : Reply) → Sane world → Sane other → Alike world other → Remains world last →
+    both_answered : (world other next after : World) (t : ℕ) (request : Request) (given answered : Reply) → Sane world → Sane other → Alike world other → KeptRecords world last →
         is_other_person e (caller_of last request.key) ≡ false → (is_certify request.action ≡ true → given ≡ answered) → ((id : List ℕ) → given ≡ reply.Publish id → apart id ≡ true) →
         ((id : List ℕ) → answered ≡ reply.Publish id → apart id ≡ true) →
         (found again : PuzzleState) → IsAnswered world (record { moment = t; request = request; found = found }) given next →
@@ -105,7 +105,7 @@ module _ (last : World) (e : Person) (settled : IsWorld last) (there : get last.
         }
 
     -- a request that both make
-    both_made : (world other next after : World) (t : ℕ) (request : Request) (given answered : Reply) → Sane world → Sane other → Alike world other → Remains world last →
+    both_made : (world other next after : World) (t : ℕ) (request : Request) (given answered : Reply) → Sane world → Sane other → Alike world other → KeptRecords world last →
         is_other_person e (caller_of last request.key) ≡ false → IsRefusedAlike given answered → (is_certify request.action ≡ true → given ≡ answered) →
         ((id : List ℕ) → given ≡ reply.Publish id → apart id ≡ true) → ((id : List ℕ) → answered ≡ reply.Publish id → apart id ≡ true) → Step world t request given next → Step other t request answered after → BothMade next after request.key given answered
     both_made world other next after t request given answered sane also alike remains kept refused supposed published also_published (inl h) (inl k) = record {
@@ -118,7 +118,7 @@ module _ (last : World) (e : Person) (settled : IsWorld last) (there : get last.
         both_answered world other next after t request given answered sane also alike remains kept supposed published also_published h.0 k.0 h.1 k.1
 
     -- a request of the others
-    left_out : (world other next : World) (t : ℕ) (request : Request) (given : Reply) → Alike world other → Remains world last → is_other_person e (caller_of last request.key) ≡ true →
+    left_out : (world other next : World) (t : ℕ) (request : Request) (given : Reply) → Alike world other → KeptRecords world last → is_other_person e (caller_of last request.key) ≡ true →
         Respects (requested t request given) → Step world t request given next → Alike next other
     left_out world other next t request given alike remains is_other respects (inl h) = subst (λ (w : World). Alike w other) (sym h.1) alike
     left_out world other next t request given alike remains is_other respects (inr h) =

@@ -33,7 +33,7 @@ use Rattle.hall_desk.specs.declared.reply.Reply.{Reply}
 use Rattle.hall_desk.specs.declared.reply.Reply.TheVariants as reply
 use Rattle.hall_policy.proofs.Texts.{text_decides, and_first, and_second}
 use Rattle.hall_desk.proofs.Answering.{find-value}
-use Rattle.hall_desk.specs.Records.{Remains}
+use Rattle.hall_desk.specs.Records.{KeptRecords}
 use Rattle.hall_desk.proofs.Shows.{one_row}
 use Rattle.hall_policy.proofs.LoneDecisions.{lone, is_lone, as_it_stands}
 use Rattle.hall_desk.proofs.RepliesAlike.{IsAtMost}
@@ -219,7 +219,7 @@ module _ (last : World) (e : Person) (settled : IsWorld last) (there : get last.
   ] refl
 
   -- who has the key at the list's end has it, or nobody does, in a world before
-  module _ (world : World) (remains : Remains world last) (key : Option (List ℕ)) where
+  module _ (world : World) (remains : KeptRecords world last) (key : Option (List ℕ)) where
     pub later_caller : (person : Person) → caller_of world key ≡ Some person → caller_of last key ≡ Some person
     later_caller person is = remains.callers key person is
 
@@ -245,7 +245,7 @@ module _ (last : World) (e : Person) (settled : IsWorld last) (there : get last.
   AlikeIn world other = AlikeFor as_is nothing (Stays world) world other
 
   -- a kept caller's rows stay
-  kept_caller : (world : World) → Remains world last → (key : Option (List ℕ)) → is_other_person e (caller_of last key) ≡ false → (person : Person) → caller_of world key ≡ Some person → (round : List ℕ) → Stays world person.name round
+  kept_caller : (world : World) → KeptRecords world last → (key : Option (List ℕ)) → is_other_person e (caller_of last key) ≡ false → (person : Person) → caller_of world key ≡ Some person → (round : List ℕ) → Stays world person.name round
   kept_caller world remains key kept person is round =
       let at_last = later_caller last e settled there alone world remains key person is in
       let by = found_by last settled key person at_last in
@@ -318,7 +318,7 @@ module _ (last : World) (e : Person) (settled : IsWorld last) (there : get last.
     }
 
   -- a request of the others that is answered
-  pub answered_without : (world next other : World) (q : Asked) (given : Reply) → Remains world last → AlikeIn world other → IsAnswered world q given next →
+  pub answered_without : (world next other : World) (q : Asked) (given : Reply) → KeptRecords world last → AlikeIn world other → IsAnswered world q given next →
       ((id : List ℕ) → hands_in q.request.action ≡ Some id → apart id ≡ false) → is_other_person e (caller_of last q.request.key) ≡ true → AlikeIn next other
   answered_without world next other q given remains alike done hands is_other =
       let some = someone last e settled there alone (caller_of last q.request.key) is_other in
@@ -415,7 +415,7 @@ module _ (last : World) (e : Person) (settled : IsWorld last) (there : get last.
     ]
 
   -- a request that is answered in both, and publishes nothing
-  pub answered_with : (world other next after : World) (q : Asked) (given answered : Reply) → IsWorld world → IsWorld other → Remains world last → AlikeIn world other →
+  pub answered_with : (world other next after : World) (q : Asked) (given answered : Reply) → IsWorld world → IsWorld other → KeptRecords world last → AlikeIn world other →
       ((id : List ℕ) → q.request.action ≢ action.Publish id) → is_other_person e (caller_of last q.request.key) ≡ false → IsAnswered world q given next → IsAnswered other q answered after → AlikeIn next after
   answered_with world other next after q given answered typed retyped remains alike never kept first second =
       both_made world other next after q given answered typed retyped alike never (kept_caller world remains q.request.key kept) first second

@@ -12,14 +12,14 @@ use Rattle.hall_policy.specs.declared.request.Request.{Request}
 use Rattle.hall_store.specs.Caller.{caller_of}
 use Rattle.hall_desk.specs.Step.{Step}
 use Rattle.hall_desk.specs.ProtestPromises.{IsAgain, ProtestRetriesAreAnswered}
-use Rattle.hall_desk.specs.Records.{Remains}
+use Rattle.hall_desk.specs.Records.{KeptRecords}
 use Rattle.hall_desk.specs.declared.reply.Reply.TheVariants as reply
 use Rattle.hall_desk.proofs.ProtestTokens.{same_protest_stands}
 use Rattle.hall_desk.proofs.Remaining.{remains_on, step_remains, records_stay}
 use Rattle.hall_desk.proofs.Retries.{same_caller}
 use Rattle.hall_desk.proofs.ProtestRetries.{repeats_at_six, accepted, missing_is_other, forbids_missing}
 
-module _ (world later : World) (remains : Remains world later) (t u : ℕ) (key : Option (List ℕ)) (id token : List ℕ) (number : ℕ) (text : List ℕ)
+module _ (world later : World) (remains : KeptRecords world later) (t u : ℕ) (key : Option (List ℕ)) (id token : List ℕ) (number : ℕ) (text : List ℕ)
     (again_number : ℕ) (again_text : List ℕ) (none : NoneBelow 6 world (caller_of later key) (action.Protest id token number text) t)
     (person : Person) (is : caller_of later key ≡ Some person) (row : ProtestRow) (stands : protest_of later person.name id token ≡ Some row)
     (same_number : row.number ≡ number) (same_text : row.text ≡ text) where
@@ -83,8 +83,8 @@ module _ (world later : World) (remains : Remains world later) (t u : ℕ) (key 
 pub protest_retries_are_answered : ProtestRetriesAreAnswered
 protest_retries_are_answered world kept later t u key id token number text again_number again_text events first life =
     let h = accepted world kept t key id token number text first in
-    let between : Remains kept later = records_stay kept later events life in
-    let remains : Remains world later = remains_on world kept later (step_remains world t (record { key = key; action = action.Protest id token number text }) (reply.Protest token) kept first) between in
+    let between : KeptRecords kept later = records_stay kept later events life in
+    let remains : KeptRecords world later = remains_on world kept later (step_remains world t (record { key = key; action = action.Protest id token number text }) (reply.Protest token) kept first) between in
     let same : caller_of later key ≡ caller_of world key = same_caller world later key h.person remains h.is in
     let stays = between.protests (record { entrant = h.person.name; round = id; token = token }) h.row h.stands in
     answers_again world later remains t u key id token number text again_number again_text

@@ -20,7 +20,7 @@ use Rattle.hall_store.specs.Caller.{caller_of}
 use Rattle.hall_desk.specs.Lookups.{IsReleasedRound}
 use Rattle.hall_desk.specs.Step.{Step, Decided, open_protest}
 use Rattle.hall_desk.specs.ProtestPromises.{IsProtestRetryOf, AcceptedProtestsStay}
-use Rattle.hall_desk.specs.Records.{Remains, StaysReleased}
+use Rattle.hall_desk.specs.Records.{KeptRecords, StaysReleased}
 use Rattle.hall_desk.specs.declared.reply.Reply.{Reply}
 use Rattle.hall_desk.specs.declared.reply.Reply.TheVariants as reply
 use Rattle.hall_desk.proofs.ProtestTokens.{denied_by, token_decides, repeated_protest}
@@ -72,7 +72,7 @@ accepted world kept t key id token number text (inr (found, (Allow, none, (perso
       none = λ r few. none r (omega arith);
     }
 
-module _ (world later : World) (remains : Remains world later) (caller : Option Person) (t u : ℕ) (id token : List ℕ) (number : ℕ) (text : List ℕ)
+module _ (world later : World) (remains : KeptRecords world later) (caller : Option Person) (t u : ℕ) (id token : List ℕ) (number : ℕ) (text : List ℕ)
     (again_number : ℕ) (again_text : List ℕ) (none : NoneBelow 6 world caller (action.Protest id token number text) t) where
   -- the protest's round was released, since a draft, and a round that isn't there, is missing for a Protest
   was_released : IsReleasedRound world id
@@ -193,14 +193,14 @@ module _ (world later : World) (remains : Remains world later) (caller : Option 
 
 -- a retry of an accepted protest changes nothing, and is answered as one
 protests_stay : (world kept later : World) (t : ℕ) (key : Option (List ℕ)) (id token : List ℕ) (number : ℕ) (text : List ℕ) →
-    Step world t (record { key = key; action = action.Protest id token number text }) (reply.Protest token) kept → Remains kept later →
+    Step world t (record { key = key; action = action.Protest id token number text }) (reply.Protest token) kept → KeptRecords kept later →
     (u again_number : ℕ) (again_text : List ℕ) (given : Reply) (new : World) →
     Step later u (record { key = key; action = action.Protest id token again_number again_text }) given new →
     (new ≡ later) × IsProtestRetryOf later id token number text again_number again_text given
 protests_stay world kept later t key id token number text first between u again_number again_text given new (inl (says, left)) = (left, inl says)
 protests_stay world kept later t key id token number text first between u again_number again_text given new (inr (found, (decision, decides, decided))) =
     let h = accepted world kept t key id token number text first in
-    let remains : Remains world later = remains_on world kept later (step_remains world t (record { key = key; action = action.Protest id token number text }) (reply.Protest token) kept first) between in
+    let remains : KeptRecords world later = remains_on world kept later (step_remains world t (record { key = key; action = action.Protest id token number text }) (reply.Protest token) kept first) between in
     let same : caller_of later key ≡ caller_of world key = same_caller world later key h.person remains h.is in
     let stays = between.protests (record { entrant = h.person.name; round = id; token = token }) h.row h.stands in
     retried world later remains (caller_of later key) t u id token number text again_number again_text
@@ -211,7 +211,7 @@ protests_stay world kept later t key id token number text first between u again_
 pub accepted_protests_stay : AcceptedProtestsStay
 accepted_protests_stay world kept later t key id token number text events first life =
     let h = accepted world kept t key id token number text first in
-    let between : Remains kept later = records_stay kept later events life in
+    let between : KeptRecords kept later = records_stay kept later events life in
     let stays = between.protests (record { entrant = h.person.name; round = id; token = token }) h.row h.stands in (
       (h.person, stays.after, h.is, stays.found, (ap (λ (r : ProtestRow). r.number) stays.same ∙ h.same_number, ap (λ (r : ProtestRow). r.text) stays.same ∙ h.same_text)),
       protests_stay world kept later t key id token number text first between,

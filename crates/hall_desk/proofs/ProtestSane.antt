@@ -21,7 +21,7 @@ use Rattle.hall_policy.proofs.Orders.{protest_total, same_protest_keys}
 use Rattle.hall_store.proofs.Inserts.{found_after}
 use Rattle.hall_desk.specs.Lookups.{IsReleasedRound}
 use Rattle.hall_desk.specs.Step.{Allowed, open_protest}
-use Rattle.hall_desk.specs.Sane.{Sane, RefersToRows, HasPlace, MayTakePart}
+use Rattle.hall_desk.specs.Sane.{Sane, RefersToRows, IsPlaceThere, MayTakePart}
 use Rattle.hall_desk.specs.declared.reply.Reply.{Reply}
 use Rattle.hall_policy.proofs.Texts.{text_decides, and_first, and_second}
 use Rattle.hall_desk.proofs.Releases.{released_found, takes_part}
@@ -39,7 +39,7 @@ module _ (world : World) (key : ProtestKey) (row : ProtestRow) where
   after_protest q r found = found_after protest_total same_protest_keys world.protests key row q r found
 
   module _ (own : row.key ≡ key) (in_range : IsProtestRow row) (sane : Sane world) (entrant : get world.people key.entrant ≢ None) (released : IsReleasedRound world key.round)
-      (part : MayTakePart world key.entrant key.round) (place : HasPlace world key.round row.number) (settled : (round : Round) → get world.rounds key.round ≡ Some round → IsTrue round.published → row.ruling ≢ None)
+      (part : MayTakePart world key.entrant key.round) (place : IsPlaceThere world key.round row.number) (settled : (round : Round) → get world.rounds key.round ≡ Some round → IsTrue round.published → row.ruling ≢ None)
       (room : get world.protests key ≡ None → protests_made world key.entrant key.round < 5) where
     few_new : (e r : List ℕ) → get world.protests key ≡ None → count_by (of_entrant e r) (values new_protests) ≤ 5
     few_new e r none = elim (of_entrant e r row) as (λ b. of_entrant e r row ≡ b → count_by (of_entrant e r) (values new_protests) ≡ protests_made world e r + cond b 1 0 → count_by (of_entrant e r) (values new_protests) ≤ 5) [
@@ -103,7 +103,7 @@ module _ (world : World) (key : ProtestKey) (row : ProtestRow) where
         | inr h ↦ sane.refers.protesters q r h.1
       ];
       protested = λ q r found. elim (after_protest q r found) [
-        | inl h ↦ subst (λ (k : ProtestKey). HasPlace world k.round r.number) (sym h.0) (subst (λ (x : ProtestRow). HasPlace world key.round x.number) (sym h.1) place)
+        | inl h ↦ subst (λ (k : ProtestKey). IsPlaceThere world k.round r.number) (sym h.0) (subst (λ (x : ProtestRow). IsPlaceThere world key.round x.number) (sym h.1) place)
         | inr h ↦ sane.refers.protested q r h.1
       ];
     }
@@ -147,8 +147,8 @@ module _ (world : World) (key : ProtestKey) (row : ProtestRow) where
     }
 
 -- a place that is not missing is there
-has_place : (world : World) (round : List ℕ) (number : ℕ) → place_of world round number ≢ None → HasPlace world round number
-has_place world round number there = elim (place_of world round number) as (λ (o : Option Entry). place_of world round number ≡ o → HasPlace world round number) [
+has_place : (world : World) (round : List ℕ) (number : ℕ) → place_of world round number ≢ None → IsPlaceThere world round number
+has_place world round number there = elim (place_of world round number) as (λ (o : Option Entry). place_of world round number ≡ o → IsPlaceThere world round number) [
   | None ↦ λ gone. absurd (there gone)
   | Some entry ↦ λ at. (entry, at)
 ] refl

@@ -5,7 +5,8 @@ use Rattle.std.specs.FinMap.{get}
 use Rattle.std.proofs.lemmas.Option.{slice_get-get_or, slice_get_within, get_or_from_slice_get}
 use Rattle.hall_policy.specs.World.{World, IsRoundAt, entry_at, same_text}
 use Rattle.hall_policy.specs.Actions.{finds_drafts, may, round_named}
-use Rattle.hall_policy.specs.Rules.{Lists, StandsReleased, RoundIsMissing, LacksRole, ReadsAsTester, IsOwnPuzzle, is_director}
+use Rattle.hall_policy.specs.Rules.{ListsEntry, StandsReleased, RoundIsMissing, LacksRole, ReadsAsTester, IsOwnPuzzle}
+use Rattle.hall_policy.specs.Rules.{is_director}
 use Rattle.hall_policy.specs.declared.record.Person.{Person}
 use Rattle.hall_policy.specs.declared.record.Round.{Round}
 use Rattle.hall_policy.specs.declared.request.Action.{Action}
@@ -91,7 +92,7 @@ others_using world key id ids others using left = (
 )
 
 -- the entries of a round are those of its row
-pub entries_listed : (world : World) (id : List ℕ) (row : RoundRow) → IsRoundAt world id row → (entry : Entry) → Contains row.puzzles entry ↔ Lists world id entry
+pub entries_listed : (world : World) (id : List ℕ) (row : RoundRow) → IsRoundAt world id row → (entry : Entry) → Contains row.puzzles entry ↔ ListsEntry world id entry
 entries_listed world id row at entry = (
   (λ h. (suc h.0, at.list (suc h.0) ∙ slice_get-get_or row.puzzles h.0 entry h.1 ∙ ap Some h.2)),
   (λ h. listed_at h.0 (sym (at.list h.0) ∙ h.1)),

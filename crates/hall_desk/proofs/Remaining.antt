@@ -36,7 +36,8 @@ use Rattle.hall_store.specs.Change.{with_person, with_people, relisted, retested
 use Rattle.hall_desk.specs.Lookups.{IsReleasedRound}
 use Rattle.hall_desk.specs.Step.{Step, Seed, Allowed, IsSearched, IsFound, is_open, new_row, draft_of, answer_row, open_protest}
 use Rattle.hall_desk.specs.History.{Event, requested, seeded, Happens}
-use Rattle.hall_desk.specs.Records.{StaysReleased, StaysProtested, StaysListed, Remains, RecordsStay, ReleasedPuzzlesStay}
+use Rattle.hall_desk.specs.Records.{StaysReleased, StaysProtested, StaysListed, KeptRecords, RecordsStay}
+use Rattle.hall_desk.specs.Records.{ReleasedPuzzlesStay}
 use Rattle.hall_desk.specs.declared.reply.Reply.{Reply}
 use Rattle.hall_store.proofs.Changes.{with_people-known}
 use Rattle.hall_store.proofs.Inserts.{keys_apart, others_stay, inserted_there}
@@ -101,15 +102,15 @@ callers_stay world later same None person is = is
 callers_stay world later same (Some key) person is = ap (λ (people : FinMap text_cmp Person). find (λ p. same_text p.key key) (values people)) same ∙ is
 
 -- a world keeps what it has
-remains_itself : (world : World) → Remains world world
+remains_itself : (world : World) → KeptRecords world world
 remains_itself world = record { people = λ name person at. at; callers = λ key person is. is; answers = λ key row at. at; protests = protest_as_found world; rounds = λ id round at is. stays_as_found world world id round at is refl refl; puzzles = puzzles_as_found world world refl }
 
 -- so does one that is the same
-remains_same : (world new : World) → new ≡ world → Remains world new
-remains_same world new same = subst (λ (w : World). Remains world w) (sym same) (remains_itself world)
+remains_same : (world new : World) → new ≡ world → KeptRecords world new
+remains_same world new same = subst (λ (w : World). KeptRecords world w) (sym same) (remains_itself world)
 
 -- what is kept of what was kept
-pub remains_on : (world mid later : World) → Remains world mid → Remains mid later → Remains world later
+pub remains_on : (world mid later : World) → KeptRecords world mid → KeptRecords mid later → KeptRecords world later
 remains_on world mid later first second = record {
   people = λ name person at. second.people name person (first.people name person at);
   callers = λ key person is. second.callers key person (first.callers key person is);
@@ -150,10 +151,10 @@ remains_on world mid later first second = record {
 -- a world whose puzzles change keeps the rest, where those of released rounds stay
 puzzles_change : (world new : World) (puzzles : FinMap puzzle_cmp PuzzleRow) →
     ((id : List ℕ) (key : PuzzleKey) (row : PuzzleRow) → StandsReleased world key id → get world.puzzles key ≡ Some row → StaysListed (record world { puzzles = puzzles }) key row) →
-    new ≡ record world { puzzles = puzzles } → Remains world new
+    new ≡ record world { puzzles = puzzles } → KeptRecords world new
 puzzles_change world new puzzles listed made =
     let after : World = record world { puzzles = puzzles } in
-    subst (λ (w : World). Remains world w) (sym made)
+    subst (λ (w : World). KeptRecords world w) (sym made)
     (record {
       people = λ name person at. at;
       callers = callers_stay world after refl;
@@ -165,7 +166,7 @@ puzzles_change world new puzzles listed made =
 
 -- a PutPuzzle's rule denies a puzzle of a released round
 put_remains : (world : World) (caller : Option Person) (key : PuzzleKey) (puzzle : Board) (t : ℕ) (new : World) →
-    NoneBelow 21 world caller (action.PutPuzzle key puzzle) t → new ≡ record world { puzzles = insert world.puzzles key (new_row key puzzle) } → Remains world new
+    NoneBelow 21 world caller (action.PutPuzzle key puzzle) t → new ≡ record world { puzzles = insert world.puzzles key (new_row key puzzle) } → KeptRecords world new
 put_remains world caller key puzzle t new none made =
     let put : PuzzleRow = new_row key puzzle in
     let after : World = record world { puzzles = insert world.puzzles key put } in
@@ -175,7 +176,7 @@ put_remains world caller key puzzle t new none made =
 
 -- a Certify sets the state of its puzzle alone, to what a search finds
 certify_remains : (world : World) (key : PuzzleKey) (row : PuzzleRow) (budget : ℕ) (found : PuzzleState) (given : Reply) (new : World) →
-    get world.puzzles key ≡ Some row → IsSearched world key row budget found given new → Remains world new
+    get world.puzzles key ≡ Some row → IsSearched world key row budget found given new → KeptRecords world new
 certify_remains world key row budget found given new kept h =
     let now : PuzzleRow = record row { state = found } in
     let after : World = record world { puzzles = insert world.puzzles key now } in
@@ -251,10 +252,10 @@ still_callers world people fits (Some key) person is = found_in_list world.peopl
 
 -- people who conflict with nobody leave the rest
 people_join : (world : World) (people : List Person) (new : World) → ((person : Person) → Contains people person → ¬ (Conflicts world person)) →
-    new ≡ record world { people = with_people world.people people } → Remains world new
+    new ≡ record world { people = with_people world.people people } → KeptRecords world new
 people_join world people new fits made =
     let after : World = record world { people = with_people world.people people } in
-    subst (λ (w : World). Remains world w) (sym made) (record {
+    subst (λ (w : World). KeptRecords world w) (sym made) (record {
       people = λ name person at. with_people-known world.people people name person at;
       callers = still_callers world people fits;
       answers = λ key row at. at;
@@ -265,12 +266,12 @@ people_join world people new fits made =
 
 -- an Import's rule denies a list that conflicts with somebody
 import_remains : (world : World) (caller : Option Person) (people : List Person) (t : ℕ) (found : PuzzleState) (given : Reply) (new : World) →
-    NoneBelow 21 world caller (action.Import people) t → Allowed world caller (action.Import people) t found given new → Remains world new
+    NoneBelow 21 world caller (action.Import people) t → Allowed world caller (action.Import people) t found given new → KeptRecords world new
 import_remains world caller people t found given new none (told, made) =
     people_join world people new (λ person among conflict. (none rule.ListConflict (lit< tt)).0 ((2, lit< tt, refl), (person, among, conflict))) made
 
 -- and so does a list before any request
-seed_remains : (world : World) (people : List Person) (given : Reply) (new : World) → Seed world people given new → Remains world new
+seed_remains : (world : World) (people : List Person) (given : Reply) (new : World) → Seed world people given new → KeptRecords world new
 seed_remains world people given new (inl h) = remains_same world new h.1
 seed_remains world people given new (inr (inl h)) = remains_same world new h.2
 seed_remains world people given new (inr (inr (clear, (told, made)))) = people_join world people new (λ person among conflict. clear (person, among, conflict)) made
@@ -278,11 +279,11 @@ seed_remains world people given new (inr (inr (clear, (told, made)))) = people_j
 -- ---- a round
 -- a draft that is put leaves the released rounds
 put_round_remains : (world : World) (caller : Option Person) (id : List ℕ) (sheet : Sheet) (t : ℕ) (found : PuzzleState) (given : Reply) (new : World) →
-    NoneBelow 21 world caller (action.PutRound id sheet) t → Allowed world caller (action.PutRound id sheet) t found given new → Remains world new
+    NoneBelow 21 world caller (action.PutRound id sheet) t → Allowed world caller (action.PutRound id sheet) t found given new → KeptRecords world new
 put_round_remains world caller id sheet t found given new none (told, made) =
     let draft : Round = draft_of id sheet in
     let after : World = record world { rounds = insert world.rounds id draft; places = relisted world.places id sheet.puzzles; testers = retested world.testers id sheet.testers } in
-    subst (λ (w : World). Remains world w) (sym made) (record {
+    subst (λ (w : World). KeptRecords world w) (sym made) (record {
       people = λ name person at. at;
       callers = callers_stay world after refl;
       answers = λ key row at. at;
@@ -302,10 +303,10 @@ put_round_remains world caller id sheet t found given new none (told, made) =
 
 -- a round of which a flag rises, that of publication where it was released before, leaves the rest
 round_changes : (world new : World) (id : List ℕ) (round now : Round) → get world.rounds id ≡ Some round → (round.released ≡ true → now ≡ record round { published = now.published }) →
-    (round.published ≡ true → now.published ≡ true) → new ≡ record world { rounds = insert world.rounds id now } → Remains world new
+    (round.published ≡ true → now.published ≡ true) → new ≡ record world { rounds = insert world.rounds id now } → KeptRecords world new
 round_changes world new id round now kept same risen made =
     let after : World = record world { rounds = insert world.rounds id now } in
-    subst (λ (w : World). Remains world w) (sym made) (record {
+    subst (λ (w : World). KeptRecords world w) (sym made) (record {
       people = λ name person at. at;
       callers = callers_stay world after refl;
       answers = λ key row at. at;
@@ -329,11 +330,11 @@ round_changes world new id round now kept same risen made =
 
 -- a Submit stores its answer where none stands
 submit_remains : (world : World) (caller : Option Person) (id : List ℕ) (number : ℕ) (token answer : List ℕ) (t : ℕ) (found : PuzzleState) (given : Reply) (new : World) →
-    NoneBelow 21 world caller (action.Submit id number token answer) t → Allowed world caller (action.Submit id number token answer) t found given new → Remains world new
+    NoneBelow 21 world caller (action.Submit id number token answer) t → Allowed world caller (action.Submit id number token answer) t found given new → KeptRecords world new
 submit_remains world caller id number token answer t found given new none (person, is, (round, entry, puzzle, verdict, kept, place, grid, judged, (told, made))) =
     let row : AnswerRow = answer_row world person id number token answer t verdict in
     let after : World = record world { answers = insert world.answers row.key row } in
-    subst (λ (w : World). Remains world w) (sym made) (record {
+    subst (λ (w : World). KeptRecords world w) (sym made) (record {
       people = λ name person at. at;
       callers = callers_stay world after refl;
       answers = λ key old at. others_stay answer_total same_answer_keys world.answers row.key row key old
@@ -345,11 +346,11 @@ submit_remains world caller id number token answer t found given new none (perso
 
 -- a Protest stores its row where none stands
 protest_remains : (world : World) (caller : Option Person) (id token : List ℕ) (number : ℕ) (text : List ℕ) (t : ℕ) (found : PuzzleState) (given : Reply) (new : World) →
-    NoneBelow 21 world caller (action.Protest id token number text) t → Allowed world caller (action.Protest id token number text) t found given new → Remains world new
+    NoneBelow 21 world caller (action.Protest id token number text) t → Allowed world caller (action.Protest id token number text) t found given new → KeptRecords world new
 protest_remains world caller id token number text t found given new none (person, is, (told, made)) =
     let row : ProtestRow = open_protest person id token number text in
     let after : World = record world { protests = insert world.protests row.key row } in
-    subst (λ (w : World). Remains world w) (sym made) (record {
+    subst (λ (w : World). KeptRecords world w) (sym made) (record {
       people = λ name person at. at;
       callers = callers_stay world after refl;
       answers = λ key old at. at;
@@ -361,12 +362,12 @@ protest_remains world caller id token number text t found given new none (person
 
 -- a Rule rules its protest where no ruling stands
 rule_remains : (world : World) (caller : Option Person) (id entrant token : List ℕ) (ruling : Ruling) (t : ℕ) (found : PuzzleState) (given : Reply) (new : World) →
-    NoneBelow 21 world caller (action.RuleProtest id entrant token ruling) t → Allowed world caller (action.RuleProtest id entrant token ruling) t found given new → Remains world new
+    NoneBelow 21 world caller (action.RuleProtest id entrant token ruling) t → Allowed world caller (action.RuleProtest id entrant token ruling) t found given new → KeptRecords world new
 rule_remains world caller id entrant token ruling t found given new none (row, kept, told, made) =
     let own_key : ProtestKey = record { entrant = entrant; round = id; token = token } in
     let now : ProtestRow = record row { ruling = Some ruling } in
     let after : World = record world { protests = insert world.protests own_key now } in
-    subst (λ (w : World). Remains world w) (sym made) (record {
+    subst (λ (w : World). KeptRecords world w) (sym made) (record {
       people = λ name person at. at;
       callers = callers_stay world after refl;
       answers = λ key old at. at;
@@ -393,7 +394,7 @@ released_as_it_was round is = ap (λ (b : Bool). let now : Round = record round 
 
 -- a Release and a Publish change one flag of their round; what else takes effect is said above
 allowed_remains : (world : World) (caller : Option Person) (asked : Action) (t : ℕ) (found : PuzzleState) (given : Reply) (new : World) →
-    NoneBelow 21 world caller asked t → Allowed world caller asked t found given new → Remains world new
+    NoneBelow 21 world caller asked t → Allowed world caller asked t found given new → KeptRecords world new
 allowed_remains world caller (action.PutPuzzle key puzzle) t found given new none (text, canonical, inl h) = remains_same world new h.4
 allowed_remains world caller (action.PutPuzzle key puzzle) t found given new none (text, canonical, inr h) = put_remains world caller key puzzle t new none h.2
 allowed_remains world caller (action.Certify key budget) t found given new none (row, kept, inl h) = certify_remains world key row budget found given new kept h
@@ -415,7 +416,7 @@ allowed_remains world caller (action.RuleProtest id entrant token ruling) t foun
 allowed_remains world caller (action.Table id) t found given new none h = remains_same world new h.1
 
 -- a step keeps them
-pub step_remains : (world : World) (t : ℕ) (request : Request) (given : Reply) (new : World) → Step world t request given new → Remains world new
+pub step_remains : (world : World) (t : ℕ) (request : Request) (given : Reply) (new : World) → Step world t request given new → KeptRecords world new
 step_remains world t request given new (inl h) = remains_same world new h.1
 step_remains world t request given new (inr (found, (Deny k, first, decided))) = remains_same world new decided.1
 step_remains world t request given new (inr (found, (Repeat, first, decided))) = remains_same world new decided.1
@@ -423,7 +424,7 @@ step_remains world t request given new (inr (found, (Allow, none, decided))) =
     allowed_remains world (caller_of world request.key) request.action t found given new none decided
 
 -- an event of a hall's life keeps them
-pub event_remains : (world : World) (event : Event) (next : World) → Happens world event next → Remains world next
+pub event_remains : (world : World) (event : Event) (next : World) → Happens world event next → KeptRecords world next
 event_remains world (requested t request given) next step = step_remains world t request given next step
 event_remains world (seeded people given) next seed = seed_remains world people given next seed
 

@@ -29,7 +29,7 @@ use Rattle.hall_policy.proofs.LoneDecisions.{lone, is_lone, no_key, no_role, ask
 use Rattle.hall_policy.proofs.Orders.{answer_total, same_answer_keys, protest_total, same_protest_keys}
 use Rattle.hall_store.specs.Store.{is_of, IsListing}
 use Rattle.hall_desk.specs.Judged.{IsVerdictOn}
-use Rattle.hall_desk.specs.Totals.{answers_by, protests_by, AreTotals}
+use Rattle.hall_desk.specs.Totals.{round_answers_by, round_protests_by, AreTotals}
 use Rattle.hall_desk.specs.Shown.{is_sealed, told_verdict, shows_verdict, sees_answer, answer_line, sees_protest, protest_line, sees_round, round_line, ShowsRound, AreSolutions}
 use Rattle.hall_desk.specs.Step.{Allowed, FirstReply, Decided}
 use Rattle.hall_policy.specs.OwnAlike.{is_entrant_alone, seen, as_is, exchanged, OwnAlike}
@@ -293,12 +293,12 @@ module _ (ex : List ℕ → List ℕ → List ℕ) (hidden : List ℕ → Bool) 
     table_read caller id found again given answered new changed none ((text, (row, at, (totals, are, is)), told), same) ((text', (row', at', (totals', are', is')), told'), same') =
         let one : row' ≡ tested_by row row'.testers = one_round_row later world id row' row refl refl at' at in
         let published : row.round.published ≡ true = true_unless row.round.published (λ no. (none rule.Published (lit< tt)).0 ((1, lit< tt, refl), (id, row.round, refl, at.head, no))) in
-        let by_answers : (entrant : List ℕ) → answers_by world id entrant ≡ answers_by later id entrant = λ entrant.
+        let by_answers : (entrant : List ℕ) → round_answers_by world id entrant ≡ round_answers_by later id entrant = λ entrant.
         left_same answer_total same_answer_keys (λ k. same_text k.round id && same_text k.entrant entrant) (is_of entrant id) world.answers answers
         (λ k r here. ap (λ (x : AnswerKey). same_text x.round id && same_text x.entrant entrant) (typed.answers k r here))
         (λ k r here. ap (λ (x : AnswerKey). same_text x.round id && same_text x.entrant entrant) (retyped.answers k r here))
         (λ k passes. look.answers id row.round at.head published k ((text_decides k.round id).0 (and_first _ _ passes))) in
-        let by_protests : (entrant : List ℕ) → protests_by world id entrant ≡ protests_by later id entrant = λ entrant.
+        let by_protests : (entrant : List ℕ) → round_protests_by world id entrant ≡ round_protests_by later id entrant = λ entrant.
         left_same protest_total same_protest_keys (λ k. same_text k.round id && same_text k.entrant entrant) (λ r. same_text r.key.round id && same_text r.key.entrant entrant) world.protests protests
         (λ k r here. ap (λ (x : ProtestKey). same_text x.round id && same_text x.entrant entrant) (typed.protests k r here))
         (λ k r here. ap (λ (x : ProtestKey). same_text x.round id && same_text x.entrant entrant) (retyped.protests k r here))

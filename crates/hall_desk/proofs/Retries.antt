@@ -21,7 +21,7 @@ use Rattle.hall_store.specs.Caller.{caller_of}
 use Rattle.hall_desk.specs.Shown.{told_verdict, is_sealed}
 use Rattle.hall_desk.specs.Step.{Step, Decided, answer_row}
 use Rattle.hall_desk.specs.Promises.{IsToldAgain, IsAcceptedNow, IsAcceptedRow, IsRetryOf, AcceptedAnswersStay}
-use Rattle.hall_desk.specs.Records.{Remains}
+use Rattle.hall_desk.specs.Records.{KeptRecords}
 use Rattle.hall_desk.specs.declared.reply.Reply.{Reply}
 use Rattle.hall_desk.specs.declared.reply.Reply.TheVariants as reply
 use Rattle.hall_desk.proofs.Tokens.{denied_by, token_decides, repeated_text, first_reply}
@@ -87,14 +87,14 @@ accepted world kept t key id number token answer n told (inr (found, (Allow, non
     }
 
 -- who made the accepted answer is still the caller
-pub same_caller : (world later : World) (key : Option (List ℕ)) (person : Person) → Remains world later → caller_of world key ≡ Some person → caller_of later key ≡ caller_of world key
+pub same_caller : (world later : World) (key : Option (List ℕ)) (person : Person) → KeptRecords world later → caller_of world key ≡ Some person → caller_of later key ≡ caller_of world key
 same_caller world later key person remains is = remains.callers key person is ∙ sym is
 
 -- the verdict that is told depends on the round's mode alone
 pub same_told : (a b : Round) (verdict : ℕ) → a.mode ≡ b.mode → told_verdict a verdict ≡ told_verdict b verdict
 same_told a b verdict same = ap (λ (m : Mode). if is_sealed m then None else Some verdict) same
 
-module _ (world later : World) (remains : Remains world later) (caller : Option Person) (t u : ℕ) (id : List ℕ) (number : ℕ) (token answer again : List ℕ)
+module _ (world later : World) (remains : KeptRecords world later) (caller : Option Person) (t u : ℕ) (id : List ℕ) (number : ℕ) (token answer again : List ℕ)
     (round : Round) (found : get world.rounds id ≡ Some round) (none : NoneBelow 6 world caller (action.Submit id number token answer) t) where
   -- the answer's round was released, since a draft is missing for a Submit
   pub was_released : round.released ≡ true
@@ -190,13 +190,13 @@ module _ (world later : World) (remains : Remains world later) (caller : Option 
 
 -- a retry of an accepted answer changes nothing, and is answered as one
 answers_stay : (world kept later : World) (t : ℕ) (key : Option (List ℕ)) (id : List ℕ) (number : ℕ) (token answer : List ℕ) (n : ℕ) (told : Option ℕ) →
-    Step world t (record { key = key; action = action.Submit id number token answer }) (reply.Submit n told) kept → Remains kept later →
+    Step world t (record { key = key; action = action.Submit id number token answer }) (reply.Submit n told) kept → KeptRecords kept later →
     (u : ℕ) (again : List ℕ) (given : Reply) (new : World) → Step later u (record { key = key; action = action.Submit id number token again }) given new →
     (new ≡ later) × IsRetryOf answer again (reply.Submit n told) given
 answers_stay world kept later t key id number token answer n told first between u again given new (inl (says, left)) = (left, inl says)
 answers_stay world kept later t key id number token answer n told first between u again given new (inr (found, (decision, decides, decided))) =
     let h = accepted world kept t key id number token answer n told first in
-    let remains : Remains world later = remains_on world kept later (step_remains world t (record { key = key; action = action.Submit id number token answer }) (reply.Submit n told) kept first) between in
+    let remains : KeptRecords world later = remains_on world kept later (step_remains world t (record { key = key; action = action.Submit id number token answer }) (reply.Submit n told) kept first) between in
     let same : caller_of later key ≡ caller_of world key = same_caller world later key h.person remains h.is in
     retried world later remains (caller_of later key) t u id number token answer again h.round h.found
     (subst (λ (c : Option Person). NoneBelow 6 world c (action.Submit id number token answer) t) (sym same) h.none)
@@ -206,7 +206,7 @@ answers_stay world kept later t key id number token answer n told first between 
 pub accepted_answers_stay : AcceptedAnswersStay
 accepted_answers_stay world kept later t key id number token answer n told events first life =
     let h = accepted world kept t key id number token answer n told first in
-    let between : Remains kept later = records_stay kept later events life in
+    let between : KeptRecords kept later = records_stay kept later events life in
     let accepted_row : IsAcceptedRow world t h.person.name id number token answer (reply.Submit n told) h.row = record {
       told = record { round = h.round; kept = h.found; same_answer = h.text; told = h.told };
       since = h.since;

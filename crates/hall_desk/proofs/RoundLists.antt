@@ -9,8 +9,8 @@ use Rattle.hall_policy.specs.declared.record.PlaceKey.{PlaceKey}
 use Rattle.hall_store.specs.Maps.{places_from}
 use Rattle.hall_policy.proofs.Texts.{text_decides}
 use Rattle.hall_store.proofs.Tests.{not_true}
-use Rattle.hall_desk.specs.Sentences.{HasList, IsListTold, places_in}
-use Rattle.hall_desk.specs.Whole.{IsInOrder, world_of}
+use Rattle.hall_desk.specs.Sentences.{HasList, IsListTold, places_of_round}
+use Rattle.hall_desk.specs.Whole.{IsInOrder, world_of_whole}
 use Rattle.hall_desk.specs.declared.whole.Whole.{Whole}
 
 -- one entry more
@@ -98,7 +98,7 @@ pub made_told : (list : List Entry) (made : Option (List Entry)) (told : Bool) �
 made_told list None told is some none = ((λ t. let no : false ≡ true = sym is ∙ t in absurd (cc)), (λ are. absurd (none are)))
 made_told list (Some entries) told is some none = ((λ _. subst AreEntries some.0 some.1), (λ _. is))
 
-pub list_told : (world : World) (id : List ℕ) (list : List Entry) (told : Bool) → places_in world id ≡ places_from id 1 list → IsTrue told ↔ AreEntries list → IsTrue told ↔ HasList world id
+pub list_told : (world : World) (id : List ℕ) (list : List Entry) (told : Bool) → places_of_round world id ≡ places_from id 1 list → IsTrue told ↔ AreEntries list → IsTrue told ↔ HasList world id
 list_told world id list told are is = (
   (λ t. (list, are, is.0 t)),
   (λ (other, same, valid).
@@ -107,7 +107,7 @@ list_told world id list told are is = (
 )
 
 -- where the places aren't numbered so, there is no list
-pub none_told : (whole : Whole) → IsInOrder whole → (id : List ℕ) → IsListTold whole.places.items id None → IsTrue false ↔ HasList (world_of whole) id
+pub none_told : (whole : Whole) → IsInOrder whole → (id : List ℕ) → IsListTold whole.places.items id None → IsTrue false ↔ HasList (world_of_whole whole) id
 none_told whole ordered id none = (
   (λ t. let no : false ≡ true = t in absurd (cc)),
   (λ (list, same, valid). absurd (none list (sym (ap (filter (of id)) ordered.places) ∙ same))),

@@ -17,7 +17,7 @@ use Rattle.hall_policy.proofs.Orders.{protest_total}
 use Rattle.hall_store.specs.Caller.{caller_of}
 use Rattle.hall_desk.specs.Lookups.{IsReleasedRound}
 use Rattle.hall_desk.specs.History.{Event, History}
-use Rattle.hall_desk.specs.Records.{Remains}
+use Rattle.hall_desk.specs.Records.{KeptRecords}
 use Rattle.hall_desk.specs.Step.{Step}
 use Rattle.hall_desk.specs.ProtestPromises.{RulingsStay}
 use Rattle.hall_desk.specs.declared.reply.Reply.TheVariants as reply
@@ -78,9 +78,9 @@ pub ruled_later : (world kept later : World) (t : ℕ) (key : Option (List ℕ))
     Step world t (record { key = key; action = action.RuleProtest id entrant token ruling }) (reply.RuleProtest told) kept → History kept events later → IsRuledLater later id entrant token ruling told
 ruled_later world kept later t key id entrant token ruling told events first life =
     let h = ruled_in world kept t key id entrant token ruling told first in
-    let between : Remains kept later = records_stay kept later events life in
+    let between : KeptRecords kept later = records_stay kept later events life in
     let stays = between.protests (record { entrant = entrant; round = id; token = token }) h.row h.stands in
-    let remains : Remains world later = remains_on world kept later (step_remains world t (record { key = key; action = action.RuleProtest id entrant token ruling }) (reply.RuleProtest told) kept first) between in
+    let remains : KeptRecords world later = remains_on world kept later (step_remains world t (record { key = key; action = action.RuleProtest id entrant token ruling }) (reply.RuleProtest told) kept first) between in
     let round = remains.rounds id h.released.0 h.released.1 h.released.2 in
     record {
       same = h.same;

@@ -6,7 +6,8 @@ use Rattle.hall_policy.specs.declared.request.Request.{Request}
 use Rattle.hall_store.specs.Store.{Content, IsSettled}
 use Rattle.hall_desk.specs.Step.{Step}
 use Rattle.hall_desk.specs.Run.{IsLeftBy, Run}
-use Rattle.hall_desk.specs.Plans.{Steps, StopsWithin, Runs, IsStepped, AreStepped, IsNobodys, IsAvailable, NobodysAreAnswered}
+use Rattle.hall_desk.specs.Plans.{IsStepOver, StopsWithin, Runs, IsStepped, AreStepped, IsNobodys, IsAvailable}
+use Rattle.hall_desk.specs.Plans.{NobodysAreAnswered}
 use Rattle.hall_desk.specs.declared.reply.Reply.{Reply}
 use Rattle.hall_desk.specs.declared.reply.Reply.TheVariants.{Unavailable}
 
@@ -21,7 +22,7 @@ run_more world (q ∷ requests) (r ∷ replies) mid asked given last run step =
 
 -- a run over a store and one step more over it
 pub runs_more : (first old new : Content) (requests : List (ℕ × Request)) (replies : List Reply) (asked : ℕ × Request) (given : Reply) →
-    (new.serves → old.serves) → Runs first requests replies old → Steps old asked.0 asked.1 given new → Runs first (requests ++ asked ∷ []) (replies ++ given ∷ []) new
+    (new.serves → old.serves) → Runs first requests replies old → IsStepOver old asked.0 asked.1 given new → Runs first (requests ++ asked ∷ []) (replies ++ given ∷ []) new
 runs_more first old new requests replies asked given opened (last, run, own) (inl (always, left)) =
     (last, run_more first.world requests replies last asked given last run (always last), λ s. left s ∙ own (opened s))
 runs_more first old new requests replies asked given opened (last, run, own) (inr (before, after, step)) =
@@ -53,13 +54,13 @@ stepped_more content first old new (q ∷ requests) (r ∷ replies) asked given 
 
 -- What a stop leaves after one request more.
 module _ (first old new : Content) (requests : List (ℕ × Request)) (replies : List Reply) (asked : ℕ × Request) (given : Reply) (runs : Runs first requests replies old)
-    (steps : Steps old asked.0 asked.1 given new) (stops : StopsWithin old asked.0 asked.1 given new) (settled : IsSettled new) (honest : new.honest)
+    (steps : IsStepOver old asked.0 asked.1 given new) (stops : StopsWithin old asked.0 asked.1 given new) (settled : IsSettled new) (honest : new.honest)
     (before : (left : World) → old.may_leave left → IsLeftBy first.world requests replies left) where
   -- the store's own world, where it served
   own : old.serves → Run first.world requests replies old.world
   own serves = subst (λ (w : World). Run first.world requests replies w) (sym (runs.2 serves)) runs.1
 
-  onward : (left : World) → new.may_leave left → Steps old asked.0 asked.1 given new → IsLeftBy first.world requests replies left
+  onward : (left : World) → new.may_leave left → IsStepOver old asked.0 asked.1 given new → IsLeftBy first.world requests replies left
       → IsLeftBy first.world (requests ++ asked ∷ []) (replies ++ given ∷ []) left
   onward left may (inl (always, same)) (inl run) = inl (run_more first.world requests replies left asked given left run (always left))
   onward left may (inl (always, same)) (inr one) = inr (record {

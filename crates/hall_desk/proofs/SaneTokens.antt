@@ -2,7 +2,7 @@
 use Rattle.std.proofs.Common.{◌≡◌, inl, inr, ℕ, true, false, List, Option, Some, None, sym, ap, ◌∙◌, subst}
 use Rattle.std.specs.FinMap.{get}
 use Rattle.hall_policy.specs.World.{World, IsTesterOf, place_of}
-use Rattle.hall_policy.specs.Rules.{Lists, HasHandIn, RoundIsMissing}
+use Rattle.hall_policy.specs.Rules.{ListsEntry, HasHandIn, RoundIsMissing}
 use Rattle.hall_policy.specs.declared.record.Person.{Person}
 use Rattle.hall_policy.specs.declared.request.Action.{Action}
 use Rattle.hall_policy.specs.declared.request.Action.TheVariants as action
@@ -34,7 +34,7 @@ module _ (world : World) (person : Person) (id : List ℕ) (there : get world.pe
   has_no_hand other also (inl (named, round, entry, asked, kept, lists, own)) =
       let one : person ≡ other = cc in
       let here : id ≡ named = cc in
-      part.3 entry (subst (λ (x : List ℕ). Lists world x entry) (sym here) lists) (own ∙ ap (λ (p : Person). p.name) (sym one))
+      part.3 entry (subst (λ (x : List ℕ). ListsEntry world x entry) (sym here) lists) (own ∙ ap (λ (p : Person). p.name) (sym one))
   has_no_hand other also (inr (named, round, asked, kept, tests)) =
       let one : person ≡ other = cc in
       let here : id ≡ named = cc in

@@ -23,12 +23,15 @@ use Rattle.hall_policy.proofs.Orders.{text_total, same_texts, puzzle_total, same
 use Rattle.hall_policy.proofs.Texts.{text_decides, and_first, and_second}
 use Rattle.hall_store.proofs.Tests.{and_both, contained, placed, later, find-None, find-Contains}
 use Rattle.hall_desk.specs.Checked.{AreAllTold, AreStatesAsked, AreStatesTrue, all_sentences}
-use Rattle.hall_desk.specs.Checks.{AreTold, Tells}
-use Rattle.hall_desk.specs.Finds.{Each}
+use Rattle.hall_desk.specs.Checks.{AreTold, TellsSentence}
+use Rattle.hall_desk.specs.Finds.{EveryRow}
 use Rattle.hall_desk.specs.Lookups.{IsReleasedRound}
-use Rattle.hall_desk.specs.Sane.{Sane, IsTrueState, HasPlace, IsVerdictAt, MayTakePart}
-use Rattle.hall_desk.specs.Sentences.{is_numbered_alike, HasOwnKey, HasRolesApart, IsKnown, HasFewPuzzles, HasList, HasFewTesters, IsReleasedFirst, IsRoundThere, HasPuzzle, IsCertifiedFirst, IsInNoOther, IsNumbered, IsNumberedOnce, IsOneOfFewAnswers, IsRuledFirst, IsOneOfFewProtests}
-use Rattle.hall_desk.specs.Whole.{world_of}
+use Rattle.hall_desk.specs.Sane.{Sane, IsTrueState, IsPlaceThere, IsVerdictAt, MayTakePart}
+use Rattle.hall_desk.specs.Sentences.{is_numbered_alike, HasOwnKey, HasRolesApart, IsKnown, HasFewPuzzles, HasList}
+use Rattle.hall_desk.specs.Sentences.{HasFewTesters, IsReleasedFirst, IsRoundThere, HasPuzzle, IsCertifiedFirst}
+use Rattle.hall_desk.specs.Sentences.{IsInNoOther, IsAnswerNumbered, IsNumberedOnce, IsOneOfFewAnswers, IsRuledFirst}
+use Rattle.hall_desk.specs.Sentences.{IsOneOfFewProtests}
+use Rattle.hall_desk.specs.Whole.{world_of_whole}
 use Rattle.hall_desk.specs.declared.sentence.Breaches.{Breaches}
 use Rattle.hall_desk.specs.declared.sentence.Sentence.{Sentence}
 use Rattle.hall_desk.specs.declared.sentence.Sentence.TheVariants as sentence
@@ -39,14 +42,14 @@ use Rattle.hall_desk.proofs.Standing.{entry_of_get}
 use Rattle.hall_desk.proofs.WholeLists.{whole_list}
 
 -- what is told of the sentence at a place in the list
-told_at : (world : World) (sentences : List Sentence) (told : List Breaches) → AreTold world sentences told → Each (λ found. found.first.items ≡ []) told → (k : ℕ) (sentence : Sentence) → slice_get sentences k ≡ Some sentence →
-    (found : Breaches) × Tells world sentence found × (found.first.items ≡ [])
+told_at : (world : World) (sentences : List Sentence) (told : List Breaches) → AreTold world sentences told → EveryRow (λ found. found.first.items ≡ []) told → (k : ℕ) (sentence : Sentence) → slice_get sentences k ≡ Some sentence →
+    (found : Breaches) × TellsSentence world sentence found × (found.first.items ≡ [])
 told_at world [] told are none k sentence at = absurd (cc)
 told_at world (s ∷ ss) [] are none k sentence at = absurd are
 told_at world (s ∷ ss) (f ∷ fs) (own, tells, rest) none zero sentence at =
     let first : Some s ≡ Some sentence = at in
     let same : s ≡ sentence = cc in
-    (f, subst (λ (x : Sentence). Tells world x f) same tells, none f (contained (f ∷ fs) f 0 refl))
+    (f, subst (λ (x : Sentence). TellsSentence world x f) same tells, none f (contained (f ∷ fs) f 0 refl))
 told_at world (s ∷ ss) (f ∷ fs) (own, tells, rest) none (suc k) sentence at = told_at world ss fs rest (λ found among. none found (later f fs found among)) k sentence at
 
 -- ---- counts
@@ -88,93 +91,93 @@ low_count {X} p xs most says = elim (find p xs) as (λ o. find p xs ≡ o → co
         let rest = count_none ys (λ x among. off x (later y ys x among)) in
         omega (arith, count_cons p y ys, here, rest)
 
-module _ (whole : Whole) (told : List Breaches) (are : AreAllTold (world_of whole) told) (none : Each (λ found. found.first.items ≡ []) told)
-    (true_states : Each (λ row. IsTrueState row.puzzle row.state) (values (world_of whole).puzzles)) (ranges : AreRowsInRange (world_of whole)) where
+module _ (whole : Whole) (told : List Breaches) (are : AreAllTold (world_of_whole whole) told) (none : EveryRow (λ found. found.first.items ≡ []) told)
+    (true_states : EveryRow (λ row. IsTrueState row.puzzle row.state) (values (world_of_whole whole).puzzles)) (ranges : AreRowsInRange (world_of_whole whole)) where
   abbrev W : World
-  W = world_of whole
+  W = world_of_whole whole
 
-  at : (k : ℕ) (sentence : Sentence) → slice_get all_sentences k ≡ Some sentence → (found : Breaches) × Tells W sentence found × (found.first.items ≡ [])
+  at : (k : ℕ) (sentence : Sentence) → slice_get all_sentences k ≡ Some sentence → (found : Breaches) × TellsSentence W sentence found × (found.first.items ≡ [])
   at k sentence is = told_at W all_sentences told are none k sentence is
 
-  own_key : Each (HasOwnKey W) (values W.people)
+  own_key : EveryRow (HasOwnKey W) (values W.people)
   own_key = let f = at 0 sentence.OwnKey refl in f.1.whole f.2
 
-  roles_apart : Each HasRolesApart (values W.people)
+  roles_apart : EveryRow HasRolesApart (values W.people)
   roles_apart = let f = at 1 sentence.RolesApart refl in f.1.whole f.2
 
-  author_there : Each (λ (row : PuzzleRow). IsKnown W row.key.author) (values W.puzzles)
+  author_there : EveryRow (λ (row : PuzzleRow). IsKnown W row.key.author) (values W.puzzles)
   author_there = let f = at 2 sentence.AuthorThere refl in f.1.whole f.2
 
-  few_puzzles : Each (HasFewPuzzles W) (values W.puzzles)
+  few_puzzles : EveryRow (HasFewPuzzles W) (values W.puzzles)
   few_puzzles = let f = at 3 sentence.FewPuzzles refl in f.1.whole f.2
 
-  list_whole : Each (λ (round : Round). HasList W round.id) (values W.rounds)
+  list_whole : EveryRow (λ (round : Round). HasList W round.id) (values W.rounds)
   list_whole = let f = at 5 sentence.ListWhole refl in f.1.whole f.2
 
-  few_testers : Each (λ (round : Round). HasFewTesters W round.id) (values W.rounds)
+  few_testers : EveryRow (λ (round : Round). HasFewTesters W round.id) (values W.rounds)
   few_testers = let f = at 6 sentence.FewTesters refl in f.1.whole f.2
 
-  released_first : Each IsReleasedFirst (values W.rounds)
+  released_first : EveryRow IsReleasedFirst (values W.rounds)
   released_first = let f = at 7 sentence.ReleasedFirst refl in f.1.whole f.2
 
-  entry_home : Each (λ (place : PlaceKey × Entry). IsRoundThere W place.0.round) (entries W.places)
+  entry_home : EveryRow (λ (place : PlaceKey × Entry). IsRoundThere W place.0.round) (entries W.places)
   entry_home = let f = at 8 sentence.EntryHome refl in f.1.whole f.2
 
-  puzzle_there : Each (λ (place : PlaceKey × Entry). HasPuzzle W place.1) (entries W.places)
+  puzzle_there : EveryRow (λ (place : PlaceKey × Entry). HasPuzzle W place.1) (entries W.places)
   puzzle_there = let f = at 9 sentence.PuzzleThere refl in f.1.whole f.2
 
-  certified_first : Each (IsCertifiedFirst W) (entries W.places)
+  certified_first : EveryRow (IsCertifiedFirst W) (entries W.places)
   certified_first = let f = at 10 sentence.CertifiedFirst refl in f.1.whole f.2
 
-  in_no_other : Each (IsInNoOther W) (entries W.places)
+  in_no_other : EveryRow (IsInNoOther W) (entries W.places)
   in_no_other = let f = at 11 sentence.InNoOther refl in f.1.whole f.2
 
-  tester_home : Each (λ (tester : TesterKey × Unit {0}). IsRoundThere W tester.0.round) (entries W.testers)
+  tester_home : EveryRow (λ (tester : TesterKey × Unit {0}). IsRoundThere W tester.0.round) (entries W.testers)
   tester_home = let f = at 12 sentence.TesterHome refl in f.1.whole f.2
 
-  tester_there : Each (λ (tester : TesterKey × Unit {0}). IsKnown W tester.0.name) (entries W.testers)
+  tester_there : EveryRow (λ (tester : TesterKey × Unit {0}). IsKnown W tester.0.name) (entries W.testers)
   tester_there = let f = at 13 sentence.TesterThere refl in f.1.whole f.2
 
-  answerer_there : Each (λ (row : AnswerRow). IsKnown W row.key.entrant) (values W.answers)
+  answerer_there : EveryRow (λ (row : AnswerRow). IsKnown W row.key.entrant) (values W.answers)
   answerer_there = let f = at 14 sentence.AnswererThere refl in f.1.whole f.2
 
-  answered_there : Each (λ (row : AnswerRow). HasPlace W row.key.round row.key.number) (values W.answers)
+  answered_there : EveryRow (λ (row : AnswerRow). IsPlaceThere W row.key.round row.key.number) (values W.answers)
   answered_there = let f = at 15 sentence.AnsweredThere refl in f.1.whole f.2
 
-  answer_released : Each (λ (row : AnswerRow). IsReleasedRound W row.key.round) (values W.answers)
+  answer_released : EveryRow (λ (row : AnswerRow). IsReleasedRound W row.key.round) (values W.answers)
   answer_released = let f = at 16 sentence.AnswerReleased refl in f.1.whole f.2
 
-  may_answer : Each (λ (row : AnswerRow). MayTakePart W row.key.entrant row.key.round) (values W.answers)
+  may_answer : EveryRow (λ (row : AnswerRow). MayTakePart W row.key.entrant row.key.round) (values W.answers)
   may_answer = let f = at 17 sentence.MayAnswer refl in f.1.whole f.2
 
-  verdict_true : Each (λ (row : AnswerRow). IsVerdictAt W row.key.round row.key.number row) (values W.answers)
+  verdict_true : EveryRow (λ (row : AnswerRow). IsVerdictAt W row.key.round row.key.number row) (values W.answers)
   verdict_true = let f = at 18 sentence.VerdictTrue refl in f.1.whole f.2
 
-  numbered : Each (IsNumbered W) (values W.answers)
+  numbered : EveryRow (IsAnswerNumbered W) (values W.answers)
   numbered = let f = at 19 sentence.Numbered refl in f.1.whole f.2
 
-  numbered_once : Each (IsNumberedOnce W) (values W.answers)
+  numbered_once : EveryRow (IsNumberedOnce W) (values W.answers)
   numbered_once = let f = at 20 sentence.NumberedOnce refl in f.1.whole f.2
 
-  few_answers : Each (IsOneOfFewAnswers W) (values W.answers)
+  few_answers : EveryRow (IsOneOfFewAnswers W) (values W.answers)
   few_answers = let f = at 21 sentence.FewAnswers refl in f.1.whole f.2
 
-  protester_there : Each (λ (row : ProtestRow). IsKnown W row.key.entrant) (values W.protests)
+  protester_there : EveryRow (λ (row : ProtestRow). IsKnown W row.key.entrant) (values W.protests)
   protester_there = let f = at 22 sentence.ProtesterThere refl in f.1.whole f.2
 
-  protested_there : Each (λ (row : ProtestRow). HasPlace W row.key.round row.number) (values W.protests)
+  protested_there : EveryRow (λ (row : ProtestRow). IsPlaceThere W row.key.round row.number) (values W.protests)
   protested_there = let f = at 23 sentence.ProtestedThere refl in f.1.whole f.2
 
-  protest_released : Each (λ (row : ProtestRow). IsReleasedRound W row.key.round) (values W.protests)
+  protest_released : EveryRow (λ (row : ProtestRow). IsReleasedRound W row.key.round) (values W.protests)
   protest_released = let f = at 24 sentence.ProtestReleased refl in f.1.whole f.2
 
-  may_protest : Each (λ (row : ProtestRow). MayTakePart W row.key.entrant row.key.round) (values W.protests)
+  may_protest : EveryRow (λ (row : ProtestRow). MayTakePart W row.key.entrant row.key.round) (values W.protests)
   may_protest = let f = at 25 sentence.MayProtest refl in f.1.whole f.2
 
-  ruled_first : Each (IsRuledFirst W) (values W.protests)
+  ruled_first : EveryRow (IsRuledFirst W) (values W.protests)
   ruled_first = let f = at 26 sentence.RuledFirst refl in f.1.whole f.2
 
-  few_protests : Each (IsOneOfFewProtests W) (values W.protests)
+  few_protests : EveryRow (IsOneOfFewProtests W) (values W.protests)
   few_protests = let f = at 27 sentence.FewProtests refl in f.1.whole f.2
 
   -- each row is among the values, and stands under its own key
@@ -194,10 +197,10 @@ module _ (whole : Whole) (told : List Breaches) (are : AreAllTold (world_of whol
   protest key row found = (own_row protest_total same_protest_keys (λ (r : ProtestRow). r.key) whole.protests.items key row found).1
 
   -- what is told of a row is told of its key
-  of_answer : (Says : AnswerKey → AnswerRow → Type 0) → Each (λ row. Says row.key row) (values W.answers) → (key : AnswerKey) (row : AnswerRow) → get W.answers key ≡ Some row → Says key row
+  of_answer : (Says : AnswerKey → AnswerRow → Type 0) → EveryRow (λ row. Says row.key row) (values W.answers) → (key : AnswerKey) (row : AnswerRow) → get W.answers key ≡ Some row → Says key row
   of_answer Says each key row found = subst (λ (k : AnswerKey). Says k row) (answer key row found) (each row (value_of_get W.answers key row found))
 
-  of_protest : (Says : ProtestKey → ProtestRow → Type 0) → Each (λ row. Says row.key row) (values W.protests) → (key : ProtestKey) (row : ProtestRow) → get W.protests key ≡ Some row → Says key row
+  of_protest : (Says : ProtestKey → ProtestRow → Type 0) → EveryRow (λ row. Says row.key row) (values W.protests) → (key : ProtestKey) (row : ProtestRow) → get W.protests key ≡ Some row → Says key row
   of_protest Says each key row found = subst (λ (k : ProtestKey). Says k row) (protest key row found) (each row (value_of_get W.protests key row found))
 
   one_key : (a b : List ℕ) (p q : Person) → get W.people a ≡ Some p → get W.people b ≡ Some q → p.key ≡ q.key → a ≡ b
@@ -287,9 +290,9 @@ module _ (whole : Whole) (told : List Breaches) (are : AreAllTold (world_of whol
       entries = λ key entry found. puzzle_there (key, entry) (entry_of_get place_total same_place_keys W.places key entry found);
       testers = λ round name tests. tester_there (record { round = round; name = name }, tt) (entry_of_get tester_total same_tester_keys W.testers (record { round = round; name = name }) tt tests);
       entrants = of_answer (λ key row. IsKnown W key.entrant) answerer_there;
-      answered = of_answer (λ key row. HasPlace W key.round key.number) answered_there;
+      answered = of_answer (λ key row. IsPlaceThere W key.round key.number) answered_there;
       protesters = of_protest (λ key row. IsKnown W key.entrant) protester_there;
-      protested = of_protest (λ key row. HasPlace W key.round row.number) protested_there;
+      protested = of_protest (λ key row. IsPlaceThere W key.round row.number) protested_there;
     };
     states = λ key row found. true_states row (value_of_get W.puzzles key row found);
     answers_released = of_answer (λ key row. IsReleasedRound W key.round) answer_released;
@@ -311,7 +314,7 @@ module _ (whole : Whole) (told : List Breaches) (are : AreAllTold (world_of whol
   }
 
 -- where each puzzle was searched to an end, and no state was found false, each is true
-pub states_true : (budget : Option ℕ) (rows : List PuzzleRow) (states : Option States) → AreStatesAsked budget rows states → AreStatesTrue states → Each (λ row. IsTrueState row.puzzle row.state) rows
+pub states_true : (budget : Option ℕ) (rows : List PuzzleRow) (states : Option States) → AreStatesAsked budget rows states → AreStatesTrue states → EveryRow (λ row. IsTrueState row.puzzle row.state) rows
 states_true budget rows None asked true_all = absurd true_all
 states_true None rows (Some states) asked true_all = absurd asked
 states_true (Some most) rows (Some states) asked true_all = asked.whole true_all.0 true_all.1

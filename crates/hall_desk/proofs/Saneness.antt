@@ -17,7 +17,7 @@ use Rattle.hall_policy.proofs.Texts.{text_decides}
 use Rattle.hall_store.proofs.Inserts.{found_after, others_stay, still_there}
 use Rattle.std.specs.Cmp.{unsigned_Decides}
 use Rattle.hall_desk.specs.Lookups.{IsReleasedRound}
-use Rattle.hall_desk.specs.Sane.{Sane, RefersToRows, IsTrueState, IsVerdictAt, HasPlace, MayTakePart}
+use Rattle.hall_desk.specs.Sane.{Sane, RefersToRows, IsTrueState, IsVerdictAt, IsPlaceThere, MayTakePart}
 
 and_all : (a b c : Bool) → a ≡ true → b ≡ true → c ≡ true → (a && (b && c)) ≡ true
 and_all true true true p q r = refl
@@ -225,7 +225,7 @@ module _ (world : World) (row : AnswerRow) where
         | inr h ↦ sane.refers.entrants q r h.1
       ];
       answered = λ q r found. elim (after_submit q r found) [
-        | inl h ↦ subst (λ (k : AnswerKey). HasPlace world k.round k.number) (sym h.0) (verdict.0, verdict.2)
+        | inl h ↦ subst (λ (k : AnswerKey). IsPlaceThere world k.round k.number) (sym h.0) (verdict.0, verdict.2)
         | inr h ↦ sane.refers.answered q r h.1
       ];
       protesters = sane.refers.protesters;

@@ -29,7 +29,7 @@ use Rattle.hall_desk.specs.Without.{has_key, replies_to}
 use Rattle.hall_desk.specs.Exchanged.{swapped, exchanged_reply, exchanged_replies}
 use Rattle.hall_desk.specs.declared.reply.Reply.{Reply}
 use Rattle.hall_policy.proofs.Texts.{text_decides}
-use Rattle.hall_desk.specs.Records.{Remains}
+use Rattle.hall_desk.specs.Records.{KeptRecords}
 use Rattle.hall_desk.proofs.StepsSane.{step_sane, run_sane}
 use Rattle.hall_desk.proofs.Shows.{one_row}
 use Rattle.hall_desk.proofs.StepsAlike.{same_callers, exchanged_answers}
@@ -246,7 +246,7 @@ module _ (last : World) (e : Person) (settled : IsWorld last) (there : get last.
       let after : World = swaps.0 in
       let ours : List Reply = replies_to e.key (map timed later) (exchanged_replies r a b (map timed later) replies) in
       let theirs : List Reply = replies_to e.key (map timed (exchange later)) others in
-      let remains : Remains world last = run_remains world (map timed (q ∷ later)) (given ∷ replies) last (run_of world last (q ∷ later) (given ∷ replies) run) in
+      let remains : KeptRecords world last = run_remains world (map timed (q ∷ later)) (given ∷ replies) last (run_of world last (q ∷ later) (given ∷ replies) run) in
       let tail : theirs ≡ ours =
       claim next after end replies others
       (still_sane q later world other given replies sane too alike kept none also typed before run)

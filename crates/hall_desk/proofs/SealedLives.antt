@@ -24,7 +24,7 @@ use Rattle.hall_desk.specs.Sane.{Sane}
 use Rattle.hall_desk.specs.Shown.{is_sealed}
 use Rattle.hall_desk.specs.Step.{Asked, IsAnswered, Step, Seed}
 use Rattle.hall_desk.specs.History.{Event, requested, seeded, History, IsTyped}
-use Rattle.hall_desk.specs.Records.{Remains}
+use Rattle.hall_desk.specs.Records.{KeptRecords}
 use Rattle.hall_desk.specs.Without.{is_certify}
 use Rattle.hall_desk.specs.Lives.{is_e_or_none, is_told, IsRefusedAlike, HappenAgain, timed_requests, exchanged_event, HistoriesHideAnswers}
 use Rattle.hall_desk.specs.declared.reply.Reply.{Reply}
@@ -75,7 +75,7 @@ module _ (last : World) (e : Person) (settled : IsWorld last) (there : get last.
     pub beside : Beside next after
     pub told : is_e_or_none e (caller_of last request.key) ≡ true → exchanged_reply ex request.action given ≡ answered
 
-  both_answered : (world other next after : World) (t : ℕ) (request : Request) (given answered : Reply) → Beside world other → Remains world last → IsTimed (t, request) → t < end_of round →
+  both_answered : (world other next after : World) (t : ℕ) (request : Request) (given answered : Reply) → Beside world other → KeptRecords world last → IsTimed (t, request) → t < end_of round →
       (is_certify request.action ≡ true → given ≡ answered) → (found again : PuzzleState) → IsAnswered world (record { moment = t; request = request; found = found }) given next →
       IsAnswered other (record { moment = t; request = exchanged_request ex request; found = again }) answered after → BothMade next after request given answered
   both_answered world other next after t request given answered h remains is_timed in_time supposed found again first second =
@@ -97,7 +97,7 @@ module _ (last : World) (e : Person) (settled : IsWorld last) (there : get last.
             (told_calls last e settled there alone world remains request.key told) given answered next after first done);
       }
 
-  both_made : (world other next after : World) (t : ℕ) (request : Request) (given answered : Reply) → Beside world other → Remains world last → IsTimed (t, request) → t < end_of round →
+  both_made : (world other next after : World) (t : ℕ) (request : Request) (given answered : Reply) → Beside world other → KeptRecords world last → IsTimed (t, request) → t < end_of round →
       IsRefusedAlike given answered → (is_certify request.action ≡ true → given ≡ answered) → Step world t request given next → Step other t (exchanged_request ex request) answered after →
       BothMade next after request given answered
   both_made world other next after t request given answered h remains is_timed in_time refused supposed (inl p) (inl k) = record {

@@ -11,7 +11,7 @@ use Rattle.hall_policy.specs.Ranges.{IsPerson}
 use Rattle.hall_policy.specs.Rules.{HasConflict}
 use Rattle.hall_policy.specs.declared.record.Person.{Person}
 use Rattle.hall_policy.specs.declared.request.Action.TheVariants.{Import}
-use Rattle.hall_store.specs.Store.{Content, Kept, Left, Leads, LeavesOneOf, Made}
+use Rattle.hall_store.specs.Store.{Content, Kept, KeptWorld, Leads, LeavesOneOf, MakesInWorld}
 use Rattle.hall_store.specs.Change.{changed, CanMake}
 use Rattle.hall_store.specs.declared.change.Change.{Change}
 use Rattle.hall_store.specs.declared.change.Change.TheVariants.{Nothing}
@@ -44,7 +44,7 @@ import_plan world facts t people plan told clear is = record {
 
 -- a store that has made a plan's change served before it, and so it did where a plan without one was asked of it
 pub seeded_serves : {R : Type 0} (E : Type 0) (mid new : Content) (change : Change) (done : R) → (change ≡ Nothing → mid.honest → mid.serves) → Leads mid new
-    → (change ≡ Nothing) ⊎ Made {E = E} change mid new (Ok done) → new.honest → mid.serves
+    → (change ≡ Nothing) ⊎ MakesInWorld {E = E} change mid new (Ok done) → new.honest → mid.serves
 seeded_serves E mid new change done asked leads (inl none) h = asked none (leads.honest h)
 seeded_serves E mid new change done asked leads (inr made) h = leads.serves h (made h).0
 
@@ -69,7 +69,7 @@ module _ {S : Type 0} (content : S → Content) (old : Content) (mid new : S) (p
   -- the commit was asked, and makes the plan's seed
   pub seed_made : {E : Type 0} (result : Result Reply E) → (plan.change ≡ Nothing → (content mid).honest → (content mid).serves)
       → ((content mid).honest → (content mid).serves → IsSeedPlan (content mid).world people plan)
-      → (plan.change ≡ Nothing → IsOk result × (new ≡ mid)) → (plan.change ≡ Nothing) ⊎ Made plan.change (content mid) (content new) result
+      → (plan.change ≡ Nothing → IsOk result × (new ≡ mid)) → (plan.change ≡ Nothing) ⊎ MakesInWorld plan.change (content mid) (content new) result
       → IfOk result (λ reply. reply ≡ plan.reply) → IfOk result (λ reply. (content new).honest → Seeds old people reply (content new))
   seed_made {E} (Ok reply) asked told nothing made is =
       planned_seed old (content mid) (content new) people plan reply kept (seeded_serves E (content mid) (content new) plan.change reply asked leads made) told leads is
@@ -77,8 +77,8 @@ module _ {S : Type 0} (content : S → Content) (old : Content) (mid new : S) (p
   seed_made (Err fault) asked told nothing made is = tt
 
   -- or is refused, and leaves the world
-  pub seed_refused : {R E : Type 0} (result : Result R E) → (plan.change ≡ Nothing → IsOk result) → (plan.change ≡ Nothing) ⊎ Made plan.change (content mid) (content new) result
-      → OnErr result (Left old (content new))
+  pub seed_refused : {R E : Type 0} (result : Result R E) → (plan.change ≡ Nothing → IsOk result) → (plan.change ≡ Nothing) ⊎ MakesInWorld plan.change (content mid) (content new) result
+      → OnErr result (KeptWorld old (content new))
   seed_refused (Ok done) nothing made = tt
   seed_refused (Err fault) nothing (inl none) = absurd (let no = nothing none in cc)
   seed_refused (Err fault) nothing (inr made) = λ h s. made h s ∙ kept.world (leads.honest h) (leads.serves h s)
@@ -130,6 +130,6 @@ seed_sane_over old new people given are each leads h s seeds sane = elim seeds [
 
 -- so it does where it was answered
 pub seeds_sane : {E : Type 0} (result : Result Reply E) (old new : Content) (people : List Person) → ArePeople people → All IsPerson people → Leads old new
-    → OnErr result (Left old new) → IfOk result (λ reply. new.honest → Seeds old people reply new) → new.honest → new.serves → Sane old.world → Sane new.world
+    → OnErr result (KeptWorld old new) → IfOk result (λ reply. new.honest → Seeds old people reply new) → new.honest → new.serves → Sane old.world → Sane new.world
 seeds_sane (Ok reply) old new people are each leads left seeds h s sane = seed_sane_over old new people reply are each leads h s (seeds h) sane
 seeds_sane (Err fault) old new people are each leads left seeds h s sane = subst Sane (sym (left h s)) sane

@@ -2,10 +2,10 @@
 use Rattle.std.proofs.Common.{◌≡◌, ◌≤◌, ◌⊎◌, inl, inr, ℕ, Ok, sym, ap, ◌∙◌, subst, arith}
 use Rattle.hall_policy.specs.World.{World}
 use Rattle.hall_policy.specs.declared.request.Request.{Request}
-use Rattle.hall_store.specs.Store.{Content, Kept, Leads, LeavesNoOther, LeavesOneOf, Made, WritesOnce}
+use Rattle.hall_store.specs.Store.{Content, Kept, Leads, LeavesNoOther, LeavesOneOf, MakesInWorld, WritesOnce}
 use Rattle.hall_store.specs.Change.{changed}
 use Rattle.hall_desk.specs.Step.{Step}
-use Rattle.hall_desk.specs.Plans.{IsPlanFor, IsQuiet, Planned, Steps, StopsWithin, WritesIfAny}
+use Rattle.hall_desk.specs.Plans.{IsPlanFor, IsQuiet, Planned, IsStepOver, StopsWithin, WritesIfAny}
 use Rattle.hall_store.specs.declared.change.Change.{Change}
 use Rattle.hall_store.specs.declared.change.Change.TheVariants.{Nothing}
 use Rattle.hall_desk.specs.declared.reply.Reply.{Reply}
@@ -14,7 +14,7 @@ use Rattle.hall_desk.specs.declared.plan.Plan.{Plan}
 
 -- what a commit makes of the world of a store that served before
 pub committed : {S R : Type 0} (E : Type 0) (content : S → Content) (old new : S) (change : Change) (done : R) → (change ≡ Nothing → new ≡ old)
-    → (change ≡ Nothing) ⊎ Made {E = E} change (content old) (content new) (Ok done)
+    → (change ≡ Nothing) ⊎ MakesInWorld {E = E} change (content old) (content new) (Ok done)
     → (content new).honest → (content old).serves → (content new).serves × ((content new).world ≡ changed change (content old).world)
 committed E content old new change done nothing (inl none) h s =
     subst (λ i. (content i).serves × ((content i).world ≡ changed change (content old).world)) (sym (nothing none))
@@ -24,7 +24,7 @@ committed E content old new change done nothing (inr made) h s = made h
 module _ (t : ℕ) (request : Request) where
   -- a plan that was made over a store, and its change made there
   pub planned_steps : (E : Type 0) (old mid new : Content) (plan : Plan) (given : Reply) → Kept old mid → Planned {E = E} mid t request (Ok plan) → Leads mid new →
-      given ≡ plan.reply → (new.honest → mid.serves → new.serves × (new.world ≡ changed plan.change mid.world)) → new.honest → Steps old t request given new
+      given ≡ plan.reply → (new.honest → mid.serves → new.serves × (new.world ≡ changed plan.change mid.world)) → new.honest → IsStepOver old t request given new
   planned_steps E old mid new plan given kept (inl made) leads told done h =
       let before = leads.honest h in
       let p = made before in

@@ -26,7 +26,7 @@ use Rattle.hall_desk.specs.Step.{Step, Allowed, new_row, answer_row}
 use Rattle.hall_desk.specs.Run.{IsTimed, Run}
 use Rattle.hall_store.specs.Store.{Content, Asks}
 use Rattle.hall_desk.specs.Plan.{planned_change}
-use Rattle.hall_desk.specs.Plans.{Planned, Steps}
+use Rattle.hall_desk.specs.Plans.{Planned, IsStepOver}
 use Rattle.hall_desk.specs.declared.plan.Plan.{Plan}
 use Rattle.hall_store.specs.Change.{changed}
 use Rattle.hall_desk.specs.Sane.{Sane}
@@ -133,7 +133,7 @@ run_sane world (q ∷ requests) (r ∷ replies) last timed run sane =
     run_sane run.0 requests replies last (All-tail IsTimed q requests timed) run.2 (step_sane world q.0 q.1 r run.0 is.moment is.request run.1 sane)
 
 -- a step over a store keeps its world sane
-pub steps_sane : (old new : Content) (t : ℕ) (request : Request) (given : Reply) → IsMoment t → IsRequest request → new.serves → Steps old t request given new → Sane old.world → Sane new.world
+pub steps_sane : (old new : Content) (t : ℕ) (request : Request) (given : Reply) → IsMoment t → IsRequest request → new.serves → IsStepOver old t request given new → Sane old.world → Sane new.world
 steps_sane old new t request given timed is s (inl (always, left)) sane = subst Sane (sym (left s)) sane
 steps_sane old new t request given timed is s (inr (before, after, step)) sane = step_sane old.world t request given new.world timed is step sane
 

@@ -4,7 +4,8 @@ use Rattle.std.specs.FinMap.{get}
 use Rattle.hall_grid.specs.Board.{Board}
 use Rattle.hall_policy.specs.World.{World}
 use Rattle.hall_policy.specs.Facts.{TrueUpTo, IsRoundFound}
-use Rattle.hall_policy.specs.Rules.{SheetLacks, Lists, StandsReleased, Conflicts, IsInvolved, puzzles_put, answers_given, protests_made}
+use Rattle.hall_policy.specs.Rules.{SheetLacks, ListsEntry, StandsReleased, Conflicts, IsInvolved, puzzles_put}
+use Rattle.hall_policy.specs.Rules.{answers_given, protests_made}
 use Rattle.hall_policy.specs.declared.record.Person.{Person}
 use Rattle.hall_policy.specs.declared.record.PuzzleKey.{PuzzleKey}
 use Rattle.hall_policy.specs.declared.record.Ruling.{Ruling}
@@ -161,7 +162,7 @@ module _ (world : World) (facts : Facts) (action : Action) where
               (
                 (
                   (λ t. let f = uncertified.0 t in (id, f.0, refl, f.1, f.2)),
-                  (λ f. let same : id ≡ f.0 = let named = f.2 in cc in uncertified.1 (f.1, subst (λ (x : List ℕ). Lists world x f.1) (sym same) f.3, f.4)),
+                  (λ f. let same : id ≡ f.0 = let named = f.2 in cc in uncertified.1 (f.1, subst (λ (x : List ℕ). ListsEntry world x f.1) (sym same) f.3, f.4)),
                 ),
                 (round, (round, tt)),
               ),

@@ -1,17 +1,17 @@
 -- What is found of a sentence, as it is told of a world.
 use Rattle.std.proofs.Common.{◌≡◌, ◌++◌, ◌∷◌, [], List, Result, Ok, Err, IfOk, refl, sym, ap, ◌∙◌, subst, append_assoc}
 use Rattle.hall_policy.specs.World.{World}
-use Rattle.hall_desk.specs.Checks.{Tells, AreTold, AreAdded, IsTelling}
-use Rattle.hall_desk.specs.Finds.{Each, Finds}
-use Rattle.hall_desk.specs.Whole.{IsInOrder, world_of}
+use Rattle.hall_desk.specs.Checks.{TellsSentence, AreTold, AreAdded, IsTelling}
+use Rattle.hall_desk.specs.Finds.{EveryRow, Finds}
+use Rattle.hall_desk.specs.Whole.{IsInOrder, world_of_whole}
 use Rattle.hall_desk.specs.declared.sentence.Breaches.{Breaches}
 use Rattle.hall_desk.specs.declared.sentence.Sentence.{Sentence}
 use Rattle.hall_desk.specs.declared.sentence.Spot.{Spot}
 use Rattle.hall_desk.specs.declared.whole.Whole.{Whole}
 
 -- what was found in the rows is told of their world
-pub telling : {X E : Type 0} (whole : Whole) (sentence : Sentence) (Says : X → Type 0) (spot_of : X → Spot) (applies : X → Type 0) (rows kept : List X) (result : Result Breaches E) → (IsInOrder whole → Each applies rows) → (IsInOrder whole → rows ≡ kept) →
-    ((found : Breaches) → Finds Says spot_of kept found → Tells (world_of whole) sentence found) → IfOk result (λ found. found.sentence ≡ sentence) → IfOk result (λ found. Each applies rows → Finds Says spot_of rows found) → IfOk result (IsTelling whole sentence)
+pub telling : {X E : Type 0} (whole : Whole) (sentence : Sentence) (Says : X → Type 0) (spot_of : X → Spot) (applies : X → Type 0) (rows kept : List X) (result : Result Breaches E) → (IsInOrder whole → EveryRow applies rows) → (IsInOrder whole → rows ≡ kept) →
+    ((found : Breaches) → Finds Says spot_of kept found → TellsSentence (world_of_whole whole) sentence found) → IfOk result (λ found. found.sentence ≡ sentence) → IfOk result (λ found. EveryRow applies rows → Finds Says spot_of rows found) → IfOk result (IsTelling whole sentence)
 telling whole sentence Says spot_of applies rows kept (Ok found) each same turn own finds = (own, (λ ordered. turn found (subst (λ xs. Finds Says spot_of xs found) (same ordered) (finds (each ordered)))))
 telling whole sentence Says spot_of applies rows kept (Err e) each same turn own finds = tt
 

@@ -34,7 +34,7 @@ use Rattle.hall_store.specs.declared.fault.StoreFault.TheVariants.{Failed}
 use Rattle.std.specs.Result.{IsErrAnd}
 use Rattle.std.proofs.Common.{Result, Ok, Err, IfErr}
 use Rattle.hall_desk.specs.Sane.{Sane}
-use Rattle.hall_desk.specs.Totals.{AreTotals, HasAnswered, protests_by}
+use Rattle.hall_desk.specs.Totals.{AreTotals, HasAnswered, round_protests_by}
 use Rattle.hall_score.specs.Total.{total_of}
 use Rattle.std.proofs.lemmas.Map.Entries.{lookup_from_place}
 use Rattle.std.proofs.lemmas.Option.{slice_get-get_or}
@@ -301,8 +301,8 @@ module _ (world : World) (id : List ℕ) (row : RoundRow) (answers : List Answer
         let by : ProtestRow → Bool = λ r. same_text r.key.entrant entrant in
         are.right entrant total among
         ∙ (ap (total_of row (filter own answers)) (filter_twice by (is_protest_in id) (values world.protests))
-        ∙ (sym (total_of_permutes row (filter own (filter (is_in id) (values world.answers))) (filter own answers) (protests_by world id entrant) (filter_permutes own (filter (is_in id) (values world.answers)) answers listing.whole))
-        ∙ ap (λ (rs : List AnswerRow). total_of row rs (protests_by world id entrant)) (filter_twice own (is_in id) (values world.answers))));
+        ∙ (sym (total_of_permutes row (filter own (filter (is_in id) (values world.answers))) (filter own answers) (round_protests_by world id entrant) (filter_permutes own (filter (is_in id) (values world.answers)) answers listing.whole))
+        ∙ ap (λ (rs : List AnswerRow). total_of row rs (round_protests_by world id entrant)) (filter_twice own (is_in id) (values world.answers))));
   }
 
 -- ---- over a store

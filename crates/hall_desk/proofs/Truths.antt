@@ -18,7 +18,7 @@ use Rattle.hall_policy.specs.Ranges.{IsState}
 use Rattle.hall_policy.specs.declared.record.PuzzleState.{PuzzleState}
 use Rattle.hall_policy.specs.declared.record.PuzzleState.TheVariants as state
 use Rattle.hall_desk.specs.Step.{IsFound}
-use Rattle.hall_desk.specs.Sane.{Solves, IsTrueState}
+use Rattle.hall_desk.specs.Sane.{SolvesPuzzle, IsTrueState}
 
 -- what a list of givens has set comes from a clue
 clue_of : {C : Type 0} (g : C → Option ℕ) (cs : List C) (i v : ℕ) → slice_index_or (map g cs) i None ≡ Some v → (c : C) × (slice_get cs i ≡ Some c) × (g c ≡ Some v)
@@ -65,7 +65,7 @@ value_zero f n i exact ranges never = elim (cases_order i n) [
 ]
 
 -- a filling that breaks no rule extends the start: it changes no given, no numbered cell is wall, and nothing else is set
-extends_start : (kind : Kind) (size : Size) (clues : List Clue) (f : List ℕ) → Solves (of_parts kind size clues) f → question.Extends f (start_of kind (of_parts kind size clues))
+extends_start : (kind : Kind) (size : Size) (clues : List Clue) (f : List ℕ) → SolvesPuzzle (of_parts kind size clues) f → question.Extends f (start_of kind (of_parts kind size clues))
 extends_start Sudoku size clues f s i v h =
     let at = clue_of (given_of Sudoku) clues i v h in
     given_kept f i v at.0 (λ n e. equal_unless (slice_index f i + 1) n (λ differ. s.right U4 (i, n, at.1 ∙ ap Some e, differ))) at.2
@@ -77,7 +77,7 @@ extends_start Nurikabe size clues f s i v h =
     at.2
 
 -- what solves the search's question breaks no rule: both ask for the same values in as many places
-pub right_from_search : (board : Board) (f : List ℕ) → question.Solves (question_of board.kind board) (start_of board.kind board) f → Solves board f
+pub right_from_search : (board : Board) (f : List ℕ) → question.Solves (question_of board.kind board) (start_of board.kind board) f → SolvesPuzzle board f
 right_from_search board f s = record {
   filling = record {
     exact = s.filling.size;
@@ -87,7 +87,7 @@ right_from_search board f s = record {
 }
 
 -- what breaks no rule solves the search's question, since it extends the start
-pub search_from_right : (board : Board) (f : List ℕ) → Solves board f → question.Solves (question_of board.kind board) (start_of board.kind board) f
+pub search_from_right : (board : Board) (f : List ℕ) → SolvesPuzzle board f → question.Solves (question_of board.kind board) (start_of board.kind board) f
 search_from_right board f s = record {
   filling = record { size = s.filling.exact; in_range = λ i lt. s.filling.ranges i 0 (omega (arith, s.filling.exact)) };
   extends = extends_start board.kind board.size board.clues f s;

@@ -30,7 +30,7 @@ use Rattle.hall_store.specs.Maps.{places_from}
 use Rattle.hall_store.proofs.MapWorlds.{places_of_rounds}
 use Rattle.hall_store.proofs.Ranges.{equal_from_test}
 use Rattle.hall_store.proofs.Tests.{contained, placed, later, not_true, true_not_false, Contains-filter, filter-Contains}
-use Rattle.hall_desk.specs.Sentences.{HasList, HasFewTesters, places_in}
+use Rattle.hall_desk.specs.Sentences.{HasList, HasFewTesters, places_of_round}
 use Rattle.hall_desk.proofs.Standing.{get_of_entry, entry_of_get}
 
 length_mapped : {X Y : Type 0} (f : X → Y) (xs : List X) → length (map f xs) ≡ length xs
@@ -59,7 +59,7 @@ map_among {X} f xs y among =
 
 module _ (world : World) (id : List ℕ) where
   -- the list is what the world has at the round's places
-  list_kept : (row : RoundRow) → places_in world id ≡ places_from id 1 row.puzzles → (number : ℕ) → place_of world id number ≡ entry_at row.puzzles number
+  list_kept : (row : RoundRow) → places_of_round world id ≡ places_from id 1 row.puzzles → (number : ℕ) → place_of world id number ≡ entry_at row.puzzles number
   list_kept row are number =
       let key : PlaceKey = record { round = id; number = number } in
       let tie : text_cmp id id ≡ Equal = tied_itself text_total id in

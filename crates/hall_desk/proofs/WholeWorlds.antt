@@ -14,7 +14,7 @@ use Rattle.hall_policy.specs.declared.record.ProtestRow.{ProtestRow}
 use Rattle.hall_policy.proofs.Maps.{strictly_sorted}
 use Rattle.hall_policy.proofs.Orders.{text_total, same_texts, puzzle_total, same_puzzle_keys, place_total, same_place_keys, tester_total, same_tester_keys, answer_total, same_answer_keys, protest_total, same_protest_keys}
 use Rattle.hall_store.proofs.MapWorlds.{entries_made}
-use Rattle.hall_desk.specs.Whole.{IsInOrder, IsWholeOf, world_of}
+use Rattle.hall_desk.specs.Whole.{IsInOrder, IsWholeOf, world_of_whole}
 use Rattle.hall_desk.specs.declared.whole.Whole.{Whole}
 
 module _ {K X : Type 0} {R : K → K → Ordering} (o : IsTotalOrder R) (same : IsAntisymmetric R) (m : FinMap R X) where
@@ -28,7 +28,7 @@ module _ {K X : Type 0} {R : K → K → Ordering} (o : IsTotalOrder R) (same : 
   keyed_again : (key_of : X → K) (xs : List X) → entries m ≡ map (λ x. (key_of x, x)) (values m) → xs ≡ values m → from_entries {R = R} (map (λ x. (key_of x, x)) xs) ≡ m
   keyed_again key_of xs own is = made_again (map (λ x. (key_of x, x)) xs) (own ∙ ap (map (λ x. (key_of x, x))) (sym is))
 
-pub whole_world : (world : World) (whole : Whole) → IsWholeOf world whole → (world_of whole ≡ world) × IsInOrder whole
+pub whole_world : (world : World) (whole : Whole) → IsWholeOf world whole → (world_of_whole whole ≡ world) × IsInOrder whole
 whole_world world whole is =
     let people = keyed_again text_total same_texts world.people (λ (p : Person). p.name) whole.people.items is.own.people is.people in
     let puzzles = keyed_again puzzle_total same_puzzle_keys world.puzzles (λ (r : PuzzleRow). r.key) whole.puzzles.items is.own.puzzles is.puzzles in

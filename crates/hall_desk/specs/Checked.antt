@@ -4,7 +4,7 @@ use Rattle.std.specs.FinMap.{values}
 use Rattle.hall_policy.specs.World.{World}
 use Rattle.hall_policy.specs.declared.record.PuzzleRow.{PuzzleRow}
 use Rattle.hall_desk.specs.Checks.{AreTold}
-use Rattle.hall_desk.specs.Finds.{Each}
+use Rattle.hall_desk.specs.Finds.{EveryRow}
 use Rattle.hall_desk.specs.Sane.{Sane, IsTrueState}
 use Rattle.hall_desk.specs.States.{AreStatesTold}
 use Rattle.hall_desk.specs.declared.sanity.Checked.{Checked}
@@ -43,7 +43,7 @@ AreStatesTrue (Some states) = (states.found.first.items ≡ []) × (states.undec
 -- no sentence was found false
 abbrev pub IsNothingFound : Checked → Type 0
 IsNothingFound checked =
-    Each (λ found. found.first.items ≡ []) checked.told.items × AreStatesTrue checked.states
+    EveryRow (λ found. found.first.items ≡ []) checked.told.items × AreStatesTrue checked.states
 
 -- What a check says of a world: how much there is of it; of each sentence, each place that is named is one where it is
 -- false, and it is true of each row where none is; so of puzzles' states, where they were searched. Where none of the
@@ -57,6 +57,6 @@ pub record IsChecked (world : World) (budget : Option ℕ) (checked : Checked) :
   pub protests : checked.protests ≡ length (values world.protests)
   pub told : AreAllTold world checked.told.items
   pub states : AreStatesAsked budget (values world.puzzles) checked.states
-  pub but_states : Each (λ found. found.first.items ≡ []) checked.told.items →
-      Each (λ row. IsTrueState row.puzzle row.state) (values world.puzzles) → Sane world
+  pub but_states : EveryRow (λ found. found.first.items ≡ []) checked.told.items →
+      EveryRow (λ row. IsTrueState row.puzzle row.state) (values world.puzzles) → Sane world
   pub sane : IsNothingFound checked → Sane world

@@ -4,8 +4,8 @@ use Rattle.hall_desk.specs.declared.sentence.Spot.{Spot}
 use Rattle.hall_desk.specs.declared.sentence.Breaches.{Breaches}
 
 -- each of the rows has what is said
-abbrev pub Each : {X : Type 0} → (X → Type 0) → List X → Type 0
-Each {X} Says rows = (row : X) → Contains rows row → Says row
+abbrev pub EveryRow : {X : Type 0} → (X → Type 0) → List X → Type 0
+EveryRow {X} Says rows = (row : X) → Contains rows row → Says row
 
 -- so many of the rows lack what is said
 abbrev pub Lack : {X : Type 0} → (X → Type 0) → List X → ℕ → Type 0
@@ -18,7 +18,7 @@ Lack Says (row ∷ rows) count =
 pub record Finds {X : Type 0} (Says : X → Type 0) (spot_of : X → Spot) (rows : List X) (found : Breaches) : Type 0 where
   pub named : (spot : Spot) → Contains found.first.items spot →
       (row : X) × Contains rows row × (spot ≡ spot_of row) × ¬ (Says row)
-  pub whole : found.first.items ≡ [] → Each Says rows
+  pub whole : found.first.items ≡ [] → EveryRow Says rows
   pub counted : Lack Says rows found.count
 
 -- the place was put at the end, or stands behind the twenty that are named
@@ -27,7 +27,7 @@ IsNotedIn before after spot =
     ((length before < 20) × (after ≡ before ++ spot ∷ [])) ⊎ ((20 ≤ length before) × (after ≡ before))
 
 -- what is said is true and nothing changes, or it is false and one more is counted and named
-abbrev pub IsTold : Type 0 → Spot → Breaches → Breaches → Type 0
-IsTold Says spot old new =
+abbrev pub IsBreachTold : Type 0 → Spot → Breaches → Breaches → Type 0
+IsBreachTold Says spot old new =
     (Says × (new ≡ old))
     ⊎ (¬ Says × (new.count ≡ old.count + 1) × IsNotedIn old.first.items new.first.items spot)

@@ -2,7 +2,7 @@
 use Rattle.std.specs.Prelude.{◌≡◌, ◌≢◌, ℕ, List, Option, Some, IsTrue, IfSome}
 use Rattle.std.specs.FinMap.{get}
 use Rattle.hall_policy.specs.World.{World}
-use Rattle.hall_policy.specs.Rules.{Lists, StandsReleased, IsCertified}
+use Rattle.hall_policy.specs.Rules.{ListsEntry, StandsReleased, IsCertified}
 use Rattle.hall_policy.specs.declared.record.Person.{Person}
 use Rattle.hall_policy.specs.declared.record.Entry.{Entry}
 use Rattle.hall_policy.specs.declared.record.Round.{Round}
@@ -35,4 +35,4 @@ HasFault Uncertified world id entry = ¬ (IsCertified world entry.puzzle)
 
 -- an entry of the round has the fault
 abbrev pub HasFaultyEntry : EntryFault → World → List ℕ → Type 0
-HasFaultyEntry fault world id = (entry : Entry) × Lists world id entry × HasFault fault world id entry
+HasFaultyEntry fault world id = (entry : Entry) × ListsEntry world id entry × HasFault fault world id entry

@@ -167,8 +167,8 @@ Planned new t request (Err fault) = Unit {0}
 
 -- The request was answered without the store, or refused, by what is a step in every world and leaves it; or the
 -- store served before and after, and made a step of the hall.
-abbrev pub Steps : Content → ℕ → Request → Reply → Content → Type 0
-Steps old t request given new = Over (λ before after. Step before t request given after) old new
+abbrev pub IsStepOver : Content → ℕ → Request → Reply → Content → Type 0
+IsStepOver old t request given new = Over (λ before after. Step before t request given after) old new
 
 -- What a stop in the answer, or after it, leaves: a world that a stop before it could leave, or the one after a step of
 -- the hall that makes the request, by this reply or where it was answered 503.
@@ -215,7 +215,7 @@ pub record IsStepped {S : Type 0} (content : S → Content) (old : S) (asked : �
   pub leads : Leads (content old) (content new)
   pub once : WritesOnce (content old) (content new)
   pub quiet : WritesIfAny (content old) asked.0 asked.1 (content new)
-  pub steps : (content new).honest → Steps (content old) asked.0 asked.1 given (content new)
+  pub steps : (content new).honest → IsStepOver (content old) asked.0 asked.1 given (content new)
   pub stops : StopsWithin (content old) asked.0 asked.1 given (content new)
   pub untouched : IsNobodys asked.1 → new ≡ old
 

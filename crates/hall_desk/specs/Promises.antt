@@ -27,7 +27,7 @@ use Rattle.hall_store.specs.Caller.{caller_of}
 use Rattle.hall_store.specs.Maps.{empty_world}
 use Rattle.hall_desk.specs.Lookups.{IsReleasedRound}
 use Rattle.hall_desk.specs.Judged.{IsVerdictOn, NamesNoRule}
-use Rattle.hall_desk.specs.Sane.{Sane, Solves}
+use Rattle.hall_desk.specs.Sane.{Sane, SolvesPuzzle}
 use Rattle.hall_desk.specs.Shown.{told_verdict}
 use Rattle.hall_desk.specs.Step.{Step, Seed}
 use Rattle.hall_desk.specs.Run.{IsTimed, Run}
@@ -38,7 +38,8 @@ use Rattle.hall_desk.specs.declared.reply.Reply.TheVariants as reply
 -- one filling breaks no rule of the puzzle, and no other does so
 abbrev pub HasOneSolution : Board → Type 0
 HasOneSolution puzzle =
-    (solution : List ℕ) × Solves puzzle solution × ((other : List ℕ) → Solves puzzle other → other ≡ solution)
+    (solution : List ℕ) × SolvesPuzzle puzzle solution
+    × ((other : List ℕ) → SolvesPuzzle puzzle other → other ≡ solution)
 
 -- each puzzle of a released round is kept, and has exactly one solution
 abbrev pub HasUniqueSolutions : World → Type 0

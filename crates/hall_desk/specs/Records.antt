@@ -43,7 +43,7 @@ pub record StaysListed (later : World) (key : PuzzleKey) (row : PuzzleRow) : Typ
       ⊎ ((is_open row.state ≡ true) × (budget : ℕ) × IsFound row.puzzle budget after.state)
 
 -- the later world has the records of the one before
-pub record Remains (world later : World) : Type 0 where
+pub record KeptRecords (world later : World) : Type 0 where
   -- a person stays whole, with key and roles, and is found by the same key
   pub people : (name : List ℕ) (person : Person) → get world.people name ≡ Some person →
       get later.people name ≡ Some person
@@ -61,7 +61,7 @@ pub record Remains (world later : World) : Type 0 where
 
 -- whatever happens in a hall's life, its records stay
 abbrev pub RecordsStay : Type 0
-RecordsStay = (world later : World) (events : List Event) → History world events later → Remains world later
+RecordsStay = (world later : World) (events : List Event) → History world events later → KeptRecords world later
 
 -- from a sane world on, the whole row of each puzzle of a released round stays: its text, its author and its solution
 abbrev pub ReleasedPuzzlesStay : Type 0

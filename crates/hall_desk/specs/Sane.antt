@@ -6,7 +6,7 @@ use Rattle.hall_grid.specs.Answer.{AnswerText, IsFilling, Verdict}
 use Rattle.hall_solve.specs.Puzzle.{IsRight}
 use Rattle.hall_policy.specs.World.{World, IsTesterOf}
 use Rattle.hall_policy.specs.Ranges.{IsWorld}
-use Rattle.hall_policy.specs.Rules.{Lists, StandsReleased, IsCertified, answers_given, protests_made, puzzles_put}
+use Rattle.hall_policy.specs.Rules.{ListsEntry, StandsReleased, IsCertified, answers_given, protests_made, puzzles_put}
 use Rattle.hall_desk.specs.Lookups.{IsReleasedRound}
 use Rattle.hall_policy.specs.declared.record.Person.{Person}
 use Rattle.hall_policy.specs.declared.record.PuzzleKey.{PuzzleKey}
@@ -22,23 +22,23 @@ use Rattle.hall_policy.specs.declared.record.ProtestKey.{ProtestKey}
 use Rattle.hall_policy.specs.declared.record.ProtestRow.{ProtestRow}
 
 -- the filling breaks no rule of the puzzle
-pub record Solves (puzzle : Board) (f : List ℕ) : Type 0 where
+pub record SolvesPuzzle (puzzle : Board) (f : List ℕ) : Type 0 where
   pub filling : IsFilling puzzle f
   pub right : IsRight puzzle f
 
 -- what a state says of the puzzle's solutions
 abbrev pub IsTrueState : Board → PuzzleState → Type 0
 IsTrueState puzzle (state.One text) =
-    (solution : List ℕ) × AnswerText puzzle text solution × Solves puzzle solution
-    × ((other : List ℕ) → Solves puzzle other → other ≡ solution)
-IsTrueState puzzle state.NoSolution = (filling : List ℕ) → ¬ (Solves puzzle filling)
-IsTrueState puzzle state.More = (a b : List ℕ) × Solves puzzle a × Solves puzzle b × (a ≢ b)
+    (solution : List ℕ) × AnswerText puzzle text solution × SolvesPuzzle puzzle solution
+    × ((other : List ℕ) → SolvesPuzzle puzzle other → other ≡ solution)
+IsTrueState puzzle state.NoSolution = (filling : List ℕ) → ¬ (SolvesPuzzle puzzle filling)
+IsTrueState puzzle state.More = (a b : List ℕ) × SolvesPuzzle puzzle a × SolvesPuzzle puzzle b × (a ≢ b)
 IsTrueState puzzle state.GaveUp = Unit {0}
 IsTrueState puzzle state.New = Unit {0}
 
 -- the round's puzzle of that number is there
-abbrev pub HasPlace : World → List ℕ → ℕ → Type 0
-HasPlace world round number =
+abbrev pub IsPlaceThere : World → List ℕ → ℕ → Type 0
+IsPlaceThere world round number =
     (entry : Entry) × (get world.places (record { round = round; number = number }) ≡ Some entry)
 
 -- what a row refers to is there
@@ -55,11 +55,11 @@ pub record RefersToRows (world : World) : Type 0 where
   pub entrants : (key : AnswerKey) (row : AnswerRow) → get world.answers key ≡ Some row →
       get world.people key.entrant ≢ None
   pub answered : (key : AnswerKey) (row : AnswerRow) → get world.answers key ≡ Some row →
-      HasPlace world key.round key.number
+      IsPlaceThere world key.round key.number
   pub protesters : (key : ProtestKey) (row : ProtestRow) → get world.protests key ≡ Some row →
       get world.people key.entrant ≢ None
   pub protested : (key : ProtestKey) (row : ProtestRow) → get world.protests key ≡ Some row →
-      HasPlace world key.round row.number
+      IsPlaceThere world key.round row.number
 
 -- the verdict is that of the answer to the puzzle at the place
 abbrev pub IsVerdictAt : World → List ℕ → ℕ → AnswerRow → Type 0
@@ -71,7 +71,7 @@ IsVerdictAt world round number row =
 abbrev pub MayTakePart : World → List ℕ → List ℕ → Type 0
 MayTakePart world name round =
     (person : Person) × (get world.people name ≡ Some person) × IsTrue person.roles.entrant
-    × ((entry : Entry) → Lists world round entry → entry.puzzle.author ≢ name) × ¬ (IsTesterOf world round name)
+    × ((entry : Entry) → ListsEntry world round entry → entry.puzzle.author ≢ name) × ¬ (IsTesterOf world round name)
 
 -- a sane world: what every step of the hall keeps
 pub record Sane (world : World) : Type 0 where

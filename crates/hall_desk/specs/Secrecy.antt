@@ -4,7 +4,7 @@ use Rattle.std.specs.Option.{option_map}
 use Rattle.std.specs.FinMap.{get}
 use Rattle.hall_policy.specs.World.{World, IsTesterOf, end_of}
 use Rattle.hall_policy.specs.Ranges.{IsWorld, IsAnswer}
-use Rattle.hall_policy.specs.Rules.{Lists}
+use Rattle.hall_policy.specs.Rules.{ListsEntry}
 use Rattle.hall_policy.specs.OwnAlike.{is_entrant_alone, seen, as_is}
 use Rattle.hall_policy.specs.declared.record.Person.{Person}
 use Rattle.hall_policy.specs.declared.record.PuzzleKey.{PuzzleKey}
@@ -57,12 +57,12 @@ LivesHideOthers =
 abbrev pub HasStarted : World → ℕ → PuzzleKey → Type 0
 HasStarted world t key =
     (id : List ℕ) × (round : Round) × (entry : Entry) × (get world.rounds id ≡ Some round) × IsTrue round.released
-    × (round.start ≤ t) × Lists world id entry × (entry.puzzle ≡ key)
+    × (round.start ≤ t) × ListsEntry world id entry × (entry.puzzle ≡ key)
 
 -- the person of that name is a tester of a round that has the puzzle
 abbrev pub TestsPuzzle : World → List ℕ → PuzzleKey → Type 0
 TestsPuzzle world name key =
-    (id : List ℕ) × (entry : Entry) × IsTesterOf world id name × Lists world id entry × (entry.puzzle ≡ key)
+    (id : List ℕ) × (entry : Entry) × IsTesterOf world id name × ListsEntry world id entry × (entry.puzzle ≡ key)
 
 -- the caller, whoever it is, is a tester of no round with a puzzle that differs
 abbrev pub TestsNothingElse : World → World → Option Person → Type 0

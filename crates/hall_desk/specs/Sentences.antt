@@ -18,8 +18,8 @@ use Rattle.hall_policy.specs.declared.record.AnswerRow.{AnswerRow}
 use Rattle.hall_policy.specs.declared.record.ProtestRow.{ProtestRow}
 use Rattle.hall_store.specs.Maps.{places_from}
 use Rattle.hall_desk.specs.Lookups.{IsReleasedRound}
-use Rattle.hall_desk.specs.Sane.{Solves}
-use Rattle.hall_desk.specs.Whole.{world_of}
+use Rattle.hall_desk.specs.Sane.{SolvesPuzzle}
+use Rattle.hall_desk.specs.Whole.{world_of_whole}
 use Rattle.hall_desk.specs.declared.whole.Whole.{Whole}
 
 -- ---- of a person
@@ -42,7 +42,8 @@ HasFewPuzzles world row = puzzles_put world row.key.author ≤ 500
 
 -- in state one the stored solution is a solution of the puzzle
 abbrev pub HasSolution : Board → PuzzleState → Type 0
-HasSolution puzzle (state.One text) = (solution : List ℕ) × AnswerText puzzle text solution × Solves puzzle solution
+HasSolution puzzle (state.One text) =
+    (solution : List ℕ) × AnswerText puzzle text solution × SolvesPuzzle puzzle solution
 HasSolution puzzle state.NoSolution = Unit {0}
 HasSolution puzzle state.More = Unit {0}
 HasSolution puzzle state.GaveUp = Unit {0}
@@ -50,12 +51,12 @@ HasSolution puzzle state.New = Unit {0}
 
 -- ---- of a round
 -- the places of the round, in their order
-abbrev pub places_in : World → List ℕ → List (PlaceKey × Entry)
-places_in world id = filter (λ place. same_text place.0.round id) (entries world.places)
+abbrev pub places_of_round : World → List ℕ → List (PlaceKey × Entry)
+places_of_round world id = filter (λ place. same_text place.0.round id) (entries world.places)
 
 -- the round has 1 to 40 puzzles, none twice, numbered from 1
 abbrev pub HasList : World → List ℕ → Type 0
-HasList world id = (list : List Entry) × (places_in world id ≡ places_from id 1 list) × AreEntries list
+HasList world id = (list : List Entry) × (places_of_round world id ≡ places_from id 1 list) × AreEntries list
 
 -- the list of the round, where its places are numbered 1, 2 and so on; none where they aren't
 abbrev pub IsListTold : List (PlaceKey × Entry) → List ℕ → Option (List Entry) → Type 0
@@ -98,7 +99,7 @@ IsElsewhere world place other =
 -- one of the rows' places is
 abbrev pub IsInAnother : Whole → PlaceKey × Entry → Type 0
 IsInAnother whole place =
-    (other : PlaceKey × Entry) × Contains whole.places.items other × IsElsewhere (world_of whole) place other
+    (other : PlaceKey × Entry) × Contains whole.places.items other × IsElsewhere (world_of_whole whole) place other
 
 -- ---- of an answer
 -- the place is of a puzzle by the author, in the round
@@ -110,8 +111,8 @@ abbrev pub IsAuthorIn : List (PlaceKey × Entry) → List ℕ → List ℕ → T
 IsAuthorIn places author round = (place : PlaceKey × Entry) × Contains places place × IsBy author round place
 
 -- its number isn't above the count of its entrant's answers to the puzzle
-abbrev pub IsNumbered : World → AnswerRow → Type 0
-IsNumbered world row = row.n ≤ answers_given world row.key.entrant row.key.round row.key.number
+abbrev pub IsAnswerNumbered : World → AnswerRow → Type 0
+IsAnswerNumbered world row = row.n ≤ answers_given world row.key.entrant row.key.round row.key.number
 
 -- whether both are one entrant's answers to one puzzle of a round, with one number
 abbrev pub is_numbered_alike : AnswerRow → AnswerRow → Bool

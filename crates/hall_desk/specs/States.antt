@@ -8,7 +8,7 @@ use Rattle.hall_solve.specs.declared.searched.Visits.{Visits}
 use Rattle.hall_policy.specs.declared.record.PuzzleKey.{PuzzleKey}
 use Rattle.hall_policy.specs.declared.record.PuzzleRow.{PuzzleRow}
 use Rattle.hall_policy.specs.declared.record.PuzzleState.{PuzzleState}
-use Rattle.hall_desk.specs.Finds.{Each, IsNotedIn}
+use Rattle.hall_desk.specs.Finds.{EveryRow, IsNotedIn}
 use Rattle.hall_desk.specs.Sane.{IsTrueState}
 use Rattle.hall_desk.specs.Spots.{puzzle_spot}
 use Rattle.hall_desk.specs.declared.sentence.Spot.{Spot}
@@ -45,4 +45,4 @@ pub record AreStatesTold (budget : ℕ) (rows : List PuzzleRow) (states : States
   pub undecided : (key : PuzzleKey) → Contains states.undecided.items key →
       (row : PuzzleRow) × Contains rows row × (key ≡ row.key) × HasGivenUp budget row.puzzle
   pub whole : states.found.first.items ≡ [] → states.undecided.items ≡ [] →
-      Each (λ row. IsTrueState row.puzzle row.state) rows
+      EveryRow (λ row. IsTrueState row.puzzle row.state) rows

@@ -112,7 +112,7 @@ pub record IsSearched (world : World) (key : PuzzleKey) (row : PuzzleRow) (budge
   pub stored : new ≡ record world { puzzles = insert world.puzzles key (record row { state = found }) }
 
 -- a search of the puzzle came to an end before: nothing changes
-pub record IsSettled (world : World) (row : PuzzleRow) (given : Reply) (new : World) : Type 0 where
+pub record IsSearchEnded (world : World) (row : PuzzleRow) (given : Reply) (new : World) : Type 0 where
   pub settled : is_open row.state ≡ false
   pub told : given ≡ reply.Certify (state_name row.state)
   pub same : new ≡ world
@@ -121,7 +121,7 @@ pub record IsSettled (world : World) (row : PuzzleRow) (given : Reply) (new : Wo
 abbrev pub IsCertifyStep : World → PuzzleKey → ℕ → PuzzleState → Reply → World → Type 0
 IsCertifyStep world key budget found given new =
     (row : PuzzleRow) × (get world.puzzles key ≡ Some row)
-    × (IsSearched world key row budget found given new ⊎ IsSettled world row given new)
+    × (IsSearched world key row budget found given new ⊎ IsSearchEnded world row given new)
 
 -- the draft that the sheet describes
 abbrev pub draft_of : List ℕ → Sheet → Round

@@ -11,17 +11,17 @@ use Rattle.hall_score.specs.Table.{IsTable}
 use Rattle.hall_store.specs.Store.{is_of}
 
 -- the entrant's answers in the round
-abbrev pub answers_by : World → List ℕ → List ℕ → List AnswerRow
-answers_by world id entrant = filter (is_of entrant id) (values world.answers)
+abbrev pub round_answers_by : World → List ℕ → List ℕ → List AnswerRow
+round_answers_by world id entrant = filter (is_of entrant id) (values world.answers)
 
 -- the entrant's protests in the round
-abbrev pub protests_by : World → List ℕ → List ℕ → List ProtestRow
-protests_by world id entrant =
+abbrev pub round_protests_by : World → List ℕ → List ℕ → List ProtestRow
+round_protests_by world id entrant =
     filter (λ row. same_text row.key.round id && same_text row.key.entrant entrant) (values world.protests)
 
 -- the entrant has an answer in the round
 abbrev pub HasAnswered : World → List ℕ → List ℕ → Type 0
-HasAnswered world id entrant = (row : AnswerRow) × Contains (answers_by world id entrant) row
+HasAnswered world id entrant = (row : AnswerRow) × Contains (round_answers_by world id entrant) row
 
 -- the entrants with an answer in the round, each once, each with the total of that entrant's rows
 pub record AreTotals (world : World) (id : List ℕ) (row : RoundRow) (totals : List (List ℕ × ℤ)) : Type 0 where
@@ -29,7 +29,7 @@ pub record AreTotals (world : World) (id : List ℕ) (row : RoundRow) (totals : 
   pub listed : (entrant : List ℕ) →
       HasAnswered world id entrant ↔ ((total : ℤ) × Contains totals (entrant, total))
   pub right : (entrant : List ℕ) (total : ℤ) → Contains totals (entrant, total) →
-      total ≡ total_of row (answers_by world id entrant) (protests_by world id entrant)
+      total ≡ total_of row (round_answers_by world id entrant) (round_protests_by world id entrant)
 
 -- the text is the table of the round's totals
 abbrev pub IsTableOf : World → List ℕ → RoundRow → List ℕ → Type 0

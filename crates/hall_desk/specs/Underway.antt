@@ -3,9 +3,9 @@ use Rattle.std.specs.Prelude.{◌≡◌, ◌≤◌, ℕ, List, Option}
 use Rattle.hall_grid.specs.Board.{Board}
 use Rattle.hall_grid.specs.declared.board.Kind.TheVariants as kind
 use Rattle.hall_solve.specs.declared.paused.Search.{Search}
-use Rattle.hall_solve.specs.Question.{Question, IsSame}
+use Rattle.hall_solve.specs.Question.{Question, IsSameQuestion}
 use Rattle.hall_solve.specs.Puzzle.{question_of, start_of}
-use Rattle.hall_solve.specs.Paused.{start_of as started_at, budget_of, IsSearchAt}
+use Rattle.hall_solve.specs.Paused.{started_at, budget_of, IsSearchAt}
 use Rattle.hall_desk.specs.declared.puzzle_search.ByKind.{ByKind}
 use Rattle.hall_desk.specs.declared.puzzle_search.ByKind.TheVariants.{Sudoku, Slither, Nurikabe}
 
@@ -17,7 +17,7 @@ pub record SearchOf : Type 0 where
 
 -- the search from the start, within the budget, by rules that ask the same
 pub record Searches (q r : Question) (start : List (Option ℕ)) (budget visits asked : ℕ) (search : Search) : Type 0 where
-  pub same : IsSame q r
+  pub same : IsSameQuestion q r
   pub begun : started_at search ≡ start
   pub limit : budget_of search ≡ budget
   pub under_way : IsSearchAt r visits search

@@ -6,8 +6,8 @@ use Rattle.hall_store.specs.Whole.{AreUnderOwnKeys}
 use Rattle.hall_desk.specs.declared.whole.Whole.{Whole}
 
 -- the world that has these rows
-abbrev pub world_of : Whole → World
-world_of whole = record {
+abbrev pub world_of_whole : Whole → World
+world_of_whole whole = record {
   people = from_entries (map (λ person. (person.name, person)) whole.people.items);
   puzzles = from_entries (map (λ row. (row.key, row)) whole.puzzles.items);
   rounds = from_entries (map (λ round. (round.id, round)) whole.rounds.items);
@@ -19,13 +19,13 @@ world_of whole = record {
 
 -- the rows stand in the order of their keys, and none twice: they are all that their world has
 pub record IsInOrder (whole : Whole) : Type 0 where
-  pub people : values (world_of whole).people ≡ whole.people.items
-  pub puzzles : values (world_of whole).puzzles ≡ whole.puzzles.items
-  pub rounds : values (world_of whole).rounds ≡ whole.rounds.items
-  pub places : entries (world_of whole).places ≡ whole.places.items
-  pub answers : values (world_of whole).answers ≡ whole.answers.items
-  pub protests : values (world_of whole).protests ≡ whole.protests.items
-  pub testers : entries (world_of whole).testers ≡ whole.testers.items
+  pub people : values (world_of_whole whole).people ≡ whole.people.items
+  pub puzzles : values (world_of_whole whole).puzzles ≡ whole.puzzles.items
+  pub rounds : values (world_of_whole whole).rounds ≡ whole.rounds.items
+  pub places : entries (world_of_whole whole).places ≡ whole.places.items
+  pub answers : values (world_of_whole whole).answers ≡ whole.answers.items
+  pub protests : values (world_of_whole whole).protests ≡ whole.protests.items
+  pub testers : entries (world_of_whole whole).testers ≡ whole.testers.items
 
 -- the rows are all that the world has, each under its own key
 pub record IsWholeOf (world : World) (whole : Whole) : Type 0 where

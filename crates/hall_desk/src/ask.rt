@@ -1,6 +1,6 @@
 //! A sentence is asked of each row of a table.
 ghost use Rattle.std.specs.Prelude.{◌≡◌, ◌++◌, ◌∷◌, ◌↔◌, ◌<◌, ◌≤◌, ◌+◌, [], length, IsTrue, IfOk, OnOk, List};
-ghost use Rattle.hall_desk.specs.Finds.{Each, Finds, IsNotedIn, IsTold};
+ghost use Rattle.hall_desk.specs.Finds.{EveryRow, Finds, IsNotedIn, IsBreachTold};
 
 use crate::sentence::{Breaches, Sentence, Spot, Spotted};
 use std::alloc::{AllocError, Global};
@@ -29,7 +29,7 @@ pub(crate) fn ask_each<T: Spotted, A: Ask<T>>(
     ask: &A,
 ) -> Result<Breaches, AllocError>
     ensures sentence { IfOk result (λ found. found.sentence ≡ sentence) }
-    ensures finds { IfOk result (λ found. Each (A.applies ask.now) rows.now
+    ensures finds { IfOk result (λ found. EveryRow (A.applies ask.now) rows.now
         → Finds (A.says ask.now) T.spot_of rows.now found) }
 {
     let mut found = Breaches {
@@ -54,7 +54,7 @@ fn tell<T: Spotted, A: Ask<T>>(
     ensures sentence { OnOk result (found.new.sentence ≡ found.old.sentence) }
     ensures few { OnOk result (found.new.count ≤ found.old.count + 1) }
     ensures told { OnOk result (A.applies ask.now row.now
-        → IsTold (A.says ask.now row.now) (T.spot_of row.now) found.old found.new) }
+        → IsBreachTold (A.says ask.now row.now) (T.spot_of row.now) found.old found.new) }
 {
     if ask.is_true_of(alloc, row)? {
         return Ok(());

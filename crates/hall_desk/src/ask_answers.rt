@@ -1,8 +1,8 @@
 //! What is asked of answers.
 ghost use Rattle.std.specs.Prelude.{◌≡◌, ◌↔◌, ◌&&◌, ◌||◌, not, IsTrue, IfOk};
-ghost use Rattle.hall_desk.specs.Sane.{HasPlace, MayTakePart, IsVerdictAt};
+ghost use Rattle.hall_desk.specs.Sane.{IsPlaceThere, MayTakePart, IsVerdictAt};
 ghost use Rattle.hall_desk.specs.Sentences.{IsAuthorIn, IsBy};
-ghost use Rattle.hall_desk.specs.Whole.{IsInOrder, world_of};
+ghost use Rattle.hall_desk.specs.Whole.{IsInOrder, world_of_whole};
 
 use crate::ask::Ask;
 use crate::group::{ToPuzzle, WithNumber};
@@ -22,9 +22,9 @@ pub(crate) struct AnswererThere<'a> {
 
 impl<'a> Ask<AnswerRow> for AnswererThere<'a> {
     ghost use Rattle.hall_desk.specs.Sentences.{IsKnown};
-    ghost use Rattle.hall_desk.specs.Whole.{world_of};
+    ghost use Rattle.hall_desk.specs.Whole.{world_of_whole};
 
-    ghost says = { λ ask row. IsKnown (world_of ask.whole.now) row.key.entrant };
+    ghost says = { λ ask row. IsKnown (world_of_whole ask.whole.now) row.key.entrant };
 
     ghost applies = { λ _ _. Unit {0} };
 
@@ -40,10 +40,10 @@ pub(crate) struct AnsweredThere<'a> {
 }
 
 impl<'a> Ask<AnswerRow> for AnsweredThere<'a> {
-    ghost use Rattle.hall_desk.specs.Sane.{HasPlace};
-    ghost use Rattle.hall_desk.specs.Whole.{world_of};
+    ghost use Rattle.hall_desk.specs.Sane.{IsPlaceThere};
+    ghost use Rattle.hall_desk.specs.Whole.{world_of_whole};
 
-    ghost says = { λ ask row. HasPlace (world_of ask.whole.now) row.key.round row.key.number };
+    ghost says = { λ ask row. IsPlaceThere (world_of_whole ask.whole.now) row.key.round row.key.number };
 
     ghost applies = { λ _ _. Unit {0} };
 
@@ -60,9 +60,9 @@ pub(crate) struct AnswerReleased<'a> {
 
 impl<'a> Ask<AnswerRow> for AnswerReleased<'a> {
     ghost use Rattle.hall_desk.specs.Lookups.{IsReleasedRound};
-    ghost use Rattle.hall_desk.specs.Whole.{world_of};
+    ghost use Rattle.hall_desk.specs.Whole.{world_of_whole};
 
-    ghost says = { λ ask row. IsReleasedRound (world_of ask.whole.now) row.key.round };
+    ghost says = { λ ask row. IsReleasedRound (world_of_whole ask.whole.now) row.key.round };
 
     ghost applies = { λ _ _. Unit {0} };
 
@@ -79,9 +79,9 @@ pub(crate) struct MayAnswer<'a> {
 
 impl<'a> Ask<AnswerRow> for MayAnswer<'a> {
     ghost use Rattle.hall_desk.specs.Sane.{MayTakePart};
-    ghost use Rattle.hall_desk.specs.Whole.{IsInOrder, world_of};
+    ghost use Rattle.hall_desk.specs.Whole.{IsInOrder, world_of_whole};
 
-    ghost says = { λ ask row. MayTakePart (world_of ask.whole.now) row.key.entrant row.key.round };
+    ghost says = { λ ask row. MayTakePart (world_of_whole ask.whole.now) row.key.entrant row.key.round };
 
     ghost applies = { λ ask _. IsInOrder ask.whole.now };
 
@@ -98,9 +98,9 @@ pub(crate) struct VerdictTrue<'a> {
 
 impl<'a> Ask<AnswerRow> for VerdictTrue<'a> {
     ghost use Rattle.hall_desk.specs.Sane.{IsVerdictAt};
-    ghost use Rattle.hall_desk.specs.Whole.{world_of};
+    ghost use Rattle.hall_desk.specs.Whole.{world_of_whole};
 
-    ghost says = { λ ask row. IsVerdictAt (world_of ask.whole.now) row.key.round row.key.number row };
+    ghost says = { λ ask row. IsVerdictAt (world_of_whole ask.whole.now) row.key.round row.key.number row };
 
     ghost applies = { λ _ _. Unit {0} };
 
@@ -118,11 +118,11 @@ pub(crate) struct Numbered<'a> {
 
 impl<'a> Ask<AnswerRow> for Numbered<'a> {
     ghost use Rattle.hall_desk.specs.Groups.{to_puzzle, to_puzzle_cmp};
-    ghost use Rattle.hall_desk.specs.Sentences.{IsNumbered};
+    ghost use Rattle.hall_desk.specs.Sentences.{IsAnswerNumbered};
     ghost use Rattle.hall_desk.specs.Tally.{IsTally};
-    ghost use Rattle.hall_desk.specs.Whole.{IsInOrder, world_of};
+    ghost use Rattle.hall_desk.specs.Whole.{IsInOrder, world_of_whole};
 
-    ghost says = { λ ask row. IsNumbered (world_of ask.whole.now) row };
+    ghost says = { λ ask row. IsAnswerNumbered (world_of_whole ask.whole.now) row };
 
     ghost applies = { λ ask _. IsInOrder ask.whole.now
         × IsTally to_puzzle_cmp to_puzzle ask.whole.now.answers.items ask.counts.now.entries };
@@ -144,9 +144,9 @@ impl<'a> Ask<AnswerRow> for NumberedOnce<'a> {
     ghost use Rattle.hall_desk.specs.Groups.{with_number, with_number_cmp};
     ghost use Rattle.hall_desk.specs.Sentences.{IsNumberedOnce};
     ghost use Rattle.hall_desk.specs.Tally.{IsTally};
-    ghost use Rattle.hall_desk.specs.Whole.{IsInOrder, world_of};
+    ghost use Rattle.hall_desk.specs.Whole.{IsInOrder, world_of_whole};
 
-    ghost says = { λ ask row. IsNumberedOnce (world_of ask.whole.now) row };
+    ghost says = { λ ask row. IsNumberedOnce (world_of_whole ask.whole.now) row };
 
     ghost applies = { λ ask _. IsInOrder ask.whole.now
         × IsTally with_number_cmp with_number ask.whole.now.answers.items ask.counts.now.entries };
@@ -168,9 +168,9 @@ impl<'a> Ask<AnswerRow> for FewAnswers<'a> {
     ghost use Rattle.hall_desk.specs.Groups.{to_puzzle, to_puzzle_cmp};
     ghost use Rattle.hall_desk.specs.Sentences.{IsOneOfFewAnswers};
     ghost use Rattle.hall_desk.specs.Tally.{IsTally};
-    ghost use Rattle.hall_desk.specs.Whole.{IsInOrder, world_of};
+    ghost use Rattle.hall_desk.specs.Whole.{IsInOrder, world_of_whole};
 
-    ghost says = { λ ask row. IsOneOfFewAnswers (world_of ask.whole.now) row };
+    ghost says = { λ ask row. IsOneOfFewAnswers (world_of_whole ask.whole.now) row };
 
     ghost applies = { λ ask _. IsInOrder ask.whole.now
         × IsTally to_puzzle_cmp to_puzzle ask.whole.now.answers.items ask.counts.now.entries };
@@ -183,14 +183,14 @@ impl<'a> Ask<AnswerRow> for FewAnswers<'a> {
 
 /// Whether the round has a puzzle of that number.
 pub(crate) fn has_place(whole: &Whole, round: &RoundId, number: PuzzleNumber) -> bool
-    ensures { IsTrue result ↔ HasPlace (world_of whole.now) round.now number }
+    ensures { IsTrue result ↔ IsPlaceThere (world_of_whole whole.now) round.now number }
 {
     whole.entry(round, number).is_some()
 }
 
 /// Whether the person of the name may take part in the round.
 pub(crate) fn may_take_part(whole: &Whole, name: &Name, round: &RoundId) -> bool
-    ensures { IsInOrder whole.now → IsTrue result ↔ MayTakePart (world_of whole.now) name.now round.now }
+    ensures { IsInOrder whole.now → IsTrue result ↔ MayTakePart (world_of_whole whole.now) name.now round.now }
 {
     match whole.person(name) {
         Some(person) => is_free(
@@ -231,7 +231,7 @@ fn is_by(place: &Place, author: &Name, round: &RoundId) -> bool
 /// Whether the verdict of the answer is that of its text.
 fn is_verdict(alloc: Global, whole: &Whole, row: &AnswerRow) -> Result<bool, AllocError>
     ensures { IfOk result (λ told. IsTrue told
-        ↔ IsVerdictAt (world_of whole.now) row.now.key.round row.now.key.number row.now) }
+        ↔ IsVerdictAt (world_of_whole whole.now) row.now.key.round row.now.key.number row.now) }
 {
     let Some(entry) = whole.entry(&row.key.round, row.key.number) else {
         return Ok(false);

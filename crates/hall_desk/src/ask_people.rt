@@ -25,9 +25,9 @@ impl<'a> Ask<Person> for OwnKey<'a> {
     ghost use Rattle.hall_policy.specs.Text.{text_cmp};
     ghost use Rattle.hall_desk.specs.Sentences.{HasOwnKey};
     ghost use Rattle.hall_desk.specs.Tally.{IsTally};
-    ghost use Rattle.hall_desk.specs.Whole.{IsInOrder, world_of};
+    ghost use Rattle.hall_desk.specs.Whole.{IsInOrder, world_of_whole};
 
-    ghost says = { λ ask person. HasOwnKey (world_of ask.whole.now) person };
+    ghost says = { λ ask person. HasOwnKey (world_of_whole ask.whole.now) person };
 
     ghost applies = { λ ask _. IsInOrder ask.whole.now
         × IsTally text_cmp (λ row. row.key) ask.whole.now.people.items ask.counts.now.entries };

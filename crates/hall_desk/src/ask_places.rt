@@ -1,7 +1,7 @@
 //! What is asked of the entries of rounds' lists.
 ghost use Rattle.std.specs.Prelude.{◌↔◌, IsTrue};
 ghost use Rattle.hall_desk.specs.Sentences.{IsInAnother, IsElsewhere};
-ghost use Rattle.hall_desk.specs.Whole.{world_of};
+ghost use Rattle.hall_desk.specs.Whole.{world_of_whole};
 
 use crate::ask::Ask;
 use crate::release_faults::is_one;
@@ -17,9 +17,9 @@ pub(crate) struct EntryHome<'a> {
 
 impl<'a> Ask<Place> for EntryHome<'a> {
     ghost use Rattle.hall_desk.specs.Sentences.{IsRoundThere};
-    ghost use Rattle.hall_desk.specs.Whole.{world_of};
+    ghost use Rattle.hall_desk.specs.Whole.{world_of_whole};
 
-    ghost says = { λ ask place. IsRoundThere (world_of ask.whole.now) place.0.round };
+    ghost says = { λ ask place. IsRoundThere (world_of_whole ask.whole.now) place.0.round };
 
     ghost applies = { λ _ _. Unit {0} };
 
@@ -36,9 +36,9 @@ pub(crate) struct PuzzleThere<'a> {
 
 impl<'a> Ask<Place> for PuzzleThere<'a> {
     ghost use Rattle.hall_desk.specs.Sentences.{HasPuzzle};
-    ghost use Rattle.hall_desk.specs.Whole.{world_of};
+    ghost use Rattle.hall_desk.specs.Whole.{world_of_whole};
 
-    ghost says = { λ ask place. HasPuzzle (world_of ask.whole.now) place.1 };
+    ghost says = { λ ask place. HasPuzzle (world_of_whole ask.whole.now) place.1 };
 
     ghost applies = { λ _ _. Unit {0} };
 
@@ -55,9 +55,9 @@ pub(crate) struct CertifiedFirst<'a> {
 
 impl<'a> Ask<Place> for CertifiedFirst<'a> {
     ghost use Rattle.hall_desk.specs.Sentences.{IsCertifiedFirst};
-    ghost use Rattle.hall_desk.specs.Whole.{world_of};
+    ghost use Rattle.hall_desk.specs.Whole.{world_of_whole};
 
-    ghost says = { λ ask place. IsCertifiedFirst (world_of ask.whole.now) place };
+    ghost says = { λ ask place. IsCertifiedFirst (world_of_whole ask.whole.now) place };
 
     ghost applies = { λ _ _. Unit {0} };
 
@@ -80,9 +80,9 @@ pub(crate) struct InNoOther<'a> {
 
 impl<'a> Ask<Place> for InNoOther<'a> {
     ghost use Rattle.hall_desk.specs.Sentences.{IsInNoOther};
-    ghost use Rattle.hall_desk.specs.Whole.{IsInOrder, world_of};
+    ghost use Rattle.hall_desk.specs.Whole.{IsInOrder, world_of_whole};
 
-    ghost says = { λ ask place. IsInNoOther (world_of ask.whole.now) place };
+    ghost says = { λ ask place. IsInNoOther (world_of_whole ask.whole.now) place };
 
     ghost applies = { λ ask _. IsInOrder ask.whole.now };
 
@@ -108,7 +108,7 @@ fn is_in_another(whole: &Whole, place: &Place) -> bool
 
 /// Whether the other place is of the same puzzle, in another round that is there and released.
 fn is_elsewhere(whole: &Whole, place: &Place, other: &Place) -> bool
-    ensures { IsTrue result ↔ IsElsewhere (world_of whole.now) place.now other.now }
+    ensures { IsTrue result ↔ IsElsewhere (world_of_whole whole.now) place.now other.now }
 {
     other.1.puzzle.is_same(&place.1.puzzle)
         && !other.0.round.is_same(&place.0.round)

@@ -16,9 +16,9 @@ pub(crate) struct ProtesterThere<'a> {
 
 impl<'a> Ask<ProtestRow> for ProtesterThere<'a> {
     ghost use Rattle.hall_desk.specs.Sentences.{IsKnown};
-    ghost use Rattle.hall_desk.specs.Whole.{world_of};
+    ghost use Rattle.hall_desk.specs.Whole.{world_of_whole};
 
-    ghost says = { λ ask row. IsKnown (world_of ask.whole.now) row.key.entrant };
+    ghost says = { λ ask row. IsKnown (world_of_whole ask.whole.now) row.key.entrant };
 
     ghost applies = { λ _ _. Unit {0} };
 
@@ -34,10 +34,10 @@ pub(crate) struct ProtestedThere<'a> {
 }
 
 impl<'a> Ask<ProtestRow> for ProtestedThere<'a> {
-    ghost use Rattle.hall_desk.specs.Sane.{HasPlace};
-    ghost use Rattle.hall_desk.specs.Whole.{world_of};
+    ghost use Rattle.hall_desk.specs.Sane.{IsPlaceThere};
+    ghost use Rattle.hall_desk.specs.Whole.{world_of_whole};
 
-    ghost says = { λ ask row. HasPlace (world_of ask.whole.now) row.key.round row.number };
+    ghost says = { λ ask row. IsPlaceThere (world_of_whole ask.whole.now) row.key.round row.number };
 
     ghost applies = { λ _ _. Unit {0} };
 
@@ -54,9 +54,9 @@ pub(crate) struct ProtestReleased<'a> {
 
 impl<'a> Ask<ProtestRow> for ProtestReleased<'a> {
     ghost use Rattle.hall_desk.specs.Lookups.{IsReleasedRound};
-    ghost use Rattle.hall_desk.specs.Whole.{world_of};
+    ghost use Rattle.hall_desk.specs.Whole.{world_of_whole};
 
-    ghost says = { λ ask row. IsReleasedRound (world_of ask.whole.now) row.key.round };
+    ghost says = { λ ask row. IsReleasedRound (world_of_whole ask.whole.now) row.key.round };
 
     ghost applies = { λ _ _. Unit {0} };
 
@@ -73,9 +73,9 @@ pub(crate) struct MayProtest<'a> {
 
 impl<'a> Ask<ProtestRow> for MayProtest<'a> {
     ghost use Rattle.hall_desk.specs.Sane.{MayTakePart};
-    ghost use Rattle.hall_desk.specs.Whole.{IsInOrder, world_of};
+    ghost use Rattle.hall_desk.specs.Whole.{IsInOrder, world_of_whole};
 
-    ghost says = { λ ask row. MayTakePart (world_of ask.whole.now) row.key.entrant row.key.round };
+    ghost says = { λ ask row. MayTakePart (world_of_whole ask.whole.now) row.key.entrant row.key.round };
 
     ghost applies = { λ ask _. IsInOrder ask.whole.now };
 
@@ -92,9 +92,9 @@ pub(crate) struct RuledFirst<'a> {
 
 impl<'a> Ask<ProtestRow> for RuledFirst<'a> {
     ghost use Rattle.hall_desk.specs.Sentences.{IsRuledFirst};
-    ghost use Rattle.hall_desk.specs.Whole.{world_of};
+    ghost use Rattle.hall_desk.specs.Whole.{world_of_whole};
 
-    ghost says = { λ ask row. IsRuledFirst (world_of ask.whole.now) row };
+    ghost says = { λ ask row. IsRuledFirst (world_of_whole ask.whole.now) row };
 
     ghost applies = { λ _ _. Unit {0} };
 
@@ -117,9 +117,9 @@ impl<'a> Ask<ProtestRow> for FewProtests<'a> {
     ghost use Rattle.hall_desk.specs.Groups.{in_round, in_round_cmp};
     ghost use Rattle.hall_desk.specs.Sentences.{IsOneOfFewProtests};
     ghost use Rattle.hall_desk.specs.Tally.{IsTally};
-    ghost use Rattle.hall_desk.specs.Whole.{IsInOrder, world_of};
+    ghost use Rattle.hall_desk.specs.Whole.{IsInOrder, world_of_whole};
 
-    ghost says = { λ ask row. IsOneOfFewProtests (world_of ask.whole.now) row };
+    ghost says = { λ ask row. IsOneOfFewProtests (world_of_whole ask.whole.now) row };
 
     ghost applies = { λ ask _. IsInOrder ask.whole.now
         × IsTally in_round_cmp in_round ask.whole.now.protests.items ask.counts.now.entries };

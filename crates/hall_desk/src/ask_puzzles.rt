@@ -19,9 +19,9 @@ pub(crate) struct AuthorThere<'a> {
 
 impl<'a> Ask<PuzzleRow> for AuthorThere<'a> {
     ghost use Rattle.hall_desk.specs.Sentences.{IsKnown};
-    ghost use Rattle.hall_desk.specs.Whole.{world_of};
+    ghost use Rattle.hall_desk.specs.Whole.{world_of_whole};
 
-    ghost says = { λ ask row. IsKnown (world_of ask.whole.now) row.key.author };
+    ghost says = { λ ask row. IsKnown (world_of_whole ask.whole.now) row.key.author };
 
     ghost applies = { λ _ _. Unit {0} };
 
@@ -49,9 +49,9 @@ impl<'a> Ask<PuzzleRow> for FewPuzzles<'a> {
     ghost use Rattle.hall_policy.specs.Text.{text_cmp};
     ghost use Rattle.hall_desk.specs.Sentences.{HasFewPuzzles};
     ghost use Rattle.hall_desk.specs.Tally.{IsTally};
-    ghost use Rattle.hall_desk.specs.Whole.{IsInOrder, world_of};
+    ghost use Rattle.hall_desk.specs.Whole.{IsInOrder, world_of_whole};
 
-    ghost says = { λ ask row. HasFewPuzzles (world_of ask.whole.now) row };
+    ghost says = { λ ask row. HasFewPuzzles (world_of_whole ask.whole.now) row };
 
     ghost applies = { λ ask row. IsInOrder ask.whole.now
         × IsTally text_cmp (λ row. row.key.author) ask.whole.now.puzzles.items ask.counts.now.entries };

@@ -20,9 +20,9 @@ pub(crate) struct ListWhole<'a> {
 
 impl<'a> Ask<Round> for ListWhole<'a> {
     ghost use Rattle.hall_desk.specs.Sentences.{HasList};
-    ghost use Rattle.hall_desk.specs.Whole.{IsInOrder, world_of};
+    ghost use Rattle.hall_desk.specs.Whole.{IsInOrder, world_of_whole};
 
-    ghost says = { λ ask round. HasList (world_of ask.whole.now) round.id };
+    ghost says = { λ ask round. HasList (world_of_whole ask.whole.now) round.id };
 
     ghost applies = { λ ask _. IsInOrder ask.whole.now };
 
@@ -92,9 +92,9 @@ impl<'a> Ask<Round> for FewTesters<'a> {
     ghost use Rattle.hall_policy.specs.Text.{text_cmp};
     ghost use Rattle.hall_desk.specs.Sentences.{HasFewTesters};
     ghost use Rattle.hall_desk.specs.Tally.{IsTally};
-    ghost use Rattle.hall_desk.specs.Whole.{IsInOrder, world_of};
+    ghost use Rattle.hall_desk.specs.Whole.{IsInOrder, world_of_whole};
 
-    ghost says = { λ ask round. HasFewTesters (world_of ask.whole.now) round.id };
+    ghost says = { λ ask round. HasFewTesters (world_of_whole ask.whole.now) round.id };
 
     ghost applies = { λ ask _. IsInOrder ask.whole.now
         × IsTally text_cmp (λ tester. tester.0.round) ask.whole.now.testers.items ask.counts.now.entries };

@@ -12,9 +12,9 @@ pub(crate) struct TesterHome<'a> {
 
 impl<'a> Ask<Tester> for TesterHome<'a> {
     ghost use Rattle.hall_desk.specs.Sentences.{IsRoundThere};
-    ghost use Rattle.hall_desk.specs.Whole.{world_of};
+    ghost use Rattle.hall_desk.specs.Whole.{world_of_whole};
 
-    ghost says = { λ ask tester. IsRoundThere (world_of ask.whole.now) tester.0.round };
+    ghost says = { λ ask tester. IsRoundThere (world_of_whole ask.whole.now) tester.0.round };
 
     ghost applies = { λ _ _. Unit {0} };
 
@@ -31,9 +31,9 @@ pub(crate) struct TesterThere<'a> {
 
 impl<'a> Ask<Tester> for TesterThere<'a> {
     ghost use Rattle.hall_desk.specs.Sentences.{IsKnown};
-    ghost use Rattle.hall_desk.specs.Whole.{world_of};
+    ghost use Rattle.hall_desk.specs.Whole.{world_of_whole};
 
-    ghost says = { λ ask tester. IsKnown (world_of ask.whole.now) tester.0.name };
+    ghost says = { λ ask tester. IsKnown (world_of_whole ask.whole.now) tester.0.name };
 
     ghost applies = { λ _ _. Unit {0} };
 

@@ -1,6 +1,7 @@
 //! The desk: requests, answered over the world of a store.
 ghost use Rattle.std.specs.Prelude.{◌≡◌, ◌⊎◌, ◌≤◌, ◌+◌, length, IfOk, IfSome, IsOk, IsTrue, OnErr};
-ghost use Rattle.hall_store.specs.Store.{Kept, Served, Left, Leads, LeavesOneOf, IsSettled, Made, WritesOnce, Asks};
+ghost use Rattle.hall_store.specs.Store.{Kept, Served, KeptWorld, Leads, LeavesOneOf, IsSettled, MakesInWorld};
+ghost use Rattle.hall_store.specs.Store.{WritesOnce, Asks};
 ghost use Rattle.hall_store.specs.Store.{Told, Fails};
 ghost use Rattle.hall_store.specs.Change.{changed, CanMake};
 ghost use Rattle.hall_store.specs.declared.change.Change.{Change};
@@ -9,7 +10,7 @@ ghost use Rattle.hall_desk.specs.Desk.{kept_by, SaneThen};
 ghost use Rattle.hall_desk.specs.Sane.{Sane};
 ghost use Rattle.hall_desk.specs.Promises.{HasUniqueSolutions, RightAnswersAreSolutions};
 ghost use Rattle.hall_desk.specs.Plan.{planned_reply, planned_change};
-ghost use Rattle.hall_desk.specs.Plans.{Planned, Steps, Seeds, Runs, FailsIn, IsNobodys, AreNobodys, IsAvailable};
+ghost use Rattle.hall_desk.specs.Plans.{Planned, IsStepOver, Seeds, Runs, FailsIn, IsNobodys, AreNobodys, IsAvailable};
 ghost use Rattle.hall_desk.specs.Wanted.{MayWait};
 ghost use Rattle.hall_desk.specs.Plans.{IsQuietPlan, IsSeedReply, AreStepped, NobodysAreAnswered, WritesIfAny};
 ghost use Rattle.hall_desk.specs.Plans.{StopsWithin, StopsInSeed, LeavesRun};
@@ -156,7 +157,7 @@ impl<S: Store> Desk<S> {
         ensures stops { (S.content (kept_by self.old)).serves
             → LeavesOneOf (λ before left. left ≡ changed (planned_change plan) before)
             (S.content (kept_by self.old)) (S.content (kept_by self.new)) }
-        ensures made { (planned_change plan ≡ Change.Nothing) ⊎ Made (planned_change plan)
+        ensures made { (planned_change plan ≡ Change.Nothing) ⊎ MakesInWorld (planned_change plan)
             (S.content (kept_by self.old)) (S.content (kept_by self.new)) result }
         ensures fault { Fails S.can_fail result }
         ensures nothing { planned_change plan ≡ Change.Nothing → IsOk result × (kept_by self.new ≡ kept_by self.old) }
@@ -182,7 +183,7 @@ impl<S: Store> Desk<S> {
         ensures leads { Leads (S.content (kept_by self.old)) (S.content (kept_by self.new)) }
         ensures once { WritesOnce (S.content (kept_by self.old)) (S.content (kept_by self.new)) }
         ensures steps { (S.content (kept_by self.new)).honest →
-            Steps (S.content (kept_by self.old)) t request.now result (S.content (kept_by self.new)) }
+            IsStepOver (S.content (kept_by self.old)) t request.now result (S.content (kept_by self.new)) }
         ensures quiet { WritesIfAny (S.content (kept_by self.old)) t request.now (S.content (kept_by self.new)) }
         ensures stops { StopsWithin (S.content (kept_by self.old)) t request.now result
             (S.content (kept_by self.new)) }
@@ -209,7 +210,7 @@ impl<S: Store> Desk<S> {
         ensures answered { IfOk result IsSeedReply }
         ensures quiet { IfOk result (λ reply. reply ≡ Reply.Denied 20 →
             (S.content (kept_by self.new)).writes ≤ (S.content (kept_by self.old)).writes) }
-        ensures left { OnErr result (Left (S.content (kept_by self.old)) (S.content (kept_by self.new))) }
+        ensures left { OnErr result (KeptWorld (S.content (kept_by self.old)) (S.content (kept_by self.new))) }
         ensures stops { StopsInSeed (S.content (kept_by self.old)) people.now (S.content (kept_by self.new)) }
         ensures settled { IsSettled (S.content (kept_by self.new)) }
         ensures fault { Fails S.can_fail result }

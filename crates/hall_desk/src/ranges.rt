@@ -3,8 +3,8 @@ ghost use Rattle.hall_policy.specs.Ranges.{AreRowsInRange, IsPerson, IsPuzzleKey
 ghost use Rattle.hall_policy.specs.Ranges.{IsEntry};
 ghost use Rattle.hall_policy.specs.Ranges.{IsName, IsAnswerRow, IsProtestRow, IsRuling};
 ghost use Rattle.std.specs.Prelude.{IfSome};
-ghost use Rattle.hall_desk.specs.Finds.{Each};
-ghost use Rattle.hall_desk.specs.Whole.{world_of};
+ghost use Rattle.hall_desk.specs.Finds.{EveryRow};
+ghost use Rattle.hall_desk.specs.Whole.{world_of_whole};
 
 use crate::whole::Whole;
 use hall_policy::{
@@ -14,7 +14,7 @@ use hall_store::{Place, Tester};
 
 /// Tells a proof that all rows lie in the ranges of their types.
 pub(crate) fn in_range(whole: &Whole)
-    ensures { AreRowsInRange (world_of whole.now) }
+    ensures { AreRowsInRange (world_of_whole whole.now) }
 {
     read_people(whole.people.as_slice());
     read_puzzles(whole.puzzles.as_slice());
@@ -26,7 +26,7 @@ pub(crate) fn in_range(whole: &Whole)
 }
 
 fn read_people(people: &[Person])
-    ensures { Each IsPerson people.now }
+    ensures { EveryRow IsPerson people.now }
 {
     for person in people {
         person.in_range();
@@ -57,7 +57,7 @@ fn read_puzzle(row: &PuzzleRow)
 }
 
 fn read_puzzles(rows: &[PuzzleRow])
-    ensures { Each IsPuzzleRow rows.now }
+    ensures { EveryRow IsPuzzleRow rows.now }
 {
     for row in rows {
         read_puzzle(row);
@@ -77,7 +77,7 @@ fn read_round(round: &Round)
 }
 
 fn read_rounds(rounds: &[Round])
-    ensures { Each IsRound rounds.now }
+    ensures { EveryRow IsRound rounds.now }
 {
     for round in rounds {
         read_round(round);
@@ -92,7 +92,7 @@ fn read_entry(entry: &Entry)
 }
 
 fn read_places(places: &[Place])
-    ensures { Each (λ place. IsEntry place.1) places.now }
+    ensures { EveryRow (λ place. IsEntry place.1) places.now }
 {
     for place in places {
         read_entry(&place.1);
@@ -100,7 +100,7 @@ fn read_places(places: &[Place])
 }
 
 fn read_testers(testers: &[Tester])
-    ensures { Each (λ tester. IsName tester.0.name) testers.now }
+    ensures { EveryRow (λ tester. IsName tester.0.name) testers.now }
 {
     for tester in testers {
         let _name = tester.0.name.as_str();
@@ -121,7 +121,7 @@ fn read_answer(row: &AnswerRow)
 }
 
 fn read_answers(rows: &[AnswerRow])
-    ensures { Each IsAnswerRow rows.now }
+    ensures { EveryRow IsAnswerRow rows.now }
 {
     for row in rows {
         read_answer(row);
@@ -148,7 +148,7 @@ fn read_protest(row: &ProtestRow)
 }
 
 fn read_protests(rows: &[ProtestRow])
-    ensures { Each IsProtestRow rows.now }
+    ensures { EveryRow IsProtestRow rows.now }
 {
     for row in rows {
         read_protest(row);

@@ -2,8 +2,8 @@
 ghost use Rattle.std.specs.Prelude.{◌≡◌, ◌↔◌, [], IsTrue, IfOk};
 ghost use Rattle.hall_store.specs.Store.{Kept, Served, Fails};
 ghost use Rattle.hall_desk.specs.Checked.{IsChecked, IsNothingFound, AreAllTold, AreStatesAsked, AreStatesTrue};
-ghost use Rattle.hall_desk.specs.Finds.{Each};
-ghost use Rattle.hall_desk.specs.Whole.{IsInOrder, IsWholeOf, world_of};
+ghost use Rattle.hall_desk.specs.Finds.{EveryRow};
+ghost use Rattle.hall_desk.specs.Whole.{IsInOrder, IsWholeOf, world_of_whole};
 
 use crate::ranges::in_range;
 use crate::sentence::Breaches;
@@ -43,7 +43,7 @@ impl Checked {
 
 /// Whether none of the sentences was found false.
 fn are_true(told: &[Breaches]) -> bool
-    ensures { IsTrue result ↔ Each (λ found. found.first.items ≡ []) told.now }
+    ensures { IsTrue result ↔ EveryRow (λ found. found.first.items ≡ []) told.now }
 {
     for found in told {
         if !is_unbroken(found) {
@@ -112,7 +112,7 @@ fn read_whole<S: WholeStore>(alloc: Global, store: &mut S) -> Result<Whole, Stor
 
 /// What is found of the rows.
 fn check_whole(alloc: Global, whole: &Whole, budget: Option<u64>) -> Result<Checked, AllocError>
-    ensures { IfOk result (λ checked. IsInOrder whole.now → IsChecked (world_of whole.now) budget checked) }
+    ensures { IfOk result (λ checked. IsInOrder whole.now → IsChecked (world_of_whole whole.now) budget checked) }
 {
     in_range(whole);
     let told = tell_all(alloc, whole)?;
@@ -144,7 +144,7 @@ fn tell_states(
 
 /// What is found of each sentence but that of puzzles' states.
 fn tell_all(alloc: Global, whole: &Whole) -> Result<Vec<Breaches>, AllocError>
-    ensures { IfOk result (λ told. IsInOrder whole.now → AreAllTold (world_of whole.now) told.items) }
+    ensures { IfOk result (λ told. IsInOrder whole.now → AreAllTold (world_of_whole whole.now) told.items) }
 {
     let mut told = Vec::new(alloc);
     tell_people(alloc, whole, &mut told)?;

@@ -1,6 +1,6 @@
 //! People who are imported before any request.
 ghost use Rattle.std.specs.Prelude.{◌≡◌, ◌≤◌, IfOk, OnErr};
-ghost use Rattle.hall_store.specs.Store.{IsSettled, Kept, Left, Leads, WritesOnce, Told, Fails};
+ghost use Rattle.hall_store.specs.Store.{IsSettled, Kept, KeptWorld, Leads, WritesOnce, Told, Fails};
 ghost use Rattle.hall_store.specs.declared.change.Change.{Change};
 ghost use Rattle.hall_desk.specs.Desk.{SaneThen};
 ghost use Rattle.hall_desk.specs.Sane.{Sane};
@@ -27,7 +27,7 @@ pub(crate) fn seed<S: Store>(
     ensures answered { IfOk result IsSeedReply }
     ensures quiet { IfOk result (λ reply. reply ≡ Reply.Denied 20 →
         (S.content store.new).writes ≤ (S.content store.old).writes) }
-    ensures left { OnErr result (Left (S.content store.old) (S.content store.new)) }
+    ensures left { OnErr result (KeptWorld (S.content store.old) (S.content store.new)) }
     ensures stops { StopsInSeed (S.content store.old) people.now (S.content store.new) }
     ensures settled { IsSettled (S.content store.new) }
     ensures fault { Fails S.can_fail result }
@@ -49,7 +49,7 @@ fn make_seed<S: Store>(alloc: Global, store: &mut S, people: &People) -> Result<
     ensures answered { IfOk result IsSeedReply }
     ensures quiet { IfOk result (λ reply. reply ≡ Reply.Denied 20 →
         (S.content store.new).writes ≤ (S.content store.old).writes) }
-    ensures left { OnErr result (Left (S.content store.old) (S.content store.new)) }
+    ensures left { OnErr result (KeptWorld (S.content store.old) (S.content store.new)) }
     ensures stops { StopsInSeed (S.content store.old) people.now (S.content store.new) }
     ensures fault { Fails S.can_fail result }
 {

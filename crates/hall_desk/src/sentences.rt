@@ -1,7 +1,7 @@
 //! What is found of each sentence of a sane world.
 ghost use Rattle.std.specs.Prelude.{IfOk, OnOk, [], ◌∷◌};
 ghost use Rattle.hall_desk.specs.Checks.{AreAdded, IsTelling};
-ghost use Rattle.hall_desk.specs.Whole.{IsInOrder, world_of};
+ghost use Rattle.hall_desk.specs.Whole.{IsInOrder, world_of_whole};
 
 use crate::ask::ask_each;
 use crate::ask_answers::{
@@ -31,7 +31,7 @@ pub(crate) fn tell_people(
     whole: &Whole,
     told: &mut Vec<Breaches>,
 ) -> Result<(), AllocError>
-    ensures { OnOk result (IsInOrder whole.now → AreAdded (world_of whole.now)
+    ensures { OnOk result (IsInOrder whole.now → AreAdded (world_of_whole whole.now)
         (Sentence.OwnKey ∷ Sentence.RolesApart ∷ [])
         told.old.items told.new.items) }
 {
@@ -45,7 +45,7 @@ pub(crate) fn tell_puzzles(
     whole: &Whole,
     told: &mut Vec<Breaches>,
 ) -> Result<(), AllocError>
-    ensures { OnOk result (IsInOrder whole.now → AreAdded (world_of whole.now)
+    ensures { OnOk result (IsInOrder whole.now → AreAdded (world_of_whole whole.now)
         (Sentence.AuthorThere ∷ Sentence.FewPuzzles ∷ Sentence.SolutionRight ∷ [])
         told.old.items told.new.items) }
 {
@@ -60,7 +60,7 @@ pub(crate) fn tell_rounds(
     whole: &Whole,
     told: &mut Vec<Breaches>,
 ) -> Result<(), AllocError>
-    ensures { OnOk result (IsInOrder whole.now → AreAdded (world_of whole.now)
+    ensures { OnOk result (IsInOrder whole.now → AreAdded (world_of_whole whole.now)
         (Sentence.ListWhole ∷ Sentence.FewTesters ∷ Sentence.ReleasedFirst ∷ [])
         told.old.items told.new.items) }
 {
@@ -75,7 +75,7 @@ pub(crate) fn tell_places(
     whole: &Whole,
     told: &mut Vec<Breaches>,
 ) -> Result<(), AllocError>
-    ensures { OnOk result (IsInOrder whole.now → AreAdded (world_of whole.now)
+    ensures { OnOk result (IsInOrder whole.now → AreAdded (world_of_whole whole.now)
         (Sentence.EntryHome ∷ Sentence.PuzzleThere ∷ Sentence.CertifiedFirst ∷ Sentence.InNoOther ∷ [])
         told.old.items told.new.items) }
 {
@@ -91,7 +91,7 @@ pub(crate) fn tell_testers(
     whole: &Whole,
     told: &mut Vec<Breaches>,
 ) -> Result<(), AllocError>
-    ensures { OnOk result (IsInOrder whole.now → AreAdded (world_of whole.now)
+    ensures { OnOk result (IsInOrder whole.now → AreAdded (world_of_whole whole.now)
         (Sentence.TesterHome ∷ Sentence.TesterThere ∷ [])
         told.old.items told.new.items) }
 {
@@ -105,7 +105,7 @@ pub(crate) fn tell_answerers(
     whole: &Whole,
     told: &mut Vec<Breaches>,
 ) -> Result<(), AllocError>
-    ensures { OnOk result (IsInOrder whole.now → AreAdded (world_of whole.now)
+    ensures { OnOk result (IsInOrder whole.now → AreAdded (world_of_whole whole.now)
         (Sentence.AnswererThere ∷ Sentence.AnsweredThere ∷ Sentence.AnswerReleased ∷ Sentence.MayAnswer ∷ [])
         told.old.items told.new.items) }
 {
@@ -121,7 +121,7 @@ pub(crate) fn tell_answers(
     whole: &Whole,
     told: &mut Vec<Breaches>,
 ) -> Result<(), AllocError>
-    ensures { OnOk result (IsInOrder whole.now → AreAdded (world_of whole.now)
+    ensures { OnOk result (IsInOrder whole.now → AreAdded (world_of_whole whole.now)
         (Sentence.VerdictTrue ∷ Sentence.Numbered ∷ Sentence.NumberedOnce ∷ Sentence.FewAnswers ∷ [])
         told.old.items told.new.items) }
 {
@@ -137,7 +137,7 @@ pub(crate) fn tell_protesters(
     whole: &Whole,
     told: &mut Vec<Breaches>,
 ) -> Result<(), AllocError>
-    ensures { OnOk result (IsInOrder whole.now → AreAdded (world_of whole.now)
+    ensures { OnOk result (IsInOrder whole.now → AreAdded (world_of_whole whole.now)
         (Sentence.ProtesterThere ∷ Sentence.ProtestedThere ∷ Sentence.ProtestReleased ∷ Sentence.MayProtest ∷ [])
         told.old.items told.new.items) }
 {
@@ -153,7 +153,7 @@ pub(crate) fn tell_protests(
     whole: &Whole,
     told: &mut Vec<Breaches>,
 ) -> Result<(), AllocError>
-    ensures { OnOk result (IsInOrder whole.now → AreAdded (world_of whole.now)
+    ensures { OnOk result (IsInOrder whole.now → AreAdded (world_of_whole whole.now)
         (Sentence.RuledFirst ∷ Sentence.FewProtests ∷ [])
         told.old.items told.new.items) }
 {

@@ -1,11 +1,12 @@
 //! Plans made and committed, one request after another.
 ghost use Rattle.std.specs.Prelude.{◌≡◌, ◌⊎◌, ◌+◌, ◌≤◌, ◌<◌, ◌++◌, ◌∷◌, [], length, IfOk, IsOk, OnErr, vec_len, vec_capacity};
-ghost use Rattle.hall_store.specs.Store.{Leads, LeavesOneOf, IsSettled, Made, WritesOnce, Asks, Fails};
+ghost use Rattle.hall_store.specs.Store.{Leads, LeavesOneOf, IsSettled, MakesInWorld, WritesOnce, Asks, Fails};
 ghost use Rattle.hall_store.specs.Change.{CanMake, changed};
 ghost use Rattle.hall_store.specs.declared.change.Change.{Change};
 ghost use Rattle.hall_desk.specs.Desk.{SaneThen};
 ghost use Rattle.hall_desk.specs.Sane.{Sane};
-ghost use Rattle.hall_desk.specs.Plans.{Steps, StopsWithin, LeavesRun, Runs, AreStepped, IsNobodys, AreNobodys, IsAvailable};
+ghost use Rattle.hall_desk.specs.Plans.{IsStepOver, StopsWithin, LeavesRun, Runs, AreStepped, IsNobodys, AreNobodys};
+ghost use Rattle.hall_desk.specs.Plans.{IsAvailable};
 ghost use Rattle.hall_desk.specs.Plans.{NobodysAreAnswered, WritesIfAny};
 
 use crate::plan::Plan;
@@ -26,7 +27,8 @@ pub(crate) fn commit<S: Store>(
     ensures once { WritesOnce (S.content store.old) (S.content store.new) }
     ensures stops { (S.content store.old).serves → LeavesOneOf (λ before left. left ≡ changed plan.change before)
         (S.content store.old) (S.content store.new) }
-    ensures made { (plan.change ≡ Change.Nothing) ⊎ Made plan.change (S.content store.old) (S.content store.new) result }
+    ensures made { (plan.change ≡ Change.Nothing)
+        ⊎ MakesInWorld plan.change (S.content store.old) (S.content store.new) result }
     ensures fault { Fails S.can_fail result }
     ensures nothing { plan.change ≡ Change.Nothing → IsOk result × (store.new ≡ store.old) }
     ensures reply { IfOk result (λ reply. reply ≡ plan.reply) }
@@ -43,7 +45,7 @@ fn make<S: Store>(alloc: Global, store: &mut S, change: Change) -> Result<(), St
     ensures once { WritesOnce (S.content store.old) (S.content store.new) }
     ensures stops { (S.content store.old).serves → LeavesOneOf (λ before left. left ≡ changed change before)
         (S.content store.old) (S.content store.new) }
-    ensures made { (change ≡ Change.Nothing) ⊎ Made change (S.content store.old) (S.content store.new) result }
+    ensures made { (change ≡ Change.Nothing) ⊎ MakesInWorld change (S.content store.old) (S.content store.new) result }
     ensures fault { Fails S.can_fail result }
     ensures nothing { change ≡ Change.Nothing → IsOk result × (store.new ≡ store.old) }
 {
@@ -65,7 +67,7 @@ fn make<S: Store>(alloc: Global, store: &mut S, change: Change) -> Result<(), St
 pub(crate) fn step<S: Store>(alloc: Global, store: &mut S, t: Moment, request: &Request) -> Reply
     ensures leads { Leads (S.content store.old) (S.content store.new) }
     ensures once { WritesOnce (S.content store.old) (S.content store.new) }
-    ensures steps { (S.content store.new).honest → Steps (S.content store.old) t request.now result
+    ensures steps { (S.content store.new).honest → IsStepOver (S.content store.old) t request.now result
         (S.content store.new) }
     ensures quiet { WritesIfAny (S.content store.old) t request.now (S.content store.new) }
     ensures stops { StopsWithin (S.content store.old) t request.now result (S.content store.new) }
@@ -85,7 +87,7 @@ pub(crate) fn step<S: Store>(alloc: Global, store: &mut S, t: Moment, request: &
 fn make_step<S: Store>(alloc: Global, store: &mut S, t: Moment, request: &Request) -> Reply
     ensures leads { Leads (S.content store.old) (S.content store.new) }
     ensures once { WritesOnce (S.content store.old) (S.content store.new) }
-    ensures steps { (S.content store.new).honest → Steps (S.content store.old) t request.now result
+    ensures steps { (S.content store.new).honest → IsStepOver (S.content store.old) t request.now result
         (S.content store.new) }
     ensures quiet { WritesIfAny (S.content store.old) t request.now (S.content store.new) }
     ensures stops { StopsWithin (S.content store.old) t request.now result (S.content store.new) }

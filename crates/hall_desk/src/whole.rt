@@ -23,32 +23,32 @@ pub(crate) struct Whole {
 
 impl Whole {
     ghost use Rattle.hall_desk.specs.Lookups.{IsReleasedRound};
-    ghost use Rattle.hall_desk.specs.Whole.{world_of};
+    ghost use Rattle.hall_desk.specs.Whole.{world_of_whole};
 
     /// The person of the name.
     pub(crate) fn person(&self, name: &Name) -> Option<&Person>
-        ensures { option_copied result ≡ get (world_of self.now).people name.now }
+        ensures { option_copied result ≡ get (world_of_whole self.now).people name.now }
     {
         find_person(&self.people, name)
     }
 
     /// The puzzle under the key.
     pub(crate) fn puzzle(&self, key: &PuzzleKey) -> Option<&PuzzleRow>
-        ensures { option_copied result ≡ get (world_of self.now).puzzles key.now }
+        ensures { option_copied result ≡ get (world_of_whole self.now).puzzles key.now }
     {
         find_puzzle(&self.puzzles, key)
     }
 
     /// The round of the id.
     pub(crate) fn round(&self, id: &RoundId) -> Option<&Round>
-        ensures { option_copied result ≡ get (world_of self.now).rounds id.now }
+        ensures { option_copied result ≡ get (world_of_whole self.now).rounds id.now }
     {
         find_round(&self.rounds, id)
     }
 
     /// Whether the round is there and released.
     pub(crate) fn is_released(&self, id: &RoundId) -> bool
-        ensures { IsTrue result ↔ IsReleasedRound (world_of self.now) id.now }
+        ensures { IsTrue result ↔ IsReleasedRound (world_of_whole self.now) id.now }
     {
         match self.round(id) {
             Some(round) => round.released,
@@ -59,7 +59,7 @@ impl Whole {
     /// The entry of that number in the round's list.
     pub(crate) fn entry(&self, round: &RoundId, number: PuzzleNumber) -> Option<&Entry>
         ensures { option_copied result
-            ≡ get (world_of self.now).places (record { round = round.now; number = number }) }
+            ≡ get (world_of_whole self.now).places (record { round = round.now; number = number }) }
     {
         find_entry(&self.places, round, number)
     }
@@ -67,7 +67,7 @@ impl Whole {
     /// Whether the person of the name tests the round.
     pub(crate) fn is_tester(&self, round: &RoundId, name: &Name) -> bool
         ensures { IsTrue result
-            ↔ (get (world_of self.now).testers (record { round = round.now; name = name.now }) ≢ None) }
+            ↔ (get (world_of_whole self.now).testers (record { round = round.now; name = name.now }) ≢ None) }
     {
         is_tester(&self.testers, round, name)
     }

@@ -4,7 +4,7 @@ use Rattle.std.proofs.Common.{length-append}
 use Rattle.std.specs.Prelude.{All}
 use Rattle.std.proofs.lemmas.List.{append-nil, drop-append-le, drop_all}
 use Rattle.std.proofs.lemmas.List.Elements.{All-nil, All-push}
-use Rattle.hall_http.specs.Coming.{Nexts, Said, IsFreshPeer, IsStep, newcomer, since, AreCounted, EndsBy, AreDone}
+use Rattle.hall_http.specs.Coming.{Nexts, Said, IsFreshPeer, IsNextStep, newcomer, since, AreCounted, EndsBy, AreDone}
 use Rattle.hall_http.specs.Peer.{Traffic}
 use Rattle.hall_http.specs.declared.server.Next.{Next}
 use Rattle.hall_http.specs.declared.server.Next.TheVariants as next
@@ -29,7 +29,7 @@ module _ {P : Type 0} (traffic : P → Traffic) where
   pub record DoneSoFar (before after : Said P) (count : ℕ) : Type 0 where
     pub steps : Nexts P
     pub said : after.nexts ≡ before.nexts ++ steps
-    pub each : All IsStep steps
+    pub each : All IsNextStep steps
     pub came : AreCounted traffic before.count steps after.count
     pub counted : length steps ≡ count
     pub most : after.most ≡ before.most
@@ -38,7 +38,7 @@ module _ {P : Type 0} (traffic : P → Traffic) where
   done_start before = record {
     steps = [];
     said = sym (append-nil before.nexts);
-    each = All-nil IsStep;
+    each = All-nil IsNextStep;
     came = refl;
     counted = refl;
     most = refl;
@@ -67,11 +67,11 @@ module _ {P : Type 0} (traffic : P → Traffic) where
         (counted_more before.count done.steps after.count x done.came fresh)
 
     -- one step more
-    pub done_step : IsStep x → DoneSoFar before then (count + 1)
+    pub done_step : IsNextStep x → DoneSoFar before then (count + 1)
     done_step step = record {
       steps = steps;
       said = more;
-      each = All-push IsStep done.steps x done.each step;
+      each = All-push IsNextStep done.steps x done.each step;
       came = came;
       counted = omega (arith, length-append done.steps (x ∷ []), done.counted);
       most = stays ∙ done.most;

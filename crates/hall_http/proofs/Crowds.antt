@@ -9,15 +9,16 @@ use Rattle.std.proofs.lemmas.Option.{same_Some}
 use Rattle.std.proofs.lemmas.List.{append-nil, take-append-drop, set-get_or}
 use Rattle.std.proofs.lemmas.List.Elements.{All-nil, All-push, All-append}
 use Rattle.hall_http.specs.Served.{refusal}
-use Rattle.hall_http.specs.Connection.{Exchange, AreMoments, IsOpen, requests_of}
+use Rattle.hall_http.specs.Connection.{Exchange, AreMoments, LeavesOpen, requests_of}
 use Rattle.hall_http.specs.Peer.{Traffic, IsUntouched}
 use Rattle.hall_http.specs.Resting.{RestingSession}
-use Rattle.hall_http.specs.Crowd.{AreApart, AreKept, AreThose, AreTold, HasGone, IsAt, AreGone, IsPast, IsHandedOut}
+use Rattle.hall_http.specs.Crowd.{AreApart, AreKept, AreThose, AreConnectionsTold, HasGone, IsAt, AreGone, IsPast}
+use Rattle.hall_http.specs.Crowd.{IsHandedOut}
 use Rattle.hall_http.specs.Crowd.{AnswersNoMore, AreOf, AreStill, ComesTo, MayGo, Past, Serves}
 use Rattle.hall_http.specs.Crowd.{number_past, traffic_past}
-use Rattle.hall_http.specs.Head.{HasNone, IsWhole}
-use Rattle.hall_http.specs.History.{History, Stands, IsReplying, Ends}
-use Rattle.hall_http.specs.Turns.{Turn, Service, of, AreOpenButLast, AreSent, HasEnded, IsTold, IsClient}
+use Rattle.hall_http.specs.Head.{HasNoWholeRequest, IsWholeRequest}
+use Rattle.hall_http.specs.History.{ConnectionHistory, Stands, IsReplying, Ends}
+use Rattle.hall_http.specs.Turns.{Turn, Service, of, AreOpenButLast, AreSent, HasEnded, IsConnectionTold, IsClient}
 use Rattle.hall_http.specs.Turns.{IsRefusedAfter, IsRefusedRightly}
 use Rattle.hall_http.specs.Turns.{IsOverRightly, IsPlaceKept, IsPlaceTurned}
 use Rattle.hall_http.specs.Reading.{at_first}
@@ -39,12 +40,12 @@ use Rattle.hall_http.proofs.SoFar.{handled_none, still_same}
 
 -- what is told by a history, where a read told that no more comes or none did, and these bytes were read off after its
 -- end
-abbrev Told : History → Connection → Bool → List ℕ → Type 0
+abbrev Told : ConnectionHistory → Connection → Bool → List ℕ → Type 0
 Told t k over off =
     AreSent t.exchanges t.went
-    ⊎ (IsRefusedAfter t.exchanges t.went × IsRefusedRightly t.exchanges k.inbox over × HasNone (k.inbox ++ off))
+    ⊎ (IsRefusedAfter t.exchanges t.went × IsRefusedRightly t.exchanges k.inbox over × HasNoWholeRequest (k.inbox ++ off))
 
-replying_told : (t : History) (k : Connection) (over : Bool) (off : List ℕ) → IsReplying t k → Told t k over off
+replying_told : (t : ConnectionHistory) (k : Connection) (over : Bool) (off : List ℕ) → IsReplying t k → Told t k over off
 replying_told t k over off r =
     inl (inr (
       r.before,
@@ -56,20 +57,20 @@ replying_told t k over off r =
       r.told,
     ))
 
-no_request : (t : History) (k : Connection) (off : List ℕ) → Ends end.BadHead t k.inbox → (off ≡ []) ⊎ (t.ended ≡ false)
-    → HasNone (k.inbox ++ off)
+no_request : (t : ConnectionHistory) (k : Connection) (off : List ℕ) → Ends end.BadHead t k.inbox → (off ≡ []) ⊎ (t.ended ≡ false)
+    → HasNoWholeRequest (k.inbox ++ off)
 no_request t k off (goes_on, inl (some, unfinished, over)) (inl none) =
-    subst HasNone (sym (ap (λ s. k.inbox ++ s) none ∙ append-nil k.inbox)) unfinished.none
+    subst HasNoWholeRequest (sym (ap (λ s. k.inbox ++ s) none ∙ append-nil k.inbox)) unfinished.none
 no_request t k off (goes_on, inl (some, unfinished, over)) (inr more) = let clash = sym more ∙ over in absurd cc
 no_request t k off (goes_on, inr (never, more)) quiet = never off
 
-refused_rightly : (t : History) (k : Connection) (over : Bool) → Ends end.BadHead t k.inbox
+refused_rightly : (t : ConnectionHistory) (k : Connection) (over : Bool) → Ends end.BadHead t k.inbox
     → (t.ended ≡ true → over ≡ true) → IsRefusedRightly t.exchanges k.inbox over
 refused_rightly t k over (goes_on, inl (some, unfinished, ended)) at_end =
     (goes_on, inr (some, unfinished, at_end ended))
 refused_rightly t k over (goes_on, inr (never, more)) at_end = (goes_on, inl never)
 
-module _ (t : History) (k : Connection) (over : Bool) (at_end : t.ended ≡ true → over ≡ true) (off : List ℕ)
+module _ (t : ConnectionHistory) (k : Connection) (over : Bool) (at_end : t.ended ≡ true → over ≡ true) (off : List ℕ)
     (quiet : (off ≡ []) ⊎ (t.ended ≡ false)) where
   refusing_told : IsRefusedAfter t.exchanges t.went → Ends end.BadHead t k.inbox → Told t k over off
   refusing_told refused why = inr (refused, refused_rightly t k over why at_end, no_request t k off why quiet)
@@ -88,11 +89,11 @@ module _ (t : History) (k : Connection) (over : Bool) (at_end : t.ended ≡ true
   told_by (state.Ended end.BadHead) (told, why) = refusing_told (refusal, [], sym (append-nil refusal), told) why
   told_by (state.Ended end.Device) (told, why) = absurd why
 
-replying_opened : (t : History) (k : Connection) → IsReplying t k → AreOpenButLast t.exchanges
+replying_opened : (t : ConnectionHistory) (k : Connection) → IsReplying t k → AreOpenButLast t.exchanges
 replying_opened t k r = inr (r.before, r.last, r.is_last.all, r.opened)
 
 -- nothing was answered after a request that closes the connection
-opened_by : (s : State) (t : History) (k : Connection) → Stands s t k → AreOpenButLast t.exchanges
+opened_by : (s : State) (t : ConnectionHistory) (k : Connection) → Stands s t k → AreOpenButLast t.exchanges
 opened_by state.Looking t k free = inl free.goes_on.0
 opened_by state.Reading t k (free, unfinished, seldom) = inl free.goes_on.0
 opened_by (state.Writing None) t k (r, goes_on) = inl goes_on.0
@@ -108,12 +109,12 @@ opened_by (state.Ended end.BadHead) t k (told, why) = inl why.0.0
 opened_by (state.Ended end.Device) t k (told, why) = absurd why
 
 -- of one of which nothing came and to which nothing went
-told_none : (t : Traffic) → IsUntouched t → IsTold [] t
+told_none : (t : Traffic) → IsUntouched t → IsConnectionTold [] t
 told_none t untouched = record {
   rest = [];
   spelled = untouched.came;
-  whole = All-nil (λ x. IsWhole x.request);
-  opened = inl (All-nil (λ x. IsOpen x.request));
+  whole = All-nil (λ x. IsWholeRequest x.request);
+  opened = inl (All-nil (λ x. LeavesOpen x.request));
   told = inl (inl untouched.went);
   few = omega arith;
   pieces = 0;
@@ -163,7 +164,7 @@ module _ {P : Type 0} (traffic : P → Traffic) where
         let (e, at) = is.leaving (sym is.hung_up ∙ told) in
         (is.history.ended, is.at_end, ended_so e at is.history.ended refl)
 
-  pub client_told : (xs : List Exchange) (k : Client P) → IsClient traffic xs k → IsTold xs (traffic k.peer)
+  pub client_told : (xs : List Exchange) (k : Client P) → IsClient traffic xs k → IsConnectionTold xs (traffic k.peer)
   client_told xs k is =
       let told =
       told_by is.history k.connection ((traffic k.peer).over) is.at_end is.off (still_none xs k is) k.connection.state
@@ -171,7 +172,7 @@ module _ {P : Type 0} (traffic : P → Traffic) where
       let spelled =
       is.heard ∙ ap (λ s. s ++ is.off) is.has.came
       ∙ append_assoc (requests_of is.history.exchanges) k.connection.inbox is.off in
-      subst (λ (xs : List Exchange). IsTold xs (traffic k.peer)) is.answered
+      subst (λ (xs : List Exchange). IsConnectionTold xs (traffic k.peer)) is.answered
       (record {
         rest = k.connection.inbox ++ is.off;
         spelled = spelled;
@@ -257,7 +258,7 @@ module _ {P : Type 0} (traffic : P → Traffic) where
           | inr gone ↦ gone
         ]
 
-    pub kept_told : AreTold traffic turns s.gone.items
+    pub kept_told : AreConnectionsTold traffic turns s.gone.items
     kept_told = record {
       known = λ i d inside. gone_of (get_or turns i d).0 (kept.numbered.known i d inside);
       apart = kept.numbered.once;
@@ -296,7 +297,7 @@ module _ {P : Type 0} (traffic : P → Traffic) where
 
       away_past : IsPast traffic turns away
       away_past = (
-        subst (λ (xs : List Exchange). IsTold xs (traffic closed.peer))
+        subst (λ (xs : List Exchange). IsConnectionTold xs (traffic closed.peer))
             (sym (ap (λ (n : ℕ). of n turns) next ∙ unheard))
             (told_none (traffic closed.peer) untouched),
         untouched,
@@ -447,7 +448,7 @@ module _ {P : Type 0} (traffic : P → Traffic) where
 
         gone_past : IsPast traffic turns (closed, had)
         gone_past = (
-          subst (λ (p : P). IsTold (of (traffic p).number turns) (traffic p)) (sym peer)
+          subst (λ (p : P). IsConnectionTold (of (traffic p).number turns) (traffic p)) (sym peer)
               (client_told (of (number k) turns) k (kept.here place k stood)),
           subst (λ (p : P). MayGo had.0 (traffic p)) (sym peer) may,
         )
@@ -534,7 +535,7 @@ module _ {P : Type 0} (traffic : P → Traffic) where
         turned_past : (one : Past P) → number_past traffic one ≢ number k → IsPast traffic turns one
             → IsPast traffic all one
         turned_past one other (told, away) = (
-          subst (λ (xs : List Exchange). IsTold xs (traffic_past traffic one))
+          subst (λ (xs : List Exchange). IsConnectionTold xs (traffic_past traffic one))
               (sym (others_same (number_past traffic one) (number k) turns more (λ equal. other (sym equal)))) told,
           away,
         )

@@ -9,8 +9,9 @@ use Rattle.hall_http.specs.Outgoing.{outgoing_text}
 use Rattle.hall_http.specs.Connection.{Exchange, Session, AreMoments, replies_of}
 use Rattle.hall_http.specs.Device.{WritesPart, NoneFailed, ReadFailed, WriteFailed}
 use Rattle.hall_http.specs.Feeding.{IsFed}
-use Rattle.hall_http.specs.History.{History, nothing, then_heard, then_ended, then_answered, then_sent, reads_of, HasHistory, Stands, IsReplying, IsRefusing, Ends, told_at}
-use Rattle.hall_http.specs.Served.{Line, IsHandled, Ended, IsNoRequest, refusal}
+use Rattle.hall_http.specs.History.{ConnectionHistory, nothing, then_heard, then_ended, then_answered, then_sent}
+use Rattle.hall_http.specs.History.{reads_of, HasHistory, Stands, IsReplying, IsRefusing, Ends, told_at}
+use Rattle.hall_http.specs.Served.{Line, IsHandled, ConnectionEnded, IsNoRequest, refusal}
 use Rattle.hall_http.specs.Steps.{pending, fresh, IsAfterSending, Looks}
 use Rattle.hall_http.specs.declared.connection.Connection.{Connection}
 use Rattle.hall_http.specs.declared.connection.ServeEnd.{ServeEnd}
@@ -53,7 +54,7 @@ module _ {H C : Type 0} (answers : H → Option ℕ → List ℕ → List ℕ �
   -- after some turns
   pub record Kept (stream after wrote written : Option (List ℕ)) (h : H) (c : C) (i : H) (d : C) (k : Connection)
       (asked asks : ℕ) : Type 0 where
-    pub history : History
+    pub history : ConnectionHistory
     pub has : HasHistory history k
     pub session : Session answers h history.exchanges i
     pub moments : AreMoments now_gives c history.exchanges d
@@ -79,7 +80,7 @@ module _ {H C : Type 0} (answers : H → Option ℕ → List ℕ → List ℕ �
 
   module _ (stream after wrote written : Option (List ℕ)) (h : H) (c : C) (m : H) (n : C) (k : Connection)
       (asked asks : ℕ) (kept : Kept stream after wrote written h c m n k asked asks) where
-    abbrev t : History
+    abbrev t : ConnectionHistory
     t = kept.history
 
     -- it was looked at what waits
@@ -189,7 +190,7 @@ module _ {H C : Type 0} (answers : H → Option ℕ → List ℕ → List ℕ �
 
       handled : (then last : Option (List ℕ)) (pieces reads later : ℕ) (e : ServeEnd) → t.pieces ≡ pieces
           → Consumes after then [] → MadeCalls reads asked later → reads ≤ 100000
-          → Ended e old (line_at then later fails last breaks) t.exchanges k.inbox pieces reads
+          → ConnectionEnded e old (line_at then later fails last breaks) t.exchanges k.inbox pieces reads
           → IsHandled answers now_gives old (h, c) (line_at then later fails last breaks) (m, n) e
       handled then last pieces reads later e same none made seldom ended = record {
         exchanges = t.exchanges;
@@ -218,7 +219,7 @@ module _ {H C : Type 0} (answers : H → Option ℕ → List ℕ → List ℕ �
       no_request (goes_on, inr (never, more)) = inr (never, open_reads t more)
 
       ended_by : (e : ServeEnd) → t.went ≡ told_at e t.exchanges → Ends e t k.inbox → NoneFailed failed fails broke breaks
-          → Ended e old (line_at after asks fails written breaks) t.exchanges k.inbox t.pieces (reads_of t)
+          → ConnectionEnded e old (line_at after asks fails written breaks) t.exchanges k.inbox t.pieces (reads_of t)
       ended_by end.Closed told (inl (goes_on, empty, over)) steady =
           (rw told at kept.replied, steady, inl (goes_on, empty, kept.at_end over, reads_more over))
       ended_by end.Closed told (inr (closes, more)) steady =

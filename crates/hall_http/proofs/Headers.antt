@@ -12,7 +12,7 @@ use Rattle.std.proofs.lemmas.List.Sums.{list_all-from_AllPass, AllPass-from_list
 use Rattle.std.proofs.lemmas.List.Folds.{list_all-append}
 use Rattle.std.proofs.lemmas.Fmt.{length-decimal-le, digits_decimal}
 use Rattle.std.proofs.Math.Seq.{drop-append-add}
-use Rattle.hall_http.specs.Words.{cut, number_in}
+use Rattle.hall_http.specs.Words.{cut, decimal_in}
 use Rattle.hall_http.specs.Records.{header_of, header_in, numbers_in}
 use Rattle.hall_http.proofs.Texts.{own, AreDigits, number_writes, number_reads}
 use Rattle.hall_http.proofs.Splits.{Free, found_split}
@@ -87,8 +87,8 @@ marked (y ∷ rest) e = ap (λ z. z ∷ rest) (sym (eqb-true 64 y (and_parts _ _
 numbers_told : (a b : List ℕ) (m n : ℕ) → numbers_in (a, b) ≡ Some (m, n)
     → (a ≡ decimal m) × (b ≡ decimal n) × (m ≤ 4102444800) × (n ≤ 73728)
 numbers_told a b m n e =
-    let (x, xs, more) = and_then_some _ (number_in a) (m, n) e in
-    let (y, ys, last) = and_then_some _ (number_in b) (m, n) more in
+    let (x, xs, more) = and_then_some _ (decimal_in a) (m, n) e in
+    let (y, ys, last) = and_then_some _ (decimal_in b) (m, n) more in
     let (both, same) = if_some _ (x, y) (m, n) last in
     let (late, long) = and_parts _ _ both in
     let first : x ≡ m = ap (λ p. p.0) same in

@@ -6,7 +6,7 @@ use Rattle.std.proofs.Math.Seq.{take-append-add}
 use Rattle.std.proofs.lemmas.Bool.{and_parts}
 use Rattle.std.specs.Prelude.{nat_le, ◌&&◌, ◌||◌, Bool, slice_range}
 use Rattle.std.specs.List.{list_any}
-use Rattle.hall_http.specs.Head.{named, Header, field_limit, first_value, shown_key, says_close, closes}
+use Rattle.hall_http.specs.Head.{headers_named, Header, field_limit, first_value, shown_key, says_close, closes}
 use Rattle.std.specs.Prelude.{codes, ◌==◌}
 use Rattle.httparse.specs.Grammar.{RequestHead, ReadsRequest, HasNoRequest, MayBecomeRequest, print_request}
 use Rattle.httparse.specs.Spans.{RequestOverflows, name_and_value, header_bytes, span_bytes, IsRequestAt}
@@ -14,14 +14,16 @@ use Rattle.httparse.specs.declared.spans.HeaderSpan.{HeaderSpan}
 use Rattle.httparse.specs.declared.spans.RequestSpans.{RequestSpans}
 use Rattle.hall_http.specs.declared.head.RawRequest.{RawRequest}
 use Rattle.httparse.proofs.GrammarLemmas.{ReadsRequest-append, request_prefix_free}
-use Rattle.hall_http.specs.Head.{body_size, headers_of, IsRequest, IsLentBy, IsWhole, HasNone, NeverHas, IsUnfinished, IsUnfinishedBelow, length_in, head_limit, is_accepted, within}
+use Rattle.hall_http.specs.Head.{body_size, headers_of, IsHeadAndBody, IsLentBy, IsWholeRequest, HasNoWholeRequest}
+use Rattle.hall_http.specs.Head.{NeverHas, IsUnfinished, IsUnfinishedBelow, length_in, head_limit, is_accepted}
+use Rattle.hall_http.specs.Head.{within_size_limit}
 
 size_of : RequestHead → Option ℕ
 size_of h = body_size (length (print_request h)) (headers_of h)
 
 -- a whole request at the front has the head that is at the front, and the size that it asks for
 pub same_size : (bytes more front rest : List ℕ) (h : RequestHead) (after : List ℕ)
-    → ReadsRequest bytes h after → bytes ++ more ≡ front ++ rest → IsWhole front
+    → ReadsRequest bytes h after → bytes ++ more ≡ front ++ rest → IsWholeRequest front
     → (body : List ℕ) × (body_size (length (print_request h)) (headers_of h) ≡ Some (length body)) × (front ≡ print_request h ++ body)
 same_size bytes more front rest h after reads split (k, body, whole) =
     let longer : ReadsRequest (bytes ++ more) k (body ++ rest) = rw split (ReadsRequest-append front k body rest whole.reads) in
@@ -37,13 +39,13 @@ never_without bytes h after reads none more front rest split whole =
 -- a head at the front, and so many bytes behind it
 request_at : (bytes : List ℕ) (h : RequestHead) (after : List ℕ) (n : ℕ) → ReadsRequest bytes h after
     → body_size (length (print_request h)) (headers_of h) ≡ Some n → n ≤ length after
-    → IsRequest (take (length (print_request h) + n) bytes) h (take n after)
+    → IsHeadAndBody (take (length (print_request h) + n) bytes) h (take n after)
 request_at bytes h after n reads size fits =
     let cut : take (length (print_request h) + n) bytes ≡ print_request h ++ take n after = rw reads.1 (take-append-add (print_request h) after n) in
     record { reads = (reads.0, cut); size = size ∙ ap Some (sym (length-take-le n after fits)) }
 
 pub none_yet : (bytes : List ℕ) (h : RequestHead) (after : List ℕ) (n : ℕ) → ReadsRequest bytes h after
-    → body_size (length (print_request h)) (headers_of h) ≡ Some n → length after < n → HasNone bytes
+    → body_size (length (print_request h)) (headers_of h) ≡ Some n → length after < n → HasNoWholeRequest bytes
 none_yet bytes h after n reads size short front rest split whole =
     let (body, asked, front_is) = same_size bytes [] front rest h after reads (append-nil bytes ∙ split) whole in
     let n_is : n ≡ length body = same_Some _ _ (sym size ∙ asked) in
@@ -52,7 +54,7 @@ none_yet bytes h after n reads size short front rest split whole =
     let three : length front ≡ length (print_request h) + length body = ap length front_is ∙ length-append (print_request h) body in
     absurd (omega arith)
 
-pub none_in : (bytes : List ℕ) → HasNoRequest bytes → HasNone bytes
+pub none_in : (bytes : List ℕ) → HasNoRequest bytes → HasNoWholeRequest bytes
 none_in bytes none front rest split (k, body, whole) =
     none k (body ++ rest) (rw split (ReadsRequest-append front k body rest whole.reads))
 
@@ -63,21 +65,21 @@ accepted size n headers false o h = cc
 pub small_head : (size n : ℕ) (headers : List Header) → body_size size headers ≡ Some n → (size ≤ 8192) × (length headers ≤ 32)
 small_head size n headers h =
     let yes = accepted size n headers (is_accepted size headers) _ h in
-    let few_keys = and_parts (nat_le size head_limit && nat_le (length headers) field_limit && (length (named (codes "transfer-encoding") headers) == 0)) (nat_le (length (named (codes "hall-key") headers)) 1) yes in
-    let not_coded = and_parts (nat_le size head_limit && nat_le (length headers) field_limit) (length (named (codes "transfer-encoding") headers) == 0) few_keys.0 in
+    let few_keys = and_parts (nat_le size head_limit && nat_le (length headers) field_limit && (length (headers_named (codes "transfer-encoding") headers) == 0)) (nat_le (length (headers_named (codes "hall-key") headers)) 1) yes in
+    let not_coded = and_parts (nat_le size head_limit && nat_le (length headers) field_limit) (length (headers_named (codes "transfer-encoding") headers) == 0) few_keys.0 in
     let both = and_parts (nat_le size head_limit) (nat_le (length headers) field_limit) not_coded.0 in
     (grind (arith, both.0), grind (arith, both.1))
 
 -- the hall takes no head with two keys
 one_key : (size n : ℕ) (headers : List Header) → body_size size headers ≡ Some n
-    → length (named (codes "hall-key") headers) ≤ 1
+    → length (headers_named (codes "hall-key") headers) ≤ 1
 one_key size n headers h =
     let yes = accepted size n headers (is_accepted size headers) _ h in
-    let few_keys = and_parts (nat_le size head_limit && nat_le (length headers) field_limit && (length (named (codes "transfer-encoding") headers) == 0)) (nat_le (length (named (codes "hall-key") headers)) 1) yes in
+    let few_keys = and_parts (nat_le size head_limit && nat_le (length headers) field_limit && (length (headers_named (codes "transfer-encoding") headers) == 0)) (nat_le (length (headers_named (codes "hall-key") headers)) 1) yes in
     grind (arith, few_keys.1)
 
 -- what is lent is one whole request
-pub lent_whole : (bytes : List ℕ) (raw : RawRequest) → IsLentBy bytes raw → IsWhole bytes
+pub lent_whole : (bytes : List ℕ) (raw : RawRequest) → IsLentBy bytes raw → IsWholeRequest bytes
 lent_whole bytes raw (head, is, method, path, key, closing) = (head, raw.body.now, is)
 
 rest_of : (m n : ℕ) → (m + n) - m ≡ n
@@ -88,21 +90,21 @@ pub lent_at : (bytes : List ℕ) (headers : List HeaderSpan) (r : RequestSpans) 
     (method path : List ℕ) (shown : Option (List ℕ)) (body : List ℕ) (closing : Bool) → IsRequestAt bytes headers r h
     → body_size (length (print_request h)) (headers_of h) ≡ Some n → n ≤ length (drop r.len bytes)
     → method ≡ span_bytes bytes r.method → path ≡ span_bytes bytes r.path
-    → (length (named (codes "hall-key") (map (header_bytes bytes) (take r.headers headers))) ≤ 1
-    → shown ≡ first_value (named (codes "hall-key") (map (header_bytes bytes) (take r.headers headers))))
+    → (length (headers_named (codes "hall-key") (map (header_bytes bytes) (take r.headers headers))) ≤ 1
+    → shown ≡ first_value (headers_named (codes "hall-key") (map (header_bytes bytes) (take r.headers headers))))
     → body ≡ slice_range bytes r.len (r.len + n)
     → closing ≡ (r.version == 0 || list_any says_close (map (header_bytes bytes) (take r.headers headers)))
-    → (head : RequestHead) × IsRequest (take (r.len + n) bytes) head body × (method ≡ head.method)
+    → (head : RequestHead) × IsHeadAndBody (take (r.len + n) bytes) head body × (method ≡ head.method)
     × (path ≡ head.target) × (shown ≡ shown_key head) × (closing ≡ closes head)
 lent_at bytes headers r h n method path shown body closing found size fits methods paths keys bodies close = (
   h,
-  subst (IsRequest (take (r.len + n) bytes) h) (sym (bodies ∙ ap (λ k. take k (drop r.len bytes)) (rest_of r.len n)))
-      (subst (λ (len : ℕ). IsRequest (take (len + n) bytes) h (take n (drop r.len bytes))) (sym found.len)
+  subst (IsHeadAndBody (take (r.len + n) bytes) h) (sym (bodies ∙ ap (λ k. take k (drop r.len bytes)) (rest_of r.len n)))
+      (subst (λ (len : ℕ). IsHeadAndBody (take (len + n) bytes) h (take n (drop r.len bytes))) (sym found.len)
       (request_at bytes h (drop r.len bytes) n found.reads size fits)),
   methods ∙ found.method,
   paths ∙ found.path,
-  subst (λ (fields : List Header). length (named (codes "hall-key") fields) ≤ 1
-      → shown ≡ first_value (named (codes "hall-key") fields)) found.fields keys
+  subst (λ (fields : List Header). length (headers_named (codes "hall-key") fields) ≤ 1
+      → shown ≡ first_value (headers_named (codes "hall-key") fields)) found.fields keys
       (one_key (length (print_request h)) n (headers_of h) size),
   close ∙ ap₂ (λ (version : ℕ) (fields : List Header). version == 0 || list_any says_close fields) found.version found.fields,
 )
@@ -134,14 +136,14 @@ fits_within : (limit m n : ℕ) (b : Bool) → nat_le m limit ≡ b → (if b th
 fits_within limit m n true e h = let same : m ≡ n = same_Some _ _ h in grind (arith, e)
 fits_within limit m n false e h = cc
 
-within_limit : (limit n : ℕ) (o : Option ℕ) → within limit o ≡ Some n → n ≤ limit
+within_limit : (limit n : ℕ) (o : Option ℕ) → within_size_limit limit o ≡ Some n → n ≤ limit
 within_limit limit n None h = cc
 within_limit limit n (Some m) h = fits_within limit m n (nat_le m limit) refl h
 
 pub small_body : (size n : ℕ) (headers : List Header) → body_size size headers ≡ Some n → n ≤ 65536
 small_body size n headers h =
-    let asked = length_in (named (codes "content-length") headers) in
-    within_limit 65536 n asked (accepted_size n (is_accepted size headers) (within 65536 asked) h)
+    let asked = length_in (headers_named (codes "content-length") headers) in
+    within_limit 65536 n asked (accepted_size n (is_accepted size headers) (within_size_limit 65536 asked) h)
 
 -- a whole head, and a part of its body
 pub lacks_body : (bytes : List ℕ) (h : RequestHead) (after : List ℕ) (n : ℕ) → ReadsRequest bytes h after

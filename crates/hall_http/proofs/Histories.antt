@@ -8,9 +8,10 @@ use Rattle.std.proofs.Math.Seq.{take-add}
 use Rattle.std.proofs.lemmas.List.Concat.{flat_map-append}
 use Rattle.std.proofs.lemmas.List.Elements.{All-nil, All-push}
 use Rattle.hall_http.specs.Outgoing.{outgoing_text}
-use Rattle.hall_http.specs.Connection.{Exchange, requests_of, replies_of, AreOpen, IsOpen}
-use Rattle.hall_http.specs.Head.{IsWhole, IsUnfinished, IsUnfinishedBelow}
-use Rattle.hall_http.specs.History.{History, nothing, then_heard, then_ended, then_answered, then_sent, reads_of, HasHistory, Stands, IsFree, IsReplying, IsRefusing}
+use Rattle.hall_http.specs.Connection.{Exchange, requests_of, replies_of, AreOpen, LeavesOpen}
+use Rattle.hall_http.specs.Head.{IsWholeRequest, IsUnfinished, IsUnfinishedBelow}
+use Rattle.hall_http.specs.History.{ConnectionHistory, nothing, then_heard, then_ended, then_answered, then_sent}
+use Rattle.hall_http.specs.History.{reads_of, HasHistory, Stands, IsFree, IsReplying, IsRefusing}
 use Rattle.hall_http.specs.Reading.{at_first, after_read, after_answer}
 use Rattle.hall_http.specs.Served.{HaveRead, IsLastRequest, refusal}
 use Rattle.hall_http.specs.Steps.{pending, fresh, IsAfterHearing, IsAfterEnd, IsAfterSending, Answers, Waits, Refuses, EndsAfter, after_reply}
@@ -34,10 +35,10 @@ replies_more xs x = flat_map-append (λ x. x.reply) xs (x ∷ []) ∙ ap (λ s. 
 pub not_nil : (xs : List ℕ) → 0 < length xs → xs ≢ []
 not_nil xs some e = let z : length xs ≡ 0 = ap length e in omega arith
 
-pub open_reads : (t : History) → t.ended ≡ false → reads_of t ≡ t.pieces
+pub open_reads : (t : ConnectionHistory) → t.ended ≡ false → reads_of t ≡ t.pieces
 open_reads t more = rw more (omega arith)
 
-pub ended_reads : (t : History) → t.ended ≡ true → reads_of t ≡ t.pieces + 1
+pub ended_reads : (t : ConnectionHistory) → t.ended ≡ true → reads_of t ≡ t.pieces + 1
 ended_reads t over = rw over (omega arith)
 
 -- of a connection that just came
@@ -45,7 +46,7 @@ pub at_the_start : HasHistory nothing fresh
 at_the_start = record {
   came = refl;
   reading = at_first;
-  whole = All-nil (λ x. IsWhole x.request);
+  whole = All-nil (λ x. IsWholeRequest x.request);
   requests = refl;
   few = omega arith;
   reads = refl;
@@ -53,13 +54,13 @@ at_the_start = record {
   bounded = omega arith;
   below = below_none [];
   inside = omega arith;
-  stands = record { goes_on = (All-nil (λ x. IsOpen x.request), omega arith); more = refl; told = refl };
+  stands = record { goes_on = (All-nil (λ x. LeavesOpen x.request), omega arith); more = refl; told = refl };
 }
 
-pub stands_at : (t : History) (k : Connection) (s : State) → HasHistory t k → k.state ≡ s → Stands s t k
+pub stands_at : (t : ConnectionHistory) (k : Connection) (s : State) → HasHistory t k → k.state ≡ s → Stands s t k
 stands_at t k s h e = subst (λ (s : State). Stands s t k) e h.stands
 
-module _ (t : History) (k : Connection) (h : HasHistory t k) where
+module _ (t : ConnectionHistory) (k : Connection) (h : HasHistory t k) where
   -- no more bytes were heard, and no further request was answered
   as_before : (over : Bool) (went : List ℕ) (least : ℕ) (reply : Outgoing) (sent reads : ℕ) (s : State)
       → reads ≡ reads_of (record t { ended = over; went = went })
@@ -179,8 +180,8 @@ module _ (t : History) (k : Connection) (h : HasHistory t k) where
         told = free_now.told ∙ sym (append-nil (replies_of xs));
       }
 
-      opened : IsOpen x.request → AreOpen (xs ++ x ∷ [])
-      opened stays = All-push (λ x. IsOpen x.request) xs x free_now.goes_on.0 stays
+      opened : LeavesOpen x.request → AreOpen (xs ++ x ∷ [])
+      opened stays = All-push (λ x. LeavesOpen x.request) xs x free_now.goes_on.0 stays
 
       goes_on : (ending : Option ServeEnd) → EndsAfter x.request (k.requests + 1) ending
           → Stands (state.Writing ending) (then_answered t x) next
@@ -198,7 +199,7 @@ module _ (t : History) (k : Connection) (h : HasHistory t k) where
           subst (HasHistory (then_answered t x)) (sym a.left) (record {
             came = h.came ∙ sym same_bytes;
             reading = after_answer xs t.pieces (drop a.size k.inbox) x before_it;
-            whole = All-push (λ x. IsWhole x.request) xs x h.whole a.exchanged.0;
+            whole = All-push (λ x. IsWholeRequest x.request) xs x h.whole a.exchanged.0;
             requests = sym one_more;
             few = omega (arith, one_more, h.requests, free_now.goes_on.1);
             reads = h.reads;
@@ -262,7 +263,7 @@ module _ (t : History) (k : Connection) (h : HasHistory t k) where
     abbrev bytes : List ℕ
     bytes = take count (pending k)
 
-    abbrev after : History
+    abbrev after : ConnectionHistory
     after = then_sent t bytes
 
     module _ (r : IsReplying t k) where

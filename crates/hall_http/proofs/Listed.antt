@@ -6,7 +6,7 @@ use Rattle.std.specs.Str.{bytes_eq}
 use Rattle.std.specs.declared.alloc.Global.{Global}
 use Rattle.serde_json.specs.View.{members_view}
 use Rattle.serde_json.specs.declared.value.Value.{Value}
-use Rattle.hall_http.specs.Body.{only_members, object_in, text_at, integer_at, flag_at}
+use Rattle.hall_http.specs.Body.{only_members, object_in, text_of_member, integer_of_member, flag_of_member}
 use Rattle.hall_http.specs.declared.form.FormFault.TheVariants as fault
 use Rattle.std.specs.Str.{IsUtf8, is_utf8}
 use Rattle.std.proofs.lemmas.Str.{IsUtf8-from_is_utf8, is_utf8-from_IsUtf8}
@@ -41,37 +41,37 @@ object_is names body ms true text is only = rw (is_utf8-from_IsUtf8 body text, i
 object_is names body ms false text is only = rw (is_utf8-from_IsUtf8 body text, is, only) refl
 
 pub missing_member : (f : Field) (name : List ℕ) (ms : Members) → get_member name ms ≡ None
-    → text_at f name ms ≡ Err (fault.Missing f)
+    → text_of_member f name ms ≡ Err (fault.Missing f)
 missing_member f name ms e = rw e refl
 
 pub wrong_member : (f : Field) (name : List ℕ) (ms : Members) (d : Data) → get_member name ms ≡ Some d
-    → as_str d ≡ None → text_at f name ms ≡ Err (fault.Missing f)
+    → as_str d ≡ None → text_of_member f name ms ≡ Err (fault.Missing f)
 wrong_member f name ms d e other = rw (e, other) refl
 
 pub text_member : (f : Field) (name : List ℕ) (ms : Members) (d : Data) (text : List ℕ) → get_member name ms ≡ Some d
-    → as_str d ≡ Some text → text_at f name ms ≡ Ok text
+    → as_str d ≡ Some text → text_of_member f name ms ≡ Ok text
 text_member f name ms d text e is = rw (e, is) refl
 
 pub missing_integer : (f : Field) (name : List ℕ) (ms : Members) → get_member name ms ≡ None
-    → integer_at f name ms ≡ Err (fault.Missing f)
+    → integer_of_member f name ms ≡ Err (fault.Missing f)
 missing_integer f name ms e = rw e refl
 
 pub wrong_integer : (f : Field) (name : List ℕ) (ms : Members) (d : Data) → get_member name ms ≡ Some d
-    → option_and_then as_integer (as_number d) ≡ None → integer_at f name ms ≡ Err (fault.Missing f)
+    → option_and_then as_integer (as_number d) ≡ None → integer_of_member f name ms ≡ Err (fault.Missing f)
 wrong_integer f name ms d e other = rw (e, other) refl
 
 pub integer_member : (f : Field) (name : List ℕ) (ms : Members) (d : Data) (z : ℤ) → get_member name ms ≡ Some d
-    → option_and_then as_integer (as_number d) ≡ Some z → integer_at f name ms ≡ Ok z
+    → option_and_then as_integer (as_number d) ≡ Some z → integer_of_member f name ms ≡ Ok z
 integer_member f name ms d z e is = rw (e, is) refl
 
 pub missing_flag : (f : Field) (name : List ℕ) (ms : Members) → get_member name ms ≡ None
-    → flag_at f name ms ≡ Err (fault.Missing f)
+    → flag_of_member f name ms ≡ Err (fault.Missing f)
 missing_flag f name ms e = rw e refl
 
 pub wrong_flag : (f : Field) (name : List ℕ) (ms : Members) (d : Data) → get_member name ms ≡ Some d
-    → as_bool d ≡ None → flag_at f name ms ≡ Err (fault.Missing f)
+    → as_bool d ≡ None → flag_of_member f name ms ≡ Err (fault.Missing f)
 wrong_flag f name ms d e other = rw (e, other) refl
 
 pub flag_member : (f : Field) (name : List ℕ) (ms : Members) (d : Data) (b : Bool) → get_member name ms ≡ Some d
-    → as_bool d ≡ Some b → flag_at f name ms ≡ Ok b
+    → as_bool d ≡ Some b → flag_of_member f name ms ≡ Ok b
 flag_member f name ms d b e is = rw (e, is) refl

@@ -5,7 +5,7 @@ use Rattle.std.proofs.lemmas.List.{append-nil, length-take-le, take-append-drop}
 use Rattle.std.proofs.lemmas.List.Elements.{All-head, All-tail}
 use Rattle.httparse.specs.Grammar.{RequestHead, print_request, ReadsRequest}
 use Rattle.httparse.proofs.GrammarLemmas.{request_unique, ReadsRequest-append}
-use Rattle.hall_http.specs.Head.{IsRequest, IsWhole, HasNone, body_size, headers_of}
+use Rattle.hall_http.specs.Head.{IsHeadAndBody, IsWholeRequest, HasNoWholeRequest, body_size, headers_of}
 use Rattle.hall_http.specs.Records.{Record, IsRecord, Records, record_bytes, header_of, header_in, HasNoRecord}
 use Rattle.hall_http.specs.Laws.{Requests}
 use Rattle.hall_http.proofs.Splits.{split_unique}
@@ -23,8 +23,8 @@ cut_same (y ∷ a) (z ∷ c) b d size same =
     let (fronts, rests) = cut_same a c b d shorter tails in (cc, rests)
 
 -- the first request of a stream
-first_parts : (one other : List ℕ) (h k : RequestHead) (body more rest left : List ℕ) → IsRequest one h body
-    → IsRequest other k more → one ++ rest ≡ other ++ left → (h ≡ k) × (body ≡ more) × (rest ≡ left)
+first_parts : (one other : List ℕ) (h k : RequestHead) (body more rest left : List ℕ) → IsHeadAndBody one h body
+    → IsHeadAndBody other k more → one ++ rest ≡ other ++ left → (h ≡ k) × (body ≡ more) × (rest ≡ left)
 first_parts one other h k body more rest left is it same =
     let (heads, tails) =
     request_unique (other ++ left) h k (body ++ rest) (more ++ left)
@@ -34,19 +34,19 @@ first_parts one other h k body more rest left is it same =
     sym is.size ∙ ap (λ h. body_size (length (print_request h)) (headers_of h)) heads ∙ it.size in
     let (bodies, rests) = cut_same body more rest left (cc) tails in (heads, bodies, rests)
 
-pub one_request : (bytes : List ℕ) (h k : RequestHead) (body more : List ℕ) → IsRequest bytes h body
-    → IsRequest bytes k more → (h ≡ k) × (body ≡ more)
+pub one_request : (bytes : List ℕ) (h k : RequestHead) (body more : List ℕ) → IsHeadAndBody bytes h body
+    → IsHeadAndBody bytes k more → (h ≡ k) × (body ≡ more)
 one_request bytes h k body more is it =
     let (heads, bodies, rests) = first_parts bytes bytes h k body more [] [] is it refl in (heads, bodies)
 
-pub one_first : (one other rest left : List ℕ) → IsWhole one → IsWhole other → one ++ rest ≡ other ++ left
+pub one_first : (one other rest left : List ℕ) → IsWholeRequest one → IsWholeRequest other → one ++ rest ≡ other ++ left
     → (one ≡ other) × (rest ≡ left)
 one_first one other rest left (h, body, is) (k, more, it) same =
     let (heads, bodies, rests) = first_parts one other h k body more rest left is it same in
     (is.reads.1 ∙ ap₂ (λ h s. print_request h ++ s) heads bodies ∙ sym it.reads.1, rests)
 
 -- bytes that are one whole request have no shorter one at their front
-pub whole_front : (bytes : List ℕ) (n : ℕ) → n ≤ length bytes → IsWhole (take n bytes) → IsWhole bytes
+pub whole_front : (bytes : List ℕ) (n : ℕ) → n ≤ length bytes → IsWholeRequest (take n bytes) → IsWholeRequest bytes
     → n ≡ length bytes
 whole_front bytes n fits front whole =
     let same = (one_first (take n bytes) bytes (drop n bytes) [] front whole
@@ -56,19 +56,19 @@ whole_front bytes n fits front whole =
 abbrev joined : List (List ℕ) → List ℕ
 joined requests = flat_map (λ request. request) requests
 
-same_lists : (xs ys : List (List ℕ)) (rest left : List ℕ) → All IsWhole xs → All IsWhole ys → HasNone rest
-    → HasNone left → joined xs ++ rest ≡ joined ys ++ left → (xs ≡ ys) × (rest ≡ left)
+same_lists : (xs ys : List (List ℕ)) (rest left : List ℕ) → All IsWholeRequest xs → All IsWholeRequest ys → HasNoWholeRequest rest
+    → HasNoWholeRequest left → joined xs ++ rest ≡ joined ys ++ left → (xs ≡ ys) × (rest ≡ left)
 same_lists [] [] rest left all each ended over same = (refl, same)
 same_lists [] (y ∷ ys) rest left all each ended over same =
-    absurd (ended y (joined ys ++ left) (same ∙ append_assoc y (joined ys) left) (All-head IsWhole y ys each))
+    absurd (ended y (joined ys ++ left) (same ∙ append_assoc y (joined ys) left) (All-head IsWholeRequest y ys each))
 same_lists (x ∷ xs) [] rest left all each ended over same =
-    absurd (over x (joined xs ++ rest) (sym same ∙ append_assoc x (joined xs) rest) (All-head IsWhole x xs all))
+    absurd (over x (joined xs ++ rest) (sym same ∙ append_assoc x (joined xs) rest) (All-head IsWholeRequest x xs all))
 same_lists (x ∷ xs) (y ∷ ys) rest left all each ended over same =
     let (firsts, tails) =
-    one_first x y (joined xs ++ rest) (joined ys ++ left) (All-head IsWhole x xs all) (All-head IsWhole y ys each)
+    one_first x y (joined xs ++ rest) (joined ys ++ left) (All-head IsWholeRequest x xs all) (All-head IsWholeRequest y ys each)
     (sym (append_assoc x (joined xs) rest) ∙ same ∙ append_assoc y (joined ys) left) in
     let (later, rests) =
-    same_lists xs ys rest left (All-tail IsWhole x xs all) (All-tail IsWhole y ys each) ended over tails in
+    same_lists xs ys rest left (All-tail IsWholeRequest x xs all) (All-tail IsWholeRequest y ys each) ended over tails in
     (ap₂ (λ z zs. z ∷ zs) firsts later, rests)
 
 pub one_list : (stream : List ℕ) (xs ys : List (List ℕ)) (rest left : List ℕ) → Requests stream xs rest

@@ -7,7 +7,7 @@ use Rattle.hall_http.specs.Outgoing.{outgoing_text}
 use Rattle.hall_http.specs.Peer.{Traffic, IsUntouched, over_after, then_hung_up}
 use Rattle.hall_http.specs.Turns.{Service, IsClient, IsClientKept, IsOverRightly, IsTurned}
 use Rattle.hall_http.specs.Connection.{Exchange, AreMoments}
-use Rattle.hall_http.specs.Resting.{Rests, RestingSession}
+use Rattle.hall_http.specs.Resting.{HasRested, RestingSession}
 use Rattle.hall_http.specs.History.{nothing, then_heard, then_ended, then_answered, then_sent, HasHistory}
 use Rattle.hall_http.specs.Steps.{pending, fresh, IsAfterHearing, IsAfterEnd, IsAfterSending, Looks}
 use Rattle.hall_http.specs.declared.client.Client.{Client}
@@ -276,7 +276,7 @@ module _ {P : Type 0} (traffic : P → Traffic) where
 
   module _ {H C : Type 0} (service : Service H C) where
     -- none of its requests was answered
-    pub client_rests : (h i : H) (c : C) (xs : List Exchange) (k : Client P) → Rests service.rests h i
+    pub client_rests : (h i : H) (c : C) (xs : List Exchange) (k : Client P) → HasRested service.rests h i
         → IsClient traffic xs k
         → (more : List Exchange) × RestingSession service.answers service.rests h more i
         × AreMoments service.now_gives c more c × IsClient traffic (xs ++ more) k
@@ -287,7 +287,7 @@ module _ {P : Type 0} (traffic : P → Traffic) where
       subst (λ (ys : List Exchange). IsClient traffic ys k) (sym (append-nil xs)) kept,
     )
 
-    pub turned_rests : (h i : H) (c : C) (k : Client P) (step : Step) → Rests service.rests h i
+    pub turned_rests : (h i : H) (c : C) (k : Client P) (step : Step) → HasRested service.rests h i
         → IsOverRightly step (traffic k.peer) → IsTurned service traffic (h, c) k (i, c) k step
     turned_rests h i c k step rested over =
         record { number = refl; over = over; turned = λ xs kept. client_rests h i c xs k rested kept }
@@ -322,7 +322,7 @@ module _ {P : Type 0} (traffic : P → Traffic) where
 
     -- the responder rested, and then it was looked at what waits
     pub turned_looked : (h m i : H) (c d : C) (k l : Connection) (p : P) (f v : Bool) (step : Step)
-        → Rests service.rests h m → k.state ≡ state.Looking → Looks service.answers service.now_gives (m, c) k (i, d) l
+        → HasRested service.rests h m → k.state ≡ state.Looking → Looks service.answers service.now_gives (m, c) k (i, d) l
         → IsOverRightly step (traffic p)
         → IsTurned service traffic (h, c) (client k p f v) (i, d) (client l p f v) step
     turned_looked h m i c d k l p f v second rested at looks over =

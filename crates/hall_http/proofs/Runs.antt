@@ -17,7 +17,8 @@ use Rattle.hall_http.specs.Answered.{AnswersOver, StopsAtBytes}
 use Rattle.hall_http.specs.Connection.{Exchange}
 use Rattle.hall_http.specs.Served.{Line, IsHandled, IsServed}
 use Rattle.hall_http.specs.declared.connection.ServeEnd.{ServeEnd}
-use Rattle.hall_http.specs.Serving.{AnswersAt, IsAnswered, AreAnswered, IsNotMade, AreMade, IsRunOver, RunsOver}
+use Rattle.hall_http.specs.Serving.{AnswersAt, IsAnsweredOver, AreAnswered, IsNoRequestMade, AreRequestsMade, IsRunOver}
+use Rattle.hall_http.specs.Serving.{RunsOver}
 use Rattle.hall_http.specs.Serving.{IsLeftOver, LeavesRunOver}
 use Rattle.hall_http.specs.Laws.{FirstPartsLast, RunsCompose}
 
@@ -28,7 +29,7 @@ Answering world (x ∷ xs) last =
     (next : World) × AnswersAt world x.moment x.request x.reply next × Answering next xs last
 
 -- they are a run of the hall
-not_made : (w v : World) (x : Exchange) (xs : List Exchange) (last : World) → v ≡ w → IsNotMade x → IsRunOver v xs last
+not_made : (w v : World) (x : Exchange) (xs : List Exchange) (last : World) → v ≡ w → IsNoRequestMade x → IsRunOver v xs last
     → IsRunOver w (x ∷ xs) last
 not_made w v x xs last same other run = record {
   requests = run.requests;
@@ -99,7 +100,7 @@ module _ {H : Type 0} (content : H → Content) where
       → ((asked : Request) → RequestOf request (Ok asked) → WritesIfAny (content old) moment asked (content new))
       → StopsAtBytes (content old) moment request reply (content new) → IsSettled (content new)
       → ((content new).honest → AnswersOver (content old) moment request reply (content new))
-      → (AsksNothing request → new ≡ old) → IsAnswered content old (Some moment) request reply new
+      → (AsksNothing request → new ≡ old) → IsAnsweredOver content old (Some moment) request reply new
   answered_at old moment request reply new leads once quiet stops settled answers untouched = record {
     leads = leads;
     once = once;
@@ -169,7 +170,7 @@ leaves_read old new xs left kept honest (inr (serves, run)) =
 
 module _ {H : Type 0} (content : H → Content) where
   -- a request that is answered before them
-  module _ (h m : H) (x : Exchange) (says : IsAnswered content h x.moment x.request x.reply m)
+  module _ (h m : H) (x : Exchange) (says : IsAnsweredOver content h x.moment x.request x.reply m)
       (honest : (content m).honest) (xs : List Exchange) (left : World) where
     abbrev here : Content
     here = content h
@@ -257,8 +258,8 @@ runs_sane old xs new run h s sane =
 
 -- what was answered over desks was answered over what they keep
 module _ {D H : Type 0} (kept : D → H) (content : H → Content) where
-  pub answered_kept : (h m : D) (x : Exchange) → IsAnswered (λ h. content (kept h)) h x.moment x.request x.reply m
-      → IsAnswered content (kept h) x.moment x.request x.reply (kept m)
+  pub answered_kept : (h m : D) (x : Exchange) → IsAnsweredOver (λ h. content (kept h)) h x.moment x.request x.reply m
+      → IsAnsweredOver content (kept h) x.moment x.request x.reply (kept m)
   answered_kept h m x says = record {
     leads = says.leads;
     once = says.once;
@@ -278,7 +279,7 @@ module _ {D H : Type 0} (kept : D → H) (content : H → Content) where
 module _ {D H C : Type 0} (kept : D → H) (content : H → Content) (now_gives : C → Option ℕ → C → Type 0)
     (old : Line) (h : D) (c : C) (new : Line) (i : D) (d : C) (e : ServeEnd) where
   pub handled_served : IsSettled (content (kept h))
-      → IsHandled (IsAnswered (λ h. content (kept h))) now_gives old (h, c) new (i, d) e
+      → IsHandled (IsAnsweredOver (λ h. content (kept h))) now_gives old (h, c) new (i, d) e
       → IsServed content now_gives old (kept h, c) new (kept i, d) e
   handled_served settled handled = let over : D → Content = λ h. content (kept h) in record {
     exchanges = handled.exchanges;
@@ -303,7 +304,7 @@ module _ {D H C : Type 0} (kept : D → H) (content : H → Content) (now_gives 
 
 module _ {H C : Type 0} (content : H → Content) (now_gives : C → Option ℕ → C → Type 0)
     (old : Line) (h : H) (c : C) (new : Line) (i : H) (d : C) where
-  pub handled_sane : (e : ServeEnd) → IsHandled (IsAnswered content) now_gives old (h, c) new (i, d) e
+  pub handled_sane : (e : ServeEnd) → IsHandled (IsAnsweredOver content) now_gives old (h, c) new (i, d) e
       → SaneThen Sane (content h) (content i)
   handled_sane e handled =
       runs_sane (content h) handled.exchanges (content i)
@@ -321,10 +322,10 @@ run_then old mid new (q ∷ requests) more (r ∷ replies) others (next, step, r
 
 -- the requests of both, and their replies
 made_then : (xs ys : List Exchange) (requests more : List (ℕ × Request)) (replies others : List Reply)
-    → AreMade xs requests replies → AreMade ys more others → AreMade (xs ++ ys) (requests ++ more) (replies ++ others)
+    → AreRequestsMade xs requests replies → AreRequestsMade ys more others → AreRequestsMade (xs ++ ys) (requests ++ more) (replies ++ others)
 made_then [] ys requests more replies others (asks, tells) rest =
-    subst (λ (qs : List (ℕ × Request)). AreMade ys (qs ++ more) (replies ++ others)) (sym asks)
-    (subst (λ (rs : List Reply). AreMade ys more (rs ++ others)) (sym tells) rest)
+    subst (λ (qs : List (ℕ × Request)). AreRequestsMade ys (qs ++ more) (replies ++ others)) (sym asks)
+    (subst (λ (rs : List Reply). AreRequestsMade ys more (rs ++ others)) (sym tells) rest)
 made_then (x ∷ xs) ys requests more replies others (inl (other, made)) rest =
     inl (other, made_then xs ys requests more replies others made rest)
 made_then (x ∷ xs) ys requests more replies others (inr (request, reply, later, left, asks, tells, is, made)) rest =

@@ -14,7 +14,7 @@ use Rattle.hall_http.specs.Crowd.{AllLeave, AreAsSaid, HaveGone, IsFor}
 use Rattle.hall_http.specs.Peer.{Traffic}
 use Rattle.hall_http.specs.Resting.{AreRests, RestingSession, after_rests, still}
 use Rattle.hall_http.specs.Laws.{FirstPartsLast}
-use Rattle.hall_http.specs.Serving.{AreAnsweredWhileOpen, GoesOn, IsAnswered, LeavesRunOver, RunsOver}
+use Rattle.hall_http.specs.Serving.{AreAnsweredWhileOpen, GoesOn, IsAnsweredOver, LeavesRunOver, RunsOver}
 use Rattle.hall_http.specs.Steps.{gated}
 use Rattle.hall_http.specs.Turns.{exchanges_of, service_of}
 use Rattle.hall_http.specs.declared.clients.Clients.{Clients}
@@ -86,7 +86,7 @@ module _ {D H : Type 0} (kept : D → H) (content : H → Content) where
   reads h i = Kept (over h) (over i)
 
   abbrev answers : D × Bool → Option ℕ → List ℕ → List ℕ → D × Bool → Type 0
-  answers = gated (IsAnswered over) (GoesOn over)
+  answers = gated (IsAnsweredOver over) (GoesOn over)
 
   goes_kept : (h i : D) (reply : List ℕ) → GoesOn over h reply i → GoesOn content (kept h) reply (kept i)
   goes_kept h i reply goes is =
@@ -159,7 +159,7 @@ all_gone traffic steps s u said (last, is, all) =
 module _ {D H C P : Type 0} (kept : D → H) (content : H → Content) (now_gives : C → Option ℕ → C → Type 0)
     (traffic : P → Traffic) (old new : Said P) (h : D) (c : C) (i : D) (d : C) (why : ServeAllEnd) (s u : Clients P)
     (handled : AreHandled
-    (service_of (IsAnswered (over kept content)) (GoesOn (over kept content)) (reads kept content) now_gives)
+    (service_of (IsAnsweredOver (over kept content)) (GoesOn (over kept content)) (reads kept content) now_gives)
     (λ turns. AreKeptAtTurns traffic old new turns s) ((h, true), c) ((i, stays_open why), d))
     (keeps : AnswersNoMore traffic s u) (empty : AreGone u) where
   abbrev xs : List Exchange

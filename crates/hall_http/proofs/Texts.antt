@@ -18,7 +18,7 @@ use Rattle.std.proofs.lemmas.Str.Parse.{IsNumeralModel, numerals_by_value, parse
 use Rattle.std.proofs.lemmas.Fmt.{decimal-digits_value, digits_decimal, digits_value-decimal, decimal_nonempty}
 use Rattle.std.proofs.lemmas.Fmt.{first_decimal, decimal_digit}
 use Rattle.hall_policy.specs.Text.{IsOfKind}
-use Rattle.hall_http.specs.Words.{is_decimal, number_in}
+use Rattle.hall_http.specs.Words.{is_decimal, decimal_in}
 
 ascii_at : (text : List ℕ) → ((k : ℕ) → k < length text → get_or text k 0 < 128) → (i : ℕ) → slice_index text i < 128
 ascii_at text h i =
@@ -66,11 +66,11 @@ pub parsed : {E : Type 0} (text : List ℕ) (r : Result ℕ E) → ParsesUnsigne
 parsed text r h e = parse_digits own 64 text r h (decimal_digits text e)
 
 pub reads : (text : List ℕ) → is_decimal text ≡ true → digits_value 10 text < 2 ^ 64
-    → number_in text ≡ Some (digits_value 10 text)
+    → decimal_in text ≡ Some (digits_value 10 text)
 reads text d s = rw (d, lt-ltb _ _ s) refl
 
 pub reads_none : (text : List ℕ) → is_decimal text ≡ true → ((0 < length text) × (digits_value 10 text < 2 ^ 64) → ⊥)
-    → number_in text ≡ None
+    → decimal_in text ≡ None
 reads_none text d other =
     let large : 2 ^ 64 ≤ digits_value 10 text =
     elim (cases_lt (digits_value 10 text) (2 ^ 64)) [
@@ -80,7 +80,7 @@ reads_none text d other =
     rw (d, le-ltb _ _ large) refl
 
 -- the number read writes the text
-pub number_writes : (text : List ℕ) (n : ℕ) → number_in text ≡ Some n → (text ≡ decimal n) × (n < 2 ^ 64)
+pub number_writes : (text : List ℕ) (n : ℕ) → decimal_in text ≡ Some n → (text ≡ decimal n) × (n < 2 ^ 64)
 number_writes text n e =
     elim (cases_Bool (is_decimal text && nat_lt (digits_value 10 text) (2 ^ 64))) [
       | inl t ↦
@@ -109,7 +109,7 @@ is_decimal_of n small =
     (digits_decimal own n small)) begins
 
 -- the decimal of a number reads as it
-pub number_reads : (n : ℕ) → n < 2 ^ 64 → number_in (decimal n) ≡ Some n
+pub number_reads : (n : ℕ) → n < 2 ^ 64 → decimal_in (decimal n) ≡ Some n
 number_reads n small =
     let value : digits_value 10 (decimal n) ≡ n = digits_value-decimal own n small in
     reads (decimal n) (is_decimal_of n small) (rw value small) ∙ ap (λ k. Some k) value

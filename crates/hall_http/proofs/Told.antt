@@ -26,8 +26,10 @@ use Rattle.hall_http.specs.Request.{RequestOf, AsksRequest}
 use Rattle.hall_http.specs.Reply.{BytesOf, wire_bytes, fault_status, fault_data}
 use Rattle.hall_http.specs.Answered.{IsRefused}
 use Rattle.hall_http.specs.Connection.{Exchange}
-use Rattle.hall_http.specs.Serving.{AnswersAt, IsNotMade, IsMade, AreMade}
-use Rattle.hall_http.specs.Told.{HasOneSpelling, RefusalsTellNothing, AsksFor, AsksForOther, AreTold, AllServed, ComesAgain, is_others, AreWithout, BytesHideOthers, ComesExchanged, AreExchanged, AreBytes, BytesHideAnswers}
+use Rattle.hall_http.specs.Serving.{AnswersAt, IsNoRequestMade, IsRequestMade, AreRequestsMade}
+use Rattle.hall_http.specs.Told.{HasOneSpelling, RefusalsTellNothing, AsksFor, AsksForOther, AreRepliesTold, AllServed}
+use Rattle.hall_http.specs.Told.{ComesAgain, is_others, AreWithout, BytesHideOthers, ComesExchanged, AreExchanged}
+use Rattle.hall_http.specs.Told.{AreBytes, BytesHideAnswers}
 use Rattle.hall_http.proofs.Asked.{one_asked}
 
 one_text : (given : Reply) (x y : List ℕ) → BytesOf given x → BytesOf given y → x ≡ y
@@ -45,15 +47,15 @@ no_request : (x : Exchange) (found : FormFault) (a : Request) → RequestOf x.re
 no_request x found a p q = let none : Err found ≡ Ok a = one_asked x.request (Err found) (Ok a) p q in absurd (cc)
 
 -- bytes that aren't made into a request, and are served, are none
-pub not_made_asks : (x : Exchange) → IsNotMade x → ¬ (BytesOf reply.Unavailable x.reply) → (test : Request → Bool) → AsksFor test x → ⊥
+pub not_made_asks : (x : Exchange) → IsNoRequestMade x → ¬ (BytesOf reply.Unavailable x.reply) → (test : Request → Bool) → AsksFor test x → ⊥
 not_made_asks x (inl (moment, at, refused)) serves test (request, reads, passes) = no_request x refused.found request refused.reads reads
 not_made_asks x (inr lacking) serves test asks = serves lacking
 
 -- bytes that are a request ask for it
-made_passes : (x : Exchange) (q : ℕ × Request) (given : Reply) → IsMade x q given → (test : Request → Bool) → AsksFor test x → test q.1 ≡ true
+made_passes : (x : Exchange) (q : ℕ × Request) (given : Reply) → IsRequestMade x q given → (test : Request → Bool) → AsksFor test x → test q.1 ≡ true
 made_passes x q given made test (request, reads, passes) = ap test (same_request x q.1 request made.reads reads) ∙ passes
 
-made_fails : (x : Exchange) (q : ℕ × Request) (given : Reply) → IsMade x q given → (test : Request → Bool) → ¬ (AsksFor test x) → test q.1 ≡ false
+made_fails : (x : Exchange) (q : ℕ × Request) (given : Reply) → IsRequestMade x q given → (test : Request → Bool) → ¬ (AsksFor test x) → test q.1 ≡ false
 made_fails x q given made test fails = elim (test q.1) as (λ b. test q.1 ≡ b → b ≡ false) [
   | true ↦ λ passes. absurd (fails (q.1, made.reads, passes))
   | false ↦ λ h. refl
@@ -86,7 +88,7 @@ refusals_tell_nothing world after other left moment later bytes text word never 
     one_refusal bytes text word (refused_at world after moment bytes text never one served) (refused_at other left later bytes word never second kept)
 
 -- ---- the replies to some of the requests, as bytes
-told_bytes : (test : Request → Bool) (xs : List Exchange) (requests : List (ℕ × Request)) (replies : List Reply) (texts : List (List ℕ)) → AllServed xs → AreMade xs requests replies → AreTold test xs texts →
+told_bytes : (test : Request → Bool) (xs : List Exchange) (requests : List (ℕ × Request)) (replies : List Reply) (texts : List (List ℕ)) → AllServed xs → AreRequestsMade xs requests replies → AreRepliesTold test xs texts →
     AreBytes test xs (replies_where (λ asked. test asked.1) requests replies) texts
 told_bytes test [] requests replies texts served made told =
     (ap (λ (rs : List (ℕ × Request)). replies_where (λ asked. test asked.1) rs replies) made.0, told)
@@ -128,7 +130,7 @@ not_refused test x text (request, reads, passes) refused = no_request x refused.
 
 -- ---- the requests that are made
 -- served bytes have replies that serve
-served_replies : (xs : List Exchange) (requests : List (ℕ × Request)) (replies : List Reply) → AllServed xs → AreMade xs requests replies → Serve replies
+served_replies : (xs : List Exchange) (requests : List (ℕ × Request)) (replies : List Reply) → AllServed xs → AreRequestsMade xs requests replies → Serve replies
 served_replies [] requests replies served made = subst Serve (sym made.1) (All-nil (λ given. given ≢ reply.Unavailable))
 served_replies (x ∷ xs) requests replies served (inl (missed, made)) = served_replies xs requests replies (served_later x xs served) made
 served_replies (x ∷ xs) requests replies served (inr (q, given, later, rest, are, come, is, made)) =
@@ -142,11 +144,11 @@ module _ (last : World) (e : Person) where
   others asked = is_others last e asked.1
 
   abbrev Left : List Exchange → Type 0
-  Left xs = (ys : List Exchange) (requests again : List (ℕ × Request)) (replies also : List Reply) → AllServed xs → AllServed ys → AreMade xs requests replies → AreMade ys again also →
+  Left xs = (ys : List Exchange) (requests again : List (ℕ × Request)) (replies also : List Reply) → AllServed xs → AllServed ys → AreRequestsMade xs requests replies → AreRequestsMade ys again also →
       AreWithout last e xs ys → again ≡ without last e requests
 
   comes_on : (x : Exchange) (xs : List Exchange) → Left xs → (y : Exchange) (zs : List Exchange) (requests again : List (ℕ × Request)) (replies also : List Reply) → AllServed (x ∷ xs) → AllServed (y ∷ zs) →
-      AreMade (x ∷ xs) requests replies → AreMade (y ∷ zs) again also → ¬ (AsksFor (is_others last e) x) → ComesAgain x y → AreWithout last e xs zs → again ≡ without last e requests
+      AreRequestsMade (x ∷ xs) requests replies → AreRequestsMade (y ∷ zs) again also → ¬ (AsksFor (is_others last e) x) → ComesAgain x y → AreWithout last e xs zs → again ≡ without last e requests
   comes_on x xs claim y zs requests again replies also served kept (inl (missed, made)) (inl (lost, remade)) fails same left =
       claim zs requests again replies also (served_later x xs served) (served_later y zs kept) made remade left
   comes_on x xs claim y zs requests again replies also served kept (inl (missed, made)) (inr (p, answered, further, tail, are_too, come_too, is_too, remade)) fails same left =
@@ -164,7 +166,7 @@ module _ (last : World) (e : Person) where
 
   left_requests : (xs : List Exchange) → Left xs
   left_requests [] ys requests again replies also served kept made remade none =
-      let both = subst (λ (zs : List Exchange). AreMade zs again also) none remade in
+      let both = subst (λ (zs : List Exchange). AreRequestsMade zs again also) none remade in
       both.0 ∙ ap (without last e) (sym made.0)
   left_requests (x ∷ xs) ys requests again replies also served kept (inl (missed, made)) remade (inl (asks, left)) =
       absurd (not_made_asks x missed (served_first x xs served) (is_others last e) asks)
@@ -174,7 +176,7 @@ module _ (last : World) (e : Person) where
       tail ∙ sym (ap (λ b. cond (not b) (q ∷ without last e later) (without last e later)) passes) ∙ ap (without last e) (sym are)
   left_requests (x ∷ xs) ys requests again replies also served kept made remade (inr (fails, y, zs, come_again, same, left)) =
       comes_on x xs (left_requests xs) y zs requests again replies also served (subst AllServed come_again kept) made
-      (subst (λ (ws : List Exchange). AreMade ws again also) come_again remade) fails same left
+      (subst (λ (ws : List Exchange). AreRequestsMade ws again also) come_again remade) fails same left
 
   -- the same replies to e's key, and the same refusals, are the same bytes
   module _ (settled : IsWorld last) (there : get last.people e.name ≡ Some e) (alone : IsTrue (is_entrant_alone e)) where
@@ -250,11 +252,11 @@ bytes_hide_others world last end e xs ys texts others whole left sane there alon
 -- what comes exchanged is the exchanged request, or is none
 module _ (r a b : List ℕ) where
   abbrev Turned : List Exchange → Type 0
-  Turned xs = (ys : List Exchange) (requests again : List (ℕ × Request)) (replies also : List Reply) → AllServed xs → AllServed ys → AreMade xs requests replies → AreMade ys again also →
+  Turned xs = (ys : List Exchange) (requests again : List (ℕ × Request)) (replies also : List Reply) → AllServed xs → AllServed ys → AreRequestsMade xs requests replies → AreRequestsMade ys again also →
       AreExchanged r a b xs ys → again ≡ exchanged_list r a b requests
 
   turns_on : (x : Exchange) (xs : List Exchange) → Turned xs → (y : Exchange) (zs : List Exchange) (requests again : List (ℕ × Request)) (replies also : List Reply) → AllServed (x ∷ xs) → AllServed (y ∷ zs) →
-      AreMade (x ∷ xs) requests replies → AreMade (y ∷ zs) again also → ComesExchanged r a b x y → AreExchanged r a b xs zs → again ≡ exchanged_list r a b requests
+      AreRequestsMade (x ∷ xs) requests replies → AreRequestsMade (y ∷ zs) again also → ComesExchanged r a b x y → AreExchanged r a b xs zs → again ≡ exchanged_list r a b requests
   turns_on x xs claim y zs requests again replies also served kept (inl (missed, made)) (inl (lost, remade)) turn turned =
       claim zs requests again replies also (served_later x xs served) (served_later y zs kept) made remade turned
   turns_on x xs claim y zs requests again replies also served kept (inl (missed, made)) (inr (p, answered, further, tail, are_too, come_too, is_too, remade)) turn turned =
@@ -270,11 +272,11 @@ module _ (r a b : List ℕ) where
 
   turned_requests : (xs : List Exchange) → Turned xs
   turned_requests [] ys requests again replies also served kept made remade none =
-      let both = subst (λ (zs : List Exchange). AreMade zs again also) none remade in
+      let both = subst (λ (zs : List Exchange). AreRequestsMade zs again also) none remade in
       both.0 ∙ ap (exchanged_list r a b) (sym made.0)
   turned_requests (x ∷ xs) ys requests again replies also served kept made remade (y, zs, come_again, turn, turned) =
       turns_on x xs (turned_requests xs) y zs requests again replies also served (subst AllServed come_again kept) made
-      (subst (λ (ws : List Exchange). AreMade ws again also) come_again remade) turn turned
+      (subst (λ (ws : List Exchange). AreRequestsMade ws again also) come_again remade) turn turned
 
 -- the law
 pub bytes_hide_answers : BytesHideAnswers

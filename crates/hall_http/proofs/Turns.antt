@@ -17,9 +17,9 @@ use Rattle.hall_http.specs.Reading.{at_first, after_read, after_answer}
 use Rattle.hall_http.specs.Records.{Record, IsRecord, record_bytes, header_of, NeverHasRecord, IsCut}
 use Rattle.hall_http.specs.Records.{IsUnfinishedRecord}
 use Rattle.hall_http.specs.Records.{bytes_between}
-use Rattle.hall_http.specs.Serving.{AreAnswered, IsAnswered}
-use Rattle.hall_http.specs.Replay.{AnsweredRecord, exchange_of, exchanges_of, records_of, replies_to}
-use Rattle.hall_http.specs.Replay.{IsReplayed, Ended, HaveReadRecords}
+use Rattle.hall_http.specs.Serving.{AreAnswered, IsAnsweredOver}
+use Rattle.hall_http.specs.Replay.{AnsweredRecord, exchange_of, exchanges_of_records, records_of, reply_bytes_of}
+use Rattle.hall_http.specs.Replay.{IsReplayed, ReplayEnded, HaveReadRecords}
 use Rattle.hall_http.proofs.Readings.{one_call_more, session_more}
 use Rattle.hall_http.specs.Inbox.{ReadsMore}
 use Rattle.hall_http.proofs.Histories.{not_nil}
@@ -30,11 +30,11 @@ records_more xs x =
     flat_map-append (λ x. record_bytes x.asked) xs (x ∷ [])
     ∙ ap (λ s. records_of xs ++ s) (append-nil (record_bytes x.asked))
 
-replies_more : (xs : List AnsweredRecord) (x : AnsweredRecord) → replies_to (xs ++ x ∷ []) ≡ replies_to xs ++ x.reply
-replies_more xs x = flat_map-append (λ x. x.reply) xs (x ∷ []) ∙ ap (λ s. replies_to xs ++ s) (append-nil x.reply)
+replies_more : (xs : List AnsweredRecord) (x : AnsweredRecord) → reply_bytes_of (xs ++ x ∷ []) ≡ reply_bytes_of xs ++ x.reply
+replies_more xs x = flat_map-append (λ x. x.reply) xs (x ∷ []) ∙ ap (λ s. reply_bytes_of xs ++ s) (append-nil x.reply)
 
 exchanges_more : (xs : List AnsweredRecord) (x : AnsweredRecord)
-    → exchanges_of (xs ++ x ∷ []) ≡ exchanges_of xs ++ exchange_of x ∷ []
+    → exchanges_of_records (xs ++ x ∷ []) ≡ exchanges_of_records xs ++ exchange_of x ∷ []
 exchanges_more xs x = map-append exchange_of xs (x ∷ [])
 
 -- a whole record is at least a byte
@@ -55,12 +55,12 @@ pub record Kept {H : Type 0} (content : H → Content) (stream after wrote writt
     (inbox : List ℕ) (reads asked asks : ℕ) : Type 0 where
   pub done : List AnsweredRecord
   pub settled : IsSettled (content old)
-  pub session : AreAnswered content old (exchanges_of done) new
+  pub session : AreAnswered content old (exchanges_of_records done) new
   pub whole : All (λ x. IsRecord x.asked) done
   pub consumed : Consumes stream after (records_of done ++ inbox)
   pub reading : HaveReadRecords done reads inbox
   pub made : MadeCalls reads asked asks
-  pub replied : Appends wrote written (replies_to done)
+  pub replied : Appends wrote written (reply_bytes_of done)
   pub bounded : length inbox ≤ 81920
 
 module _ {H : Type 0} (content : H → Content) where
@@ -103,7 +103,7 @@ module _ {H : Type 0} (content : H → Content) where
     shorter size = omega (arith, kept.bounded, length-drop size inbox)
 
     module _ (r : Record) (start end : ℕ) (text : List ℕ) (next : H) (cut : IsCut inbox r start end)
-        (says : IsAnswered content new (Some r.moment) (bytes_between inbox start end) text next) where
+        (says : IsAnsweredOver content new (Some r.moment) (bytes_between inbox start end) text next) where
       abbrev x : AnsweredRecord
       x = record { asked = r; reply = text }
 
@@ -116,11 +116,11 @@ module _ {H : Type 0} (content : H → Content) where
       abbrev all : List AnsweredRecord
       all = kept.done ++ x ∷ []
 
-      longer : AreAnswered content old (exchanges_of all) next
+      longer : AreAnswered content old (exchanges_of_records all) next
       longer =
           rw (exchanges_more kept.done x)
-          (session_more (IsAnswered content) old (exchanges_of kept.done) new (exchange_of x) next kept.session
-          (subst (λ s. IsAnswered content new (Some r.moment) s text next) (sym cut.request) says))
+          (session_more (IsAnsweredOver content) old (exchanges_of_records kept.done) new (exchange_of x) next kept.session
+          (subst (λ s. IsAnsweredOver content new (Some r.moment) s text next) (sym cut.request) says))
 
       whole_all : All (λ x. IsRecord x.asked) all
       whole_all = All-push (λ x. IsRecord x.asked) kept.done x kept.whole cut.is
@@ -144,7 +144,7 @@ module _ {H : Type 0} (content : H → Content) where
         reading = after_it;
         made = kept.made;
         replied = rw (replies_more kept.done x)
-            (Appends-trans wrote written then (replies_to kept.done) text kept.replied sent);
+            (Appends-trans wrote written then (reply_bytes_of kept.done) text kept.replied sent);
         bounded = shorter end;
       }
 
@@ -161,9 +161,9 @@ module _ {H : Type 0} (content : H → Content) where
         settled = kept.settled;
         answered = longer;
         whole = whole_all;
-        leads = session_leads content old (exchanges_of all) next longer;
-        run = session_runs content old (exchanges_of all) next longer;
-        stops = session_stops content old (exchanges_of all) next kept.settled longer;
+        leads = session_leads content old (exchanges_of_records all) next longer;
+        run = session_runs content old (exchanges_of_records all) next longer;
+        stops = session_stops content old (exchanges_of_records all) next kept.settled longer;
         seldom = seldom;
         made = kept.made;
         reading = after_it;
@@ -183,7 +183,7 @@ module _ {H : Type 0} (content : H → Content) where
       -- how it ends with no further record answered
       ends : (then : Option (List ℕ)) (total later : ℕ) (end : Result U ReplayFault) → Consumes after then []
           → MadeCalls total asked later → total ≤ 1000000000
-          → Ended end then wrote written kept.done inbox reads total failed fails broke breaks
+          → ReplayEnded end then wrote written kept.done inbox reads total failed fails broke breaks
           → IsReplayed {U = U} content stream then wrote written old new failed fails broke breaks asked later end
       ends then total later end none made seldom ended = record {
         records = kept.done;
@@ -193,9 +193,9 @@ module _ {H : Type 0} (content : H → Content) where
         settled = kept.settled;
         answered = kept.session;
         whole = kept.whole;
-        leads = session_leads content old (exchanges_of kept.done) new kept.session;
-        run = session_runs content old (exchanges_of kept.done) new kept.session;
-        stops = session_stops content old (exchanges_of kept.done) new kept.settled kept.session;
+        leads = session_leads content old (exchanges_of_records kept.done) new kept.session;
+        run = session_runs content old (exchanges_of_records kept.done) new kept.session;
+        stops = session_stops content old (exchanges_of_records kept.done) new kept.settled kept.session;
         seldom = seldom;
         made = made;
         reading = kept.reading;

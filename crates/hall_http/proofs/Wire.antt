@@ -13,8 +13,8 @@ use Rattle.hall_desk.specs.declared.reply.Reply.{Reply}
 use Rattle.hall_desk.proofs.StepsSane.{run_sane}
 use Rattle.hall_http.specs.Connection.{Exchange}
 use Rattle.hall_http.specs.Request.{RequestOf, AsksRequest}
-use Rattle.hall_http.specs.Serving.{AreMade}
-use Rattle.hall_http.specs.Told.{AsksFor, AsksForOther, AreTold, AllServed, AreWithout}
+use Rattle.hall_http.specs.Serving.{AreRequestsMade}
+use Rattle.hall_http.specs.Told.{AsksFor, AsksForOther, AreRepliesTold, AllServed, AreWithout}
 use Rattle.hall_http.specs.Told.{ComesExchanged, AreExchanged}
 use Rattle.hall_http.specs.Turns.{Turn, exchanges_of}
 use Rattle.hall_http.specs.Wire.{shows, replies_on, WireHidesOthers, WireHidesAnswers, ShowNoOther, AreWithoutOn, AreExchangedOn, chosen}
@@ -52,7 +52,7 @@ module _ (test : Request → Bool) where
   record ToldOn (mine : ℕ → Bool) (turns : List Turn) : Type 0 where
     texts : List (List ℕ)
     places : List Bool
-    told : AreTold test (exchanges_of turns) texts
+    told : AreRepliesTold test (exchanges_of turns) texts
     placed : ArePlaces mine turns places
     here : replies_on mine turns ≡ chosen places texts
 
@@ -100,7 +100,7 @@ module _ (test : Request → Bool) where
     ] refl
 
   told_on : (mine : ℕ → Bool) (turns : List Turn) (requests : List (ℕ × Request)) (replies : List Reply)
-      → AllServed (exchanges_of turns) → AreMade (exchanges_of turns) requests replies → All (NoneOther mine) turns
+      → AllServed (exchanges_of turns) → AreRequestsMade (exchanges_of turns) requests replies → All (NoneOther mine) turns
       → ToldOn mine turns
   told_on mine [] requests replies served made none = record {
     texts = [];

@@ -35,7 +35,7 @@ IsStepReply world moment request text after =
     (reply : Reply) × Step world moment request reply after × BytesOf reply text
 
 -- the bytes are a request of its type, and the text is that of the reply of a step of the hall
-pub record IsStep (world : World) (moment : ℕ) (bytes text : List ℕ) (after : World) : Type 0 where
+pub record IsStepOfBytes (world : World) (moment : ℕ) (bytes text : List ℕ) (after : World) : Type 0 where
   pub request : Request
   pub reply : Reply
   pub reads : RequestOf bytes (Ok request)
@@ -57,7 +57,7 @@ AnswersFault found text = FaultBytesOf found text ⊎ BytesOf NotServed text
 -- and the world stays
 abbrev pub Answers : World → ℕ → List ℕ → List ℕ → World → Type 0
 Answers world moment bytes text after =
-    IsStep world moment bytes text after ⊎ ((IsRefused bytes text ⊎ BytesOf NotServed text) × (after ≡ world))
+    IsStepOfBytes world moment bytes text after ⊎ ((IsRefused bytes text ⊎ BytesOf NotServed text) × (after ≡ world))
 
 -- the bytes are answered over a store
 abbrev pub AnswersOver : Content → ℕ → List ℕ → List ℕ → Content → Type 0

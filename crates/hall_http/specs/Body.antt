@@ -28,59 +28,60 @@ object_in names body =
     >>= (λ ms. unless fault.Syntax (only_members names ms) >>= (λ _. Ok ms))
 
 -- the text that a member is
-abbrev pub text_at : Field → List ℕ → Members → Result (List ℕ) FormFault
-text_at f name ms = or_fault (fault.Missing f) (option_and_then as_str (get_member name ms))
+abbrev pub text_of_member : Field → List ℕ → Members → Result (List ℕ) FormFault
+text_of_member f name ms = or_fault (fault.Missing f) (option_and_then as_str (get_member name ms))
 
 -- the integer that a member is: a number of 64 bits without fraction or exponent
-abbrev pub integer_at : Field → List ℕ → Members → Result ℤ FormFault
-integer_at f name ms =
+abbrev pub integer_of_member : Field → List ℕ → Members → Result ℤ FormFault
+integer_of_member f name ms =
     or_fault (fault.Missing f) (option_and_then as_integer (option_and_then as_number (get_member name ms)))
 
 -- the integer where it is in the range, else the fault
-abbrev pub in_range : FormFault → ℕ → ℕ → ℤ → Result ℕ FormFault
-in_range f least most (pos n) = unless f (nat_le least n && nat_le n most) >>= (λ _. Ok n)
-in_range f least most (negsuc n) = Err f
+abbrev pub in_range_or_fault : FormFault → ℕ → ℕ → ℤ → Result ℕ FormFault
+in_range_or_fault f least most (pos n) = unless f (nat_le least n && nat_le n most) >>= (λ _. Ok n)
+in_range_or_fault f least most (negsuc n) = Err f
 
 -- whether a member is true or false
-abbrev pub flag_at : Field → List ℕ → Members → Result Bool FormFault
-flag_at f name ms = or_fault (fault.Missing f) (option_and_then as_bool (get_member name ms))
+abbrev pub flag_of_member : Field → List ℕ → Members → Result Bool FormFault
+flag_of_member f name ms = or_fault (fault.Missing f) (option_and_then as_bool (get_member name ms))
 
 -- the answer text among the members: 0 to 4,000 printable bytes
 abbrev pub answer_among : Members → Result (List ℕ) FormFault
-answer_among ms = text_at field.Answer (codes "answer") ms >>= as_answer (of_kind (fault.Range field.Answer))
+answer_among ms = text_of_member field.Answer (codes "answer") ms >>= as_answer (of_kind (fault.Range field.Answer))
 
 -- the answer text of a body
-abbrev pub answer_in : List ℕ → Result (List ℕ) FormFault
-answer_in body = object_in (codes "answer" ∷ []) body >>= answer_among
+abbrev pub answer_in_body : List ℕ → Result (List ℕ) FormFault
+answer_in_body body = object_in (codes "answer" ∷ []) body >>= answer_among
 
 -- the puzzle text among the members: 1 to 8,000 printable bytes
 abbrev pub text_among : Members → Result (List ℕ) FormFault
-text_among ms = text_at field.Text (codes "text") ms >>= as_puzzle_text (of_kind (fault.Range field.Text))
+text_among ms = text_of_member field.Text (codes "text") ms >>= as_puzzle_text (of_kind (fault.Range field.Text))
 
 -- the puzzle text of a body
-abbrev pub text_in : List ℕ → Result (List ℕ) FormFault
-text_in body = object_in (codes "text" ∷ []) body >>= text_among
+abbrev pub text_in_body : List ℕ → Result (List ℕ) FormFault
+text_in_body body = object_in (codes "text" ∷ []) body >>= text_among
 
 -- the budget among the members: 0 to 1,000,000
 abbrev pub budget_among : Members → Result ℕ FormFault
-budget_among ms = integer_at field.Budget (codes "budget") ms >>= in_range (fault.Range field.Budget) 0 1000000
+budget_among ms =
+    integer_of_member field.Budget (codes "budget") ms >>= in_range_or_fault (fault.Range field.Budget) 0 1000000
 
 -- the budget of a body
-abbrev pub budget_in : List ℕ → Result ℕ FormFault
-budget_in body = object_in (codes "budget" ∷ []) body >>= budget_among
+abbrev pub budget_in_body : List ℕ → Result ℕ FormFault
+budget_in_body body = object_in (codes "budget" ∷ []) body >>= budget_among
 
 -- the number and the text of a protest among the members: 1 to 99, and 1 to 200 printable bytes
 abbrev pub protest_among : Members → Result (ℕ × List ℕ) FormFault
 protest_among ms =
-    integer_at field.Number (codes "number") ms
-    >>= in_range (fault.Range field.Number) 1 99
-    >>= (λ number. text_at field.Text (codes "text") ms
+    integer_of_member field.Number (codes "number") ms
+    >>= in_range_or_fault (fault.Range field.Number) 1 99
+    >>= (λ number. text_of_member field.Text (codes "text") ms
     >>= as_protest_text (of_kind (fault.Range field.Text))
     >>= (λ text. Ok (number, text)))
 
 -- the number and the text of a protest of a body
-abbrev pub protest_in : List ℕ → Result (ℕ × List ℕ) FormFault
-protest_in body = object_in (codes "number" ∷ codes "text" ∷ []) body >>= protest_among
+abbrev pub protest_in_body : List ℕ → Result (ℕ × List ℕ) FormFault
+protest_in_body body = object_in (codes "number" ∷ codes "text" ∷ []) body >>= protest_among
 
 -- the points of a ruling: -1,000 to 1,000
 abbrev pub points_in : ℤ → Result ℤ FormFault
@@ -97,10 +98,10 @@ ruling_from (negsuc n) false = Err (fault.Range field.Points)
 -- the ruling among the members: its points, and whether the protest is upheld
 abbrev pub ruling_among : Members → Result Ruling FormFault
 ruling_among ms =
-    integer_at field.Points (codes "points") ms
+    integer_of_member field.Points (codes "points") ms
     >>= points_in
-    >>= (λ points. flag_at field.Upheld (codes "upheld") ms >>= ruling_from points)
+    >>= (λ points. flag_of_member field.Upheld (codes "upheld") ms >>= ruling_from points)
 
 -- the ruling of a body
-abbrev pub ruling_in : List ℕ → Result Ruling FormFault
-ruling_in body = object_in (codes "points" ∷ codes "upheld" ∷ []) body >>= ruling_among
+abbrev pub ruling_in_body : List ℕ → Result Ruling FormFault
+ruling_in_body body = object_in (codes "points" ∷ codes "upheld" ∷ []) body >>= ruling_among

@@ -9,12 +9,12 @@ abbrev pub read_by : {T : Type 0} → SystemClock T → T
 read_by clock = clock.time
 
 -- the whole seconds of so many nanoseconds since 1970, where they are a moment
-abbrev pub moment_at : ℕ → Option ℕ
-moment_at nanos =
+abbrev pub moment_of_nanos : ℕ → Option ℕ
+moment_of_nanos nanos =
     let seconds = nanos / 1_000_000_000 in if nat_le seconds 4102444800 then Some seconds else None
 
 -- the moment is that of a reading that the clock gave; or the clock refused, and there is none
 abbrev pub IsOfReading : (SystemTime → Type 0) → Type 0 → Option ℕ → Type 0
 IsOfReading reads refuses moment =
-    ((reading : SystemTime) × reads reading × (moment ≡ moment_at (system_time_nanos reading)))
+    ((reading : SystemTime) × reads reading × (moment ≡ moment_of_nanos (system_time_nanos reading)))
     ⊎ (refuses × (moment ≡ None))

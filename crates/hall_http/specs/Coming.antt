@@ -33,10 +33,10 @@ IsFreshPeer traffic number (next.Newcomer place peer) =
 IsFreshPeer traffic number _ = Unit {0}
 
 -- a newcomer comes, one has its turn, or one goes; and more may follow
-abbrev pub IsStep : {P : Type 0} → Next P → Type 0
-IsStep next.End = ⊥
-IsStep next.Refused = ⊥
-IsStep _ = Unit {0}
+abbrev pub IsNextStep : {P : Type 0} → Next P → Type 0
+IsNextStep next.End = ⊥
+IsNextStep next.Refused = ⊥
+IsNextStep _ = Unit {0}
 
 -- 1 for a newcomer, and 0 for anything else
 abbrev pub newcomer : {P : Type 0} → Next P → ℕ
@@ -67,7 +67,7 @@ pub record AreDone {P : Type 0} (traffic : P → Traffic) (end : ServeAllEnd) (b
   pub steps : Nexts P
   pub last : Nexts P
   pub said : after.nexts ≡ before.nexts ++ steps ++ last
-  pub each : All IsStep steps
+  pub each : All IsNextStep steps
   pub came : AreCounted traffic before.count steps after.count
   pub ended : EndsBy end steps last
   pub most : after.most ≡ before.most

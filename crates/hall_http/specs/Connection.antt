@@ -1,15 +1,15 @@
 -- Requests that are answered one after another, each with its reply.
 use Rattle.std.specs.Prelude.{◌≡◌, ℕ, List, [], ◌∷◌, true, false, flat_map, All, Option}
 use Rattle.httparse.specs.Grammar.{RequestHead}
-use Rattle.hall_http.specs.Head.{IsRequest, IsWhole, closes}
+use Rattle.hall_http.specs.Head.{IsHeadAndBody, IsWholeRequest, closes}
 
 -- the bytes are one whole request, after which the connection closes
 abbrev pub IsClosing : List ℕ → Type 0
-IsClosing bytes = (head : RequestHead) × (body : List ℕ) × IsRequest bytes head body × (closes head ≡ true)
+IsClosing bytes = (head : RequestHead) × (body : List ℕ) × IsHeadAndBody bytes head body × (closes head ≡ true)
 
 -- the bytes are one whole request, after which the connection stays open
-abbrev pub IsOpen : List ℕ → Type 0
-IsOpen bytes = (head : RequestHead) × (body : List ℕ) × IsRequest bytes head body × (closes head ≡ false)
+abbrev pub LeavesOpen : List ℕ → Type 0
+LeavesOpen bytes = (head : RequestHead) × (body : List ℕ) × IsHeadAndBody bytes head body × (closes head ≡ false)
 
 -- a request of the stream, the moment that the clock gave, and the bytes of the reply
 pub record Exchange : Type 0 where
@@ -27,13 +27,13 @@ replies_of xs = flat_map (λ x. x.reply) xs
 
 -- the connection stays open after each of these requests
 abbrev pub AreOpen : List Exchange → Type 0
-AreOpen xs = All (λ x. IsOpen x.request) xs
+AreOpen xs = All (λ x. LeavesOpen x.request) xs
 
 -- a whole request is answered at the moment that the clock gives
 abbrev pub Exchanged : {H C : Type 0} → (H → Option ℕ → List ℕ → List ℕ → H → Type 0) → (C → Option ℕ → C → Type 0)
     → H → C → Exchange → H → C → Type 0
 Exchanged answers now_gives h c x i d =
-    IsWhole x.request × now_gives c x.moment d × answers h x.moment x.request x.reply i
+    IsWholeRequest x.request × now_gives c x.moment d × answers h x.moment x.request x.reply i
 
 -- these requests are answered, one after another, each by what the one before it left
 abbrev pub Session : {H : Type 0} → (H → Option ℕ → List ℕ → List ℕ → H → Type 0) → H → List Exchange → H → Type 0

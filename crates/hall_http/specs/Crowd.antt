@@ -3,7 +3,7 @@ use Rattle.std.specs.Prelude.{◌≡◌, ◌≢◌, ◌<◌, ◌≤◌, ◌+◌,
 use Rattle.std.proofs.Common.{get_or}
 use Rattle.hall_http.specs.Answered.{IsUnavailable}
 use Rattle.hall_http.specs.Peer.{Traffic, IsOver, IsUntouched}
-use Rattle.hall_http.specs.Turns.{Turn, Service, exchanges_of, of, IsTold, IsClient}
+use Rattle.hall_http.specs.Turns.{Turn, Service, exchanges_of, of, IsConnectionTold, IsClient}
 use Rattle.hall_http.specs.Coming.{Nexts, Said, AreDone, since}
 use Rattle.hall_http.specs.declared.server.Next.TheVariants as next
 use Rattle.hall_http.specs.declared.server.Next.{Next}
@@ -71,7 +71,7 @@ MayGo departure.AtEnd t = Unit {0}
 -- it went.
 abbrev pub IsPast : {P : Type 0} → (P → Traffic) → List Turn → Past P → Type 0
 IsPast traffic turns one =
-    IsTold (of (number_past traffic one) turns) (traffic_past traffic one)
+    IsConnectionTold (of (number_past traffic one) turns) (traffic_past traffic one)
     × MayGo one.1.0 (traffic_past traffic one)
 
 -- each of the connections with these numbers is here or has gone, and none twice; and each request that was answered
@@ -253,7 +253,8 @@ AreKeptAtTurns traffic old new turns s =
 
 -- Each request that was answered is of one of the connections, of which no two have the same number. And of each
 -- connection what came spells its requests among these, and what it was sent is a first part of the replies to them.
-pub record AreTold {P : Type 0} (traffic : P → Traffic) (turns : List Turn) (gone : List (Past P)) : Type 0 where
+pub record AreConnectionsTold {P : Type 0} (traffic : P → Traffic) (turns : List Turn) (gone : List (Past P))
+    : Type 0 where
   pub known : All (λ turn. HasGone traffic turn.0 gone) turns
   pub apart : AreApart traffic gone
   pub told : All (IsPast traffic turns) gone
@@ -277,7 +278,7 @@ pub record AreServed {H C P : Type 0} (content : H → Content) (now_gives : C �
   pub run : (content after.0).honest → RunsOver (content before.0) (exchanges_of turns) (content after.0)
   pub stops : LeavesRunOver (content before.0) (exchanges_of turns) (content after.0)
   pub shut : why ≡ end.Shut → EndUnavailable (exchanges_of turns)
-  pub told : AreTold traffic turns gone
+  pub told : AreConnectionsTold traffic turns gone
 
 -- the connections that have gone are those of these numbers
 pub record AreThose {P : Type 0} (traffic : P → Traffic) (few many : ℕ) (gone : List (Past P)) : Type 0 where

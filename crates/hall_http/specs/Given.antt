@@ -5,17 +5,17 @@ use Rattle.hall_http.specs.declared.form.RequestFault.{RequestFault}
 use Rattle.hall_http.specs.declared.form.RequestFault.TheVariants as fault
 
 -- a refusal for the bytes' form is the first fault; out of memory says nothing of the bytes
-abbrev pub Fails : {A : Type 0} → RequestFault → Result A FormFault → Type 0
-Fails fault.Memory read = Unit {0}
-Fails (fault.Form f) read = read ≡ Err f
+abbrev pub FormFails : {A : Type 0} → RequestFault → Result A FormFault → Type 0
+FormFails fault.Memory read = Unit {0}
+FormFails (fault.Form f) read = read ≡ Err f
 
 -- what a reader answers, seen by view, is what the bytes spell, unless memory ran out
-abbrev pub Gives : {X Y : Type 0} → (X → Y) → Result X RequestFault → Result Y FormFault → Type 0
-Gives view (Ok x) read = read ≡ Ok (view x)
-Gives view (Err e) read = Fails e read
+abbrev pub GivesForm : {X Y : Type 0} → (X → Y) → Result X RequestFault → Result Y FormFault → Type 0
+GivesForm view (Ok x) read = read ≡ Ok (view x)
+GivesForm view (Err e) read = FormFails e read
 
 -- what a reader answers is what the bytes mean, or their first fault, unless memory ran out
-abbrev pub Finds : {X : Type 0} → Result X RequestFault → (Result X FormFault → Type 0) → Type 0
-Finds (Ok x) Means = Means (Ok x)
-Finds (Err fault.Memory) Means = Unit {0}
-Finds (Err (fault.Form f)) Means = Means (Err f)
+abbrev pub FindsForm : {X : Type 0} → Result X RequestFault → (Result X FormFault → Type 0) → Type 0
+FindsForm (Ok x) Means = Means (Ok x)
+FindsForm (Err fault.Memory) Means = Unit {0}
+FindsForm (Err (fault.Form f)) Means = Means (Err f)

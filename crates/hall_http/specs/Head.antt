@@ -35,8 +35,8 @@ abbrev pub headers_of : RequestHead → List Header
 headers_of head = map name_and_value head.fields
 
 -- the headers of this name, in any case of its letters
-abbrev pub named : List ℕ → List Header → List Header
-named name headers = filter (λ h. str_eq_ignore_ascii_case h.0 name) headers
+abbrev pub headers_named : List ℕ → List Header → List Header
+headers_named name headers = filter (λ h. str_eq_ignore_ascii_case h.0 name) headers
 
 -- one to five digits
 abbrev pub is_length_text : List ℕ → Bool
@@ -56,45 +56,46 @@ length_in (h ∷ i ∷ more) = None
 abbrev pub is_accepted : ℕ → List Header → Bool
 is_accepted size headers =
     nat_le size head_limit && nat_le (length headers) field_limit
-    && (length (named (codes "transfer-encoding") headers) == 0)
-    && nat_le (length (named (codes "hall-key") headers)) 1
+    && (length (headers_named (codes "transfer-encoding") headers) == 0)
+    && nat_le (length (headers_named (codes "hall-key") headers)) 1
 
 -- the number, where it is within the limit
-abbrev pub within : ℕ → Option ℕ → Option ℕ
-within limit None = None
-within limit (Some n) = if nat_le n limit then Some n else None
+abbrev pub within_size_limit : ℕ → Option ℕ → Option ℕ
+within_size_limit limit None = None
+within_size_limit limit (Some n) = if nat_le n limit then Some n else None
 
 -- how many bytes the body has, where the hall takes the head
 abbrev pub body_size : ℕ → List Header → Option ℕ
 body_size size headers =
-    if is_accepted size headers then within body_limit (length_in (named (codes "content-length") headers)) else None
+    if is_accepted size headers then within_size_limit body_limit
+    (length_in (headers_named (codes "content-length") headers)) else None
 
 -- the bytes are this head and this body, and nothing more
-pub record IsRequest (bytes : List ℕ) (head : RequestHead) (body : List ℕ) : Type 0 where
+pub record IsHeadAndBody (bytes : List ℕ) (head : RequestHead) (body : List ℕ) : Type 0 where
   pub reads : ReadsRequest bytes head body
   pub size : body_size (length (print_request head)) (headers_of head) ≡ Some (length body)
 
 -- the bytes are one whole request
-abbrev pub IsWhole : List ℕ → Type 0
-IsWhole bytes = (head : RequestHead) × (body : List ℕ) × IsRequest bytes head body
+abbrev pub IsWholeRequest : List ℕ → Type 0
+IsWholeRequest bytes = (head : RequestHead) × (body : List ℕ) × IsHeadAndBody bytes head body
 
 -- no front of the bytes is a whole request
-abbrev pub HasNone : List ℕ → Type 0
-HasNone bytes = (front rest : List ℕ) → bytes ≡ front ++ rest → ¬ (IsWhole front)
+abbrev pub HasNoWholeRequest : List ℕ → Type 0
+HasNoWholeRequest bytes = (front rest : List ℕ) → bytes ≡ front ++ rest → ¬ (IsWholeRequest front)
 
 -- however the bytes go on, no front of them is a whole request
 abbrev pub NeverHas : List ℕ → Type 0
-NeverHas bytes = (more : List ℕ) → HasNone (bytes ++ more)
+NeverHas bytes = (more : List ℕ) → HasNoWholeRequest (bytes ++ more)
 
 -- some bytes can follow that make them one whole request
 abbrev pub MayBecomeWhole : List ℕ → Type 0
-MayBecomeWhole bytes = (more : List ℕ) × IsWhole (bytes ++ more)
+MayBecomeWhole bytes = (more : List ℕ) × IsWholeRequest (bytes ++ more)
 
 -- No front of the bytes is a whole request, and they are fewer than the longest one has: they lack a part of a body
 -- alone; or they have no head of the grammar yet, and some bytes can follow that give them one, or its target is still
 -- being read.
 pub record IsUnfinished (bytes : List ℕ) : Type 0 where
-  pub none : HasNone bytes
+  pub none : HasNoWholeRequest bytes
   pub short : length bytes < head_limit + body_limit
   pub possible : MayBecomeWhole bytes ⊎ ((length bytes < head_limit) × HasNoRequest bytes × MayBecomeRequest bytes)
 
@@ -105,7 +106,7 @@ first_value (h ∷ more) = Some h.1
 
 -- what the caller shows as the key
 abbrev pub shown_key : RequestHead → Option (List ℕ)
-shown_key head = first_value (named (codes "hall-key") (headers_of head))
+shown_key head = first_value (headers_named (codes "hall-key") (headers_of head))
 
 -- the header is Connection: close, in any case of its letters
 abbrev pub says_close : Header → Bool
@@ -119,7 +120,7 @@ closes head = head.minor == 0 || list_any says_close (headers_of head)
 -- closes after it
 abbrev pub IsLentBy : List ℕ → RawRequest → Type 0
 IsLentBy bytes raw =
-    (head : RequestHead) × IsRequest bytes head raw.body.now × (raw.method.now ≡ head.method)
+    (head : RequestHead) × IsHeadAndBody bytes head raw.body.now × (raw.method.now ≡ head.method)
     × (raw.path.now ≡ head.target) × (option_map (λ key. key.now) raw.key ≡ shown_key head)
     × (raw.closes ≡ closes head)
 

@@ -5,7 +5,7 @@ use Rattle.httparse.specs.Grammar.{RequestHead}
 use Rattle.hall_policy.specs.World.{World}
 use Rattle.hall_policy.specs.declared.request.Request.{Request}
 use Rattle.hall_http.specs.declared.form.FormFault.{FormFault}
-use Rattle.hall_http.specs.Head.{IsRequest, IsWhole, HasNone}
+use Rattle.hall_http.specs.Head.{IsHeadAndBody, IsWholeRequest, HasNoWholeRequest}
 use Rattle.hall_http.specs.Request.{RequestOf}
 use Rattle.hall_http.specs.Records.{Record, Records, HasNoRecord}
 use Rattle.hall_http.specs.Connection.{Exchange}
@@ -15,13 +15,13 @@ use Rattle.hall_http.specs.Serving.{IsRunOver, LeavesRunOver}
 abbrev pub AreOneRequest : Type 0
 AreOneRequest =
     (bytes : List ℕ) (head other : RequestHead) (body more : List ℕ)
-    → IsRequest bytes head body → IsRequest bytes other more → (head ≡ other) × (body ≡ more)
+    → IsHeadAndBody bytes head body → IsHeadAndBody bytes other more → (head ≡ other) × (body ≡ more)
 
 -- a stream begins with at most one whole request
 abbrev pub BeginsWithOneRequest : Type 0
 BeginsWithOneRequest =
     (first other rest left : List ℕ)
-    → IsWhole first → IsWhole other → first ++ rest ≡ other ++ left → (first ≡ other) × (rest ≡ left)
+    → IsWholeRequest first → IsWholeRequest other → first ++ rest ≡ other ++ left → (first ≡ other) × (rest ≡ left)
 
 -- bytes ask for at most one thing, or have at most one first fault of their form
 abbrev pub AskForOneThing : Type 0
@@ -32,8 +32,8 @@ AskForOneThing =
 -- the stream is these whole requests and then this rest, which begins with no further one
 pub record Requests (stream : List ℕ) (requests : List (List ℕ)) (rest : List ℕ) : Type 0 where
   pub whole : stream ≡ flat_map (λ request. request) requests ++ rest
-  pub each : All IsWhole requests
-  pub ended : HasNone rest
+  pub each : All IsWholeRequest requests
+  pub ended : HasNoWholeRequest rest
 
 -- a stream is at most one list of requests
 abbrev pub AreOneListOfRequests : Type 0

@@ -15,7 +15,7 @@ pub data Reading {X : Type 0} (bytes_of : X → List ℕ) (IsUnfinished : List �
       → Reading bytes_of IsUnfinished (xs ++ x ∷ []) n waiting
 
 -- the last of the items was answered after the last of so many reads, and these bytes stood behind it
-pub record IsLast {X : Type 0} (bytes_of : X → List ℕ) (IsUnfinished : List ℕ → Type 0) (before : List X) (last : X)
+pub record IsLastRead {X : Type 0} (bytes_of : X → List ℕ) (IsUnfinished : List ℕ → Type 0) (before : List X) (last : X)
     (xs : List X) (n : ℕ) (waiting : List ℕ) : Type 0 where
   pub all : xs ≡ before ++ last ∷ []
   pub reading : Reading bytes_of IsUnfinished before n (bytes_of last ++ waiting)

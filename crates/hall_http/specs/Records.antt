@@ -4,7 +4,7 @@ use Rattle.std.specs.Prelude.{take, drop}
 use Rattle.std.specs.Prelude.{flat_map, All, Option, Some, None, option_and_then, codes, decimal}
 use Rattle.hall_http.specs.declared.record.RecordCut.{RecordCut}
 use Rattle.hall_http.specs.declared.record.RecordCut.TheVariants.{Whole, More, Never}
-use Rattle.hall_http.specs.Words.{cut, after_front, number_in}
+use Rattle.hall_http.specs.Words.{cut, after_front, decimal_in}
 
 -- a moment, and the bytes of a request
 pub record Record : Type 0 where
@@ -52,7 +52,7 @@ in_ranges moment size = if nat_le moment 4102444800 && nat_le size 73728 then So
 -- what a header's numbers say: a moment and a length in their ranges
 abbrev pub numbers_in : List ℕ × List ℕ → Option (ℕ × ℕ)
 numbers_in parts =
-    option_and_then (λ moment. option_and_then (in_ranges moment) (number_in parts.1)) (number_in parts.0)
+    option_and_then (λ moment. option_and_then (in_ranges moment) (decimal_in parts.1)) (decimal_in parts.0)
 
 -- the moment and the length of a header @MOMENT LENGTH
 abbrev pub header_in : List ℕ → Option (ℕ × ℕ)

@@ -9,7 +9,7 @@ use Rattle.hall_http.specs.declared.fault.ReplayFault.TheVariants as fault
 use Rattle.hall_http.specs.Device.{WritesPart, NoneFailed, ReadFailed, WriteFailed}
 use Rattle.hall_http.specs.Connection.{Exchange}
 use Rattle.hall_http.specs.Serving.{AreAnswered, LeavesRunOver, RunsOver}
-use Rattle.hall_http.specs.Reading.{Reading, IsLast}
+use Rattle.hall_http.specs.Reading.{Reading, IsLastRead}
 use Rattle.hall_http.specs.Records.{Record, IsRecord, record_bytes, HasNoRecord, NeverHasRecord, IsUnfinishedRecord}
 
 -- a record, and the bytes that answer it
@@ -22,16 +22,16 @@ abbrev pub exchange_of : AnsweredRecord → Exchange
 exchange_of x = record { request = x.asked.request; moment = Some x.asked.moment; reply = x.reply }
 
 -- the requests of these records, each at its moment
-abbrev pub exchanges_of : List AnsweredRecord → List Exchange
-exchanges_of xs = map exchange_of xs
+abbrev pub exchanges_of_records : List AnsweredRecord → List Exchange
+exchanges_of_records xs = map exchange_of xs
 
 -- the bytes of the records
 abbrev pub records_of : List AnsweredRecord → List ℕ
 records_of xs = flat_map (λ x. record_bytes x.asked) xs
 
 -- the bytes of the replies to these records
-abbrev pub replies_to : List AnsweredRecord → List ℕ
-replies_to xs = flat_map (λ x. x.reply) xs
+abbrev pub reply_bytes_of : List AnsweredRecord → List ℕ
+reply_bytes_of xs = flat_map (λ x. x.reply) xs
 
 -- these records were answered, so many reads gave bytes, and these bytes wait
 abbrev pub HaveReadRecords : List AnsweredRecord → ℕ → List ℕ → Type 0
@@ -49,27 +49,27 @@ LacksRecord after unread pieces reads =
 abbrev pub StopsAtLast : Option (List ℕ) → Option (List ℕ) → List AnsweredRecord → List ℕ → ℕ → Type 0
 StopsAtLast wrote written xs unread pieces =
     (before : List AnsweredRecord) × (last : AnsweredRecord) × (between : Option (List ℕ))
-    × IsLast {X = AnsweredRecord} (λ x. record_bytes x.asked) IsUnfinishedRecord before last xs pieces unread
-    × Appends wrote between (replies_to before) × WritesPart between written last.reply
+    × IsLastRead {X = AnsweredRecord} (λ x. record_bytes x.asked) IsUnfinishedRecord before last xs pieces unread
+    × Appends wrote between (reply_bytes_of before) × WritesPart between written last.reply
 
 -- How the replay ended: what was written, and why it ended. `pieces` of its `reads` gave bytes. Well: a read told the
 -- end of the input, and nothing is left. `Record`: what is left is no record, or a thousand million reads gave bytes
 -- and what is left is unfinished. `Device`: a read or a write failed, once. `Memory`: before the first read. No other
 -- call failed: it ended at the first that did.
-abbrev pub Ended : {U : Type 0} → Result U ReplayFault → Option (List ℕ) → Option (List ℕ) → Option (List ℕ)
+abbrev pub ReplayEnded : {U : Type 0} → Result U ReplayFault → Option (List ℕ) → Option (List ℕ) → Option (List ℕ)
     → List AnsweredRecord → List ℕ → ℕ → ℕ → ℕ → ℕ → ℕ → ℕ → Type 0
-Ended (Ok done) after wrote written xs unread pieces reads failed fails broke breaks =
-    Appends wrote written (replies_to xs) × NoneFailed failed fails broke breaks × (unread ≡ []) × IsAtEnd after
+ReplayEnded (Ok done) after wrote written xs unread pieces reads failed fails broke breaks =
+    Appends wrote written (reply_bytes_of xs) × NoneFailed failed fails broke breaks × (unread ≡ []) × IsAtEnd after
     × (reads ≡ pieces + 1)
-Ended (Err fault.Record) after wrote written xs unread pieces reads failed fails broke breaks =
-    Appends wrote written (replies_to xs) × NoneFailed failed fails broke breaks
+ReplayEnded (Err fault.Record) after wrote written xs unread pieces reads failed fails broke breaks =
+    Appends wrote written (reply_bytes_of xs) × NoneFailed failed fails broke breaks
     × (LacksRecord after unread pieces reads
     ⊎ (IsUnfinishedRecord unread × (reads ≡ 1000000000) × (reads ≡ pieces)))
-Ended (Err fault.Device) after wrote written xs unread pieces reads failed fails broke breaks =
-    (Appends wrote written (replies_to xs) × ReadFailed failed fails broke breaks × IsUnfinishedRecord unread
+ReplayEnded (Err fault.Device) after wrote written xs unread pieces reads failed fails broke breaks =
+    (Appends wrote written (reply_bytes_of xs) × ReadFailed failed fails broke breaks × IsUnfinishedRecord unread
     × (reads ≡ pieces + 1))
     ⊎ (StopsAtLast wrote written xs unread pieces × WriteFailed failed fails broke breaks × (reads ≡ pieces))
-Ended (Err fault.Memory) after wrote written xs unread pieces reads failed fails broke breaks =
+ReplayEnded (Err fault.Memory) after wrote written xs unread pieces reads failed fails broke breaks =
     Appends wrote written [] × NoneFailed failed fails broke breaks × (xs ≡ []) × (unread ≡ []) × (reads ≡ 0)
 
 -- the stream was read, in at most a thousand million reads, as these records and then this rest, the records were
@@ -82,14 +82,14 @@ pub record IsReplayed {H U : Type 0} (content : H → Content) (stream after wro
   pub pieces : ℕ
   pub reads : ℕ
   pub settled : IsSettled (content old)
-  pub answered : AreAnswered content old (exchanges_of records) new
+  pub answered : AreAnswered content old (exchanges_of_records records) new
   pub whole : All (λ x. IsRecord x.asked) records
   pub leads : Leads (content old) (content new)
-  pub run : (content new).honest → RunsOver (content old) (exchanges_of records) (content new)
-  pub stops : LeavesRunOver (content old) (exchanges_of records) (content new)
+  pub run : (content new).honest → RunsOver (content old) (exchanges_of_records records) (content new)
+  pub stops : LeavesRunOver (content old) (exchanges_of_records records) (content new)
   pub seldom : reads ≤ 1000000000
   pub made : MadeCalls reads asked asks
   pub reading : HaveReadRecords records pieces unread
   pub consumed : Consumes stream after (records_of records ++ unread)
   pub bounded : length unread ≤ 81920
-  pub ended : Ended end after wrote written records unread pieces reads failed fails broke breaks
+  pub ended : ReplayEnded end after wrote written records unread pieces reads failed fails broke breaks

@@ -23,7 +23,7 @@ use Rattle.hall_desk.specs.declared.reply.PuzzleLine.{PuzzleLine}
 use Rattle.hall_desk.specs.declared.reply.RoundLine.{RoundLine}
 use Rattle.hall_desk.specs.declared.reply.Reply.{Reply}
 use Rattle.hall_desk.specs.declared.reply.Reply.TheVariants as reply
-use Rattle.hall_sheet.specs.Fault.{name_of}
+use Rattle.hall_sheet.specs.Fault.{field_name}
 use Rattle.hall_sheet.specs.declared.fault.Refusal.{Refusal}
 use Rattle.hall_sheet.specs.declared.fault.Refusal.TheVariants as refusal
 use Rattle.hall_http.specs.declared.form.Field.{Field}
@@ -297,8 +297,8 @@ puzzle_fault_data (puzzle.After place) = place_data (codes "E8") place
 -- the body of the reply to bytes that are no entry list or round sheet
 abbrev pub sheet_fault_data : Refusal → Data
 sheet_fault_data refusal.Syntax = form_data (codes "F1")
-sheet_fault_data (refusal.Missing f) = field_data (name_of f) (codes "F2")
-sheet_fault_data (refusal.Range f) = field_data (name_of f) (codes "F3")
+sheet_fault_data (refusal.Missing f) = field_data (field_name f) (codes "F2")
+sheet_fault_data (refusal.Range f) = field_data (field_name f) (codes "F3")
 sheet_fault_data refusal.Repeated = form_data (codes "F4")
 sheet_fault_data refusal.Start = form_data (codes "F5")
 sheet_fault_data refusal.Zone = field_data (codes "zone") (codes "F8")

@@ -28,9 +28,9 @@ use Rattle.hall_http.specs.declared.form.RequestFault.TheVariants as unread
 use Rattle.hall_http.specs.declared.head.RawRequest.{RawRequest}
 use Rattle.hall_http.specs.declared.routes.Resource.{Resource}
 use Rattle.hall_http.specs.declared.routes.Resource.TheVariants as resource
-use Rattle.hall_http.specs.Body.{answer_in, text_in, budget_in, protest_in, ruling_in}
-use Rattle.hall_http.specs.Head.{IsRequest, IsWhole, shown_key}
-use Rattle.hall_http.specs.Routes.{Parts, word_in, token_in, puzzle_number, puzzle_key_in}
+use Rattle.hall_http.specs.Body.{answer_in_body, text_in_body, budget_in_body, protest_in_body, ruling_in_body}
+use Rattle.hall_http.specs.Head.{IsHeadAndBody, IsWholeRequest, shown_key}
+use Rattle.hall_http.specs.Routes.{Parts, word_in, token_in_path, puzzle_number, puzzle_key_in}
 use Rattle.hall_http.specs.Routes.{by_method, puzzle_by, round_by, resource_in}
 
 -- what is wrong with a text that is no puzzle; out of memory says nothing of it
@@ -64,7 +64,7 @@ PutFrom (Ok put) outcome = PutOf put.0 put.1 outcome
 -- the puzzle that the body's text spells, to be put under the key of the path's parts
 abbrev pub PutPuzzleAt : Parts → List ℕ → Result Action FormFault → Type 0
 PutPuzzleAt p body outcome =
-    PutFrom (puzzle_key_in p >>= (λ key. text_in body >>= (λ text. Ok (key, text)))) outcome
+    PutFrom (puzzle_key_in p >>= (λ key. text_in_body body >>= (λ text. Ok (key, text)))) outcome
 
 -- what is asked of a puzzle: PUT stores it, GET reads it
 abbrev pub PuzzleAt : Bool → List ℕ → Parts → List ℕ → Result Action FormFault → Type 0
@@ -94,7 +94,7 @@ ActionAt method resource.Puzzles p body outcome =
 ActionAt method resource.Puzzle p body outcome = PuzzleAt (bytes_eq method (codes "PUT")) method p body outcome
 ActionAt method resource.Certificate p body outcome =
     outcome ≡ (puzzle_by method (codes "POST") p
-    >>= (λ key. budget_in body
+    >>= (λ key. budget_in_body body
     >>= (λ budget. Ok (action.Certify key budget))))
 ActionAt method resource.Rounds p body outcome =
     outcome ≡ (by_method method (codes "GET") >>= (λ _. Ok action.ListRounds))
@@ -108,8 +108,8 @@ ActionAt method resource.Answers p body outcome =
 ActionAt method resource.Answer p body outcome =
     outcome ≡ (round_by method (codes "PUT") p
     >>= (λ id. puzzle_number p.second
-    >>= (λ number. token_in p.third
-    >>= (λ token. answer_in body
+    >>= (λ number. token_in_path p.third
+    >>= (λ token. answer_in_body body
     >>= (λ answer. Ok (action.Submit id number token answer))))))
 ActionAt method resource.Solutions p body outcome =
     outcome ≡ (round_by method (codes "GET") p >>= (λ id. Ok (action.Solutions id)))
@@ -117,14 +117,14 @@ ActionAt method resource.Protests p body outcome =
     outcome ≡ (round_by method (codes "GET") p >>= (λ id. Ok (action.Protests id)))
 ActionAt method resource.Protest p body outcome =
     outcome ≡ (round_by method (codes "PUT") p
-    >>= (λ id. token_in p.second
-    >>= (λ token. protest_in body
+    >>= (λ id. token_in_path p.second
+    >>= (λ token. protest_in_body body
     >>= (λ protest. Ok (action.Protest id token protest.0 protest.1)))))
 ActionAt method resource.Ruling p body outcome =
     outcome ≡ (round_by method (codes "PUT") p
     >>= (λ id. word_in p.second
-    >>= (λ entrant. token_in p.third
-    >>= (λ token. ruling_in body
+    >>= (λ entrant. token_in_path p.third
+    >>= (λ token. ruling_in_body body
     >>= (λ ruling. Ok (action.RuleProtest id entrant token ruling))))))
 ActionAt method resource.Publish p body outcome =
     outcome ≡ (round_by method (codes "POST") p >>= (λ id. Ok (action.Publish id)))
@@ -142,12 +142,13 @@ abbrev pub ActionOf : List ℕ → List ℕ → List ℕ → Result Action FormF
 ActionOf method path body outcome = ActionFrom method (resource_in path) body outcome
 
 -- the caller's key: none where the text isn't of a key's form
-abbrev pub key_in : List ℕ → Option (List ℕ)
-key_in text = if as_key is_kind text then Some text else None
+abbrev pub caller_key_in : List ℕ → Option (List ℕ)
+caller_key_in text = if as_key is_kind text then Some text else None
 
 -- the action under the caller's key
 abbrev pub asked_by : Option (List ℕ) → Result Action FormFault → Result Request FormFault
-asked_by shown outcome = outcome >>= (λ asked. Ok (record { key = option_and_then key_in shown; action = asked }))
+asked_by shown outcome =
+    outcome >>= (λ asked. Ok (record { key = option_and_then caller_key_in shown; action = asked }))
 
 -- what method, path and body ask for, by whoever shows this as the key
 abbrev pub AsksBy : Option (List ℕ) → List ℕ → List ℕ → List ℕ → Result Request FormFault → Type 0
@@ -166,8 +167,8 @@ AsksFor raw outcome =
 -- the bytes are one whole request, which asks for this or has this first fault, or they aren't
 abbrev pub RequestOf : List ℕ → Result Request FormFault → Type 0
 RequestOf bytes outcome =
-    (¬ (IsWhole bytes) × (outcome ≡ Err fault.NotWhole))
-    ⊎ ((head : RequestHead) × (body : List ℕ) × IsRequest bytes head body × AskedOf head body outcome)
+    (¬ (IsWholeRequest bytes) × (outcome ≡ Err fault.NotWhole))
+    ⊎ ((head : RequestHead) × (body : List ℕ) × IsHeadAndBody bytes head body × AskedOf head body outcome)
 
 -- the bytes are one whole request of the hall
 abbrev pub AsksRequest : List ℕ → Type 0

@@ -8,18 +8,19 @@ AreRests rests h [] i = i ≡ h
 AreRests rests h (m ∷ ms) i = rests h m × AreRests rests m ms i
 
 -- it rested some times, or never
-abbrev pub Rests : {H : Type 0} → (H → H → Type 0) → H → H → Type 0
-Rests {H} rests h i = (left : List H) × AreRests rests h left i
+abbrev pub HasRested : {H : Type 0} → (H → H → Type 0) → H → H → Type 0
+HasRested {H} rests h i = (left : List H) × AreRests rests h left i
 
 -- it rested some times, and then answered a request
 abbrev pub after_rests : {H : Type 0} → (H → H → Type 0) → (H → Option ℕ → List ℕ → List ℕ → H → Type 0)
     → H → Option ℕ → List ℕ → List ℕ → H → Type 0
-after_rests {H} rests answers h moment request reply i = (m : H) × Rests rests h m × answers m moment request reply i
+after_rests {H} rests answers h moment request reply i =
+    (m : H) × HasRested rests h m × answers m moment request reply i
 
 -- these requests are answered, one after another, with rests before, between and after them
 abbrev pub RestingSession : {H : Type 0} → (H → Option ℕ → List ℕ → List ℕ → H → Type 0) → (H → H → Type 0)
     → H → List Exchange → H → Type 0
-RestingSession {H} answers rests h xs i = (m : H) × Session (after_rests rests answers) h xs m × Rests rests m i
+RestingSession {H} answers rests h xs i = (m : H) × Session (after_rests rests answers) h xs m × HasRested rests m i
 
 -- a responder rests, and goes on if it did
 abbrev pub still : {H : Type 0} → (H → H → Type 0) → H × Bool → H × Bool → Type 0

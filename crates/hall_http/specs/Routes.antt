@@ -15,7 +15,7 @@ use Rattle.std.specs.Str.{bytes_eq}
 use Rattle.hall_policy.specs.Text.{as_word, as_token}
 use Rattle.hall_policy.specs.Reading.{◌>>=◌, or_fault, unless, of_kind}
 use Rattle.hall_policy.specs.declared.record.PuzzleKey.{PuzzleKey}
-use Rattle.hall_http.specs.Words.{number_in}
+use Rattle.hall_http.specs.Words.{decimal_in}
 use Rattle.hall_http.specs.declared.form.FormFault.{FormFault}
 use Rattle.hall_http.specs.declared.form.FormFault.TheVariants as fault
 use Rattle.hall_http.specs.declared.routes.Resource.{Resource}
@@ -74,13 +74,13 @@ abbrev pub word_in : List ℕ → Result (List ℕ) FormFault
 word_in text = as_word (of_kind fault.NoRoute) text
 
 -- a path parameter that is a token
-abbrev pub token_in : List ℕ → Result (List ℕ) FormFault
-token_in text = as_token (of_kind fault.NoRoute) text
+abbrev pub token_in_path : List ℕ → Result (List ℕ) FormFault
+token_in_path text = as_token (of_kind fault.NoRoute) text
 
 -- a puzzle's number: 1 to 99 in decimal
 abbrev pub puzzle_number : List ℕ → Result ℕ FormFault
 puzzle_number text =
-    or_fault fault.NoRoute (number_in text) >>= (λ n. unless fault.NoRoute (nat_le 1 n && nat_le n 99) >>= (λ _. Ok n))
+    or_fault fault.NoRoute (decimal_in text) >>= (λ n. unless fault.NoRoute (nat_le 1 n && nat_le n 99) >>= (λ _. Ok n))
 
 -- nothing, where the method is this one
 abbrev pub by_method : List ℕ → List ℕ → Result (Unit {0}) FormFault

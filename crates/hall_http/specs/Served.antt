@@ -4,8 +4,8 @@ use Rattle.std.specs.Io.KnownBytes.{Appends, Consumes, IsAtEnd}
 use Rattle.serde_json.specs.Written.{compact_text}
 use Rattle.hall_grid.specs.Device.{MadeCalls, Tally}
 use Rattle.hall_store.specs.Store.{Content, IsSettled, Leads}
-use Rattle.hall_http.specs.Head.{IsWhole, IsUnfinished, NeverHas}
-use Rattle.hall_http.specs.Reading.{Reading, IsLast}
+use Rattle.hall_http.specs.Head.{IsWholeRequest, IsUnfinished, NeverHas}
+use Rattle.hall_http.specs.Reading.{Reading, IsLastRead}
 use Rattle.hall_http.specs.Device.{WritesPart, NoneFailed, ReadFailed, WriteFailed}
 use Rattle.hall_http.specs.Connection.{Exchange, Session, AreMoments, requests_of, replies_of, AreOpen, IsClosing}
 use Rattle.hall_http.specs.Serving.{AreAnswered, LeavesRunOver, RunsOver}
@@ -26,7 +26,7 @@ HaveRead xs pieces unread = Reading {X = Exchange} (λ x. x.request) IsUnfinishe
 -- the last of these requests was answered after the last read
 abbrev pub IsLastRequest : List Exchange → Exchange → List Exchange → ℕ → List ℕ → Type 0
 IsLastRequest before last xs pieces unread =
-    IsLast {X = Exchange} (λ x. x.request) IsUnfinished before last xs pieces unread
+    IsLastRead {X = Exchange} (λ x. x.request) IsUnfinished before last xs pieces unread
 
 -- no request can be made of the bytes: some are left where one read more told the end of the input; or however they go
 -- on
@@ -98,18 +98,18 @@ OneWriteFailed old new = WriteFailed old.failed new.failed old.broken new.broken
 -- told the end of the input and nothing is left, or the last request closes. `BadHead`: what is left is no request.
 -- `Limit`: 1,000 requests were answered and nothing was read after; or 100,000 reads gave bytes, and what is left is
 -- unfinished. `Device`: a read or a write failed, once. No other call failed: it ended at the first that did.
-abbrev pub Ended : ServeEnd → Line → Line → List Exchange → List ℕ → ℕ → ℕ → Type 0
-Ended end.Closed old new xs unread pieces reads =
+abbrev pub ConnectionEnded : ServeEnd → Line → Line → List Exchange → List ℕ → ℕ → ℕ → Type 0
+ConnectionEnded end.Closed old new xs unread pieces reads =
     Appends old.written new.written (replies_of xs) × NoCallFailed old new
     × ((MayGoOn xs × (unread ≡ []) × IsAtEnd new.left × (reads ≡ pieces + 1))
     ⊎ (ClosesLast xs unread pieces × (reads ≡ pieces)))
-Ended end.BadHead old new xs unread pieces reads =
+ConnectionEnded end.BadHead old new xs unread pieces reads =
     Appends old.written new.written (replies_of xs ++ refusal) × NoCallFailed old new × MayGoOn xs
     × IsNoRequest new.left unread pieces reads
-Ended end.Limit old new xs unread pieces reads =
+ConnectionEnded end.Limit old new xs unread pieces reads =
     Appends old.written new.written (replies_of xs) × NoCallFailed old new × AreOpen xs × (reads ≡ pieces)
     × (HasAnsweredAll xs unread pieces ⊎ ((length xs < 1000) × (reads ≡ 100000) × IsUnfinished unread))
-Ended end.Device old new xs unread pieces reads =
+ConnectionEnded end.Device old new xs unread pieces reads =
     (Appends old.written new.written (replies_of xs) × OneReadFailed old new × MayGoOn xs × IsUnfinished unread
     × (reads ≡ pieces + 1))
     ⊎ (BreaksLast old.written new.written xs unread pieces × OneWriteFailed old new × (reads ≡ pieces))
@@ -125,7 +125,7 @@ pub record IsHandled {H C : Type 0} (answers : H → Option ℕ → List ℕ →
   pub pieces : ℕ
   pub reads : ℕ
   pub session : Session answers before.0 exchanges after.0
-  pub whole : All (λ x. IsWhole x.request) exchanges
+  pub whole : All (λ x. IsWholeRequest x.request) exchanges
   pub moments : AreMoments now_gives before.1 exchanges after.1
   pub few : length exchanges ≤ 1000
   pub seldom : reads ≤ 100000
@@ -133,7 +133,7 @@ pub record IsHandled {H C : Type 0} (answers : H → Option ℕ → List ℕ →
   pub reading : HaveRead exchanges pieces unread
   pub consumed : Consumes old.left new.left (requests_of exchanges ++ unread)
   pub bounded : length unread ≤ 81920
-  pub ended : Ended end old new exchanges unread pieces reads
+  pub ended : ConnectionEnded end old new exchanges unread pieces reads
 
 -- The stream was read, in at most 100,000 reads, as at most 1,000 requests and then this rest, the requests were
 -- answered over a store at the clock's moments, each before a further read and over the store that the one before it
@@ -146,7 +146,7 @@ pub record IsServed {H C : Type 0} (content : H → Content) (now_gives : C → 
   pub reads : ℕ
   pub settled : IsSettled (content before.0)
   pub answered : AreAnswered content before.0 exchanges after.0
-  pub whole : All (λ x. IsWhole x.request) exchanges
+  pub whole : All (λ x. IsWholeRequest x.request) exchanges
   pub moments : AreMoments now_gives before.1 exchanges after.1
   pub leads : Leads (content before.0) (content after.0)
   pub run : (content after.0).honest → RunsOver (content before.0) exchanges (content after.0)
@@ -157,4 +157,4 @@ pub record IsServed {H C : Type 0} (content : H → Content) (now_gives : C → 
   pub reading : HaveRead exchanges pieces unread
   pub consumed : Consumes old.left new.left (requests_of exchanges ++ unread)
   pub bounded : length unread ≤ 81920
-  pub ended : Ended end old new exchanges unread pieces reads
+  pub ended : ConnectionEnded end old new exchanges unread pieces reads

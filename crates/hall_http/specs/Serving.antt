@@ -21,7 +21,7 @@ AnswersAt world None request reply after = BytesOf NotServed reply × (after ≡
 
 -- the same over a store, which stays as it is where the request asks nothing of it, or the clock told no moment; at
 -- most one write was made, and none for a request that has nothing to write
-pub record IsAnswered {H : Type 0} (content : H → Content) (old : H) (moment : Option ℕ) (request reply : List ℕ)
+pub record IsAnsweredOver {H : Type 0} (content : H → Content) (old : H) (moment : Option ℕ) (request reply : List ℕ)
     (new : H) : Type 0 where
   pub leads : Leads (content old) (content new)
   pub once : WritesOnce (content old) (content new)
@@ -43,7 +43,7 @@ WaitsForSearch content keeper bytes =
 -- the requests are answered over a store, one after another, each over the store that the one before it left: where a
 -- fault has shut it, by 503, or by what no store decides
 abbrev pub AreAnswered : {H : Type 0} → (H → Content) → H → List Exchange → H → Type 0
-AreAnswered content = Session (IsAnswered content)
+AreAnswered content = Session (IsAnsweredOver content)
 
 -- after a reply 503 the store serves still, where its device was honest; or it is as it was
 abbrev pub GoesOn : {H : Type 0} → (H → Content) → H → List ℕ → H → Type 0
@@ -56,27 +56,28 @@ GoesOn content old reply new =
 abbrev pub AreAnsweredWhileOpen : {H : Type 0} → (H → Content) → H → List Exchange → H → Type 0
 AreAnsweredWhileOpen content old [] new = Kept (content old) (content new)
 AreAnsweredWhileOpen {H} content old (x ∷ xs) new =
-    (read after : H) × Kept (content old) (content read) × IsAnswered content read x.moment x.request x.reply after
+    (read after : H) × Kept (content old) (content read) × IsAnsweredOver content read x.moment x.request x.reply after
     × (xs ≢ [] → GoesOn content read x.reply after) × AreAnsweredWhileOpen content after xs new
 
 -- the bytes aren't made into a request of the hall: they are none, and their reply names the fault; or no memory or no
 -- moment was there for it, and their reply is 503
-abbrev pub IsNotMade : Exchange → Type 0
-IsNotMade x = ((moment : ℕ) × (x.moment ≡ Some moment) × IsRefused x.request x.reply) ⊎ BytesOf NotServed x.reply
+abbrev pub IsNoRequestMade : Exchange → Type 0
+IsNoRequestMade x = ((moment : ℕ) × (x.moment ≡ Some moment) × IsRefused x.request x.reply) ⊎ BytesOf NotServed x.reply
 
 -- the bytes are this request at its moment, and their reply is the step's
-pub record IsMade (x : Exchange) (request : ℕ × Request) (reply : Reply) : Type 0 where
+pub record IsRequestMade (x : Exchange) (request : ℕ × Request) (reply : Reply) : Type 0 where
   pub moment : x.moment ≡ Some request.0
   pub reads : RequestOf x.request (Ok request.1)
   pub written : BytesOf reply x.reply
 
 -- the requests of the hall among these, in their order, and the replies to them, in theirs
-abbrev pub AreMade : List Exchange → List (ℕ × Request) → List Reply → Type 0
-AreMade [] requests replies = (requests ≡ []) × (replies ≡ [])
-AreMade (x ∷ xs) requests replies =
-    (IsNotMade x × AreMade xs requests replies)
+abbrev pub AreRequestsMade : List Exchange → List (ℕ × Request) → List Reply → Type 0
+AreRequestsMade [] requests replies = (requests ≡ []) × (replies ≡ [])
+AreRequestsMade (x ∷ xs) requests replies =
+    (IsNoRequestMade x × AreRequestsMade xs requests replies)
     ⊎ ((request : ℕ × Request) × (reply : Reply) × (later : List (ℕ × Request)) × (rest : List Reply)
-    × (requests ≡ request ∷ later) × (replies ≡ reply ∷ rest) × IsMade x request reply × AreMade xs later rest)
+    × (requests ≡ request ∷ later) × (replies ≡ reply ∷ rest) × IsRequestMade x request reply
+    × AreRequestsMade xs later rest)
 
 -- the requests of the hall, each of its type, have these replies in a run of the hall
 pub record IsRunOver (old : World) (xs : List Exchange) (new : World) : Type 0 where
@@ -84,7 +85,7 @@ pub record IsRunOver (old : World) (xs : List Exchange) (new : World) : Type 0 w
   pub replies : List Reply
   pub timed : All IsTimed requests
   pub run : Run old requests replies new
-  pub made : AreMade xs requests replies
+  pub made : AreRequestsMade xs requests replies
 
 -- over a store, the requests of the hall have these replies in a run to some world, which is the store's where it
 -- still serves

@@ -4,8 +4,8 @@ use Rattle.std.specs.Prelude.{length, take, drop, Option, Some, None}
 use Rattle.hall_http.specs.Answered.{IsUnavailable}
 use Rattle.hall_http.specs.Outgoing.{outgoing_text}
 use Rattle.hall_http.specs.Request.{ReachesStore}
-use Rattle.hall_http.specs.Connection.{Exchange, Exchanged, IsOpen, IsClosing}
-use Rattle.hall_http.specs.Head.{IsUnfinished, IsUnfinishedBelow, IsWhole, NeverHas}
+use Rattle.hall_http.specs.Connection.{Exchange, Exchanged, LeavesOpen, IsClosing}
+use Rattle.hall_http.specs.Head.{IsUnfinished, IsUnfinishedBelow, IsWholeRequest, NeverHas}
 use Rattle.hall_http.specs.declared.outgoing.Outgoing.TheVariants.{Nothing, Refusal}
 use Rattle.hall_http.specs.declared.client.Step.{Step}
 use Rattle.hall_http.specs.declared.client.Step.TheVariants as step
@@ -55,8 +55,8 @@ then_of false requests = if requests == 1000 then Some end.Limit else None
 -- after a request the connection ends where it closes it, or where it was the last that may come
 abbrev pub EndsAfter : List ℕ → ℕ → Option ServeEnd → Type 0
 EndsAfter request requests (Some end.Closed) = IsClosing request
-EndsAfter request requests (Some end.Limit) = IsOpen request × (requests ≡ 1000)
-EndsAfter request requests None = IsOpen request × (requests ≢ 1000)
+EndsAfter request requests (Some end.Limit) = LeavesOpen request × (requests ≡ 1000)
+EndsAfter request requests None = LeavesOpen request × (requests ≢ 1000)
 EndsAfter request requests (Some _) = ⊥
 
 -- A responder that goes on answers a request. Where it still goes on then, it can; and where it doesn't, the reply is
@@ -109,7 +109,7 @@ Looks answers now_gives before k after l =
 
 -- a whole request stands at the front of what waits, and may be kept waiting
 abbrev pub KeepsWaiting : {H : Type 0} → (H → List ℕ → Type 0) → Connection → H → Type 0
-KeepsWaiting may_wait k h = (size : ℕ) × IsWhole (take size k.inbox) × may_wait h (take size k.inbox)
+KeepsWaiting may_wait k h = (size : ℕ) × IsWholeRequest (take size k.inbox) × may_wait h (take size k.inbox)
 
 -- where the step is that a request needs more work, it may be kept waiting, and so many were answered before it
 abbrev pub SearchesRightly : {H : Type 0} → (H → List ℕ → Type 0) → Connection → H → Step → Type 0

@@ -40,12 +40,12 @@ abbrev pub AsksForOther : (Request → Bool) → Exchange → Type 0
 AsksForOther test x = AsksFor (λ request. not (test request)) x
 
 -- the texts are the replies to the requests that pass the test and to the bytes that are no request, in their order
-abbrev pub AreTold : (Request → Bool) → List Exchange → List (List ℕ) → Type 0
-AreTold test [] texts = texts ≡ []
-AreTold test (x ∷ xs) texts =
+abbrev pub AreRepliesTold : (Request → Bool) → List Exchange → List (List ℕ) → Type 0
+AreRepliesTold test [] texts = texts ≡ []
+AreRepliesTold test (x ∷ xs) texts =
     ((AsksFor test x ⊎ ¬ (AsksRequest x.request)) × (rest : List (List ℕ)) × (texts ≡ x.reply ∷ rest)
-    × AreTold test xs rest)
-    ⊎ (AsksForOther test x × AreTold test xs texts)
+    × AreRepliesTold test xs rest)
+    ⊎ (AsksForOther test x × AreRepliesTold test xs texts)
 
 -- no reply is 503
 abbrev pub AllServed : List Exchange → Type 0
@@ -81,8 +81,8 @@ BytesHideOthers =
     All GrantsNoPublication whole.replies → All GrantsNoPublication left.replies →
     replies_where (λ asked. stays last e asked && certifies asked) whole.requests whole.replies
     ≡ replies_where certifies left.requests left.replies →
-    AreTold (λ request. has_key e.key request.key) xs texts →
-    AreTold (λ request. has_key e.key request.key) ys others → texts ≡ others
+    AreRepliesTold (λ request. has_key e.key request.key) xs texts →
+    AreRepliesTold (λ request. has_key e.key request.key) ys others → texts ≡ others
 
 -- where the first bytes ask for a request, the others ask at the same moment for it with the text of its answer read by
 -- the exchange; where the first ask for none, so do the others
@@ -129,6 +129,6 @@ BytesHideAnswers =
     get last.people e.name ≡ Some e → IsTrue (is_entrant_alone e) →
     AreExchanged r a b xs ys → AllServed xs → AllServed ys →
     replies_where certifies whole.requests whole.replies ≡ replies_where certifies turned.requests turned.replies →
-    AreTold (λ request. has_key e.key request.key) xs texts →
-    AreTold (λ request. has_key e.key request.key) ys others →
+    AreRepliesTold (λ request. has_key e.key request.key) xs texts →
+    AreRepliesTold (λ request. has_key e.key request.key) ys others →
     AreBytesExchanged r a b e.key whole.requests whole.replies xs ys texts others

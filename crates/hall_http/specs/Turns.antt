@@ -5,8 +5,8 @@ use Rattle.hall_http.specs.Served.{HaveRead, MayGoOn, refusal}
 use Rattle.hall_http.specs.Connection.{Exchange, AreMoments, AreOpen, requests_of, replies_of}
 use Rattle.hall_http.specs.Resting.{RestingSession, still}
 use Rattle.hall_http.specs.Steps.{gated}
-use Rattle.hall_http.specs.Head.{IsWhole, IsUnfinished, HasNone, NeverHas}
-use Rattle.hall_http.specs.History.{History, HasHistory, Ends, told_at}
+use Rattle.hall_http.specs.Head.{IsWholeRequest, IsUnfinished, HasNoWholeRequest, NeverHas}
+use Rattle.hall_http.specs.History.{ConnectionHistory, HasHistory, Ends, told_at}
 use Rattle.hall_http.specs.Peer.{Traffic, IsOver}
 use Rattle.hall_http.specs.declared.client.Client.{Client}
 use Rattle.hall_http.specs.declared.client.Step.{Step}
@@ -52,7 +52,8 @@ AreOpenButLast xs =
 -- none did; these bytes are left; and all was sent that is told by then.
 abbrev pub HasEnded : List Exchange → ℕ → Bool → List ℕ → List ℕ → Type 0
 HasEnded xs pieces ended unread went =
-    (e : ServeEnd) × (t : History) × (t.exchanges ≡ xs) × (t.pieces ≡ pieces) × (t.ended ≡ ended) × Ends e t unread
+    (e : ServeEnd) × (t : ConnectionHistory) × (t.exchanges ≡ xs) × (t.pieces ≡ pieces) × (t.ended ≡ ended)
+    × Ends e t unread
     × (went ≡ told_at e xs)
 
 -- The first bytes that came of a connection are these requests, at most 1,000, of which none but the last closes it.
@@ -60,16 +61,16 @@ HasEnded xs pieces ended unread went =
 -- was left may be refused, and no whole request stands at the front of what came after. At most 100,000 reads gave
 -- bytes, each where what waited was unfinished, and then these bytes were left. What came after them was read off once
 -- the connection had ended, and only then it was told that no more is sent.
-pub record IsTold (xs : List Exchange) (t : Traffic) : Type 0 where
+pub record IsConnectionTold (xs : List Exchange) (t : Traffic) : Type 0 where
   pub rest : List ℕ
   pub spelled : t.came ≡ requests_of xs ++ rest
-  pub whole : All (λ x. IsWhole x.request) xs
+  pub whole : All (λ x. IsWholeRequest x.request) xs
   pub opened : AreOpenButLast xs
   pub few : length xs ≤ 1000
   pub pieces : ℕ
   pub unread : List ℕ
   pub off : List ℕ
-  pub told : AreSent xs t.went ⊎ (IsRefusedAfter xs t.went × IsRefusedRightly xs unread t.over × HasNone rest)
+  pub told : AreSent xs t.went ⊎ (IsRefusedAfter xs t.went × IsRefusedRightly xs unread t.over × HasNoWholeRequest rest)
   pub seldom : pieces ≤ 100000
   pub reading : HaveRead xs pieces unread
   pub bounded : length unread ≤ 81920
@@ -82,7 +83,7 @@ pub record IsTold (xs : List Exchange) (t : Traffic) : Type 0 where
 -- the end only where its peer told it; once it has ended, some more may have come, which is read off, and only then its
 -- peer is told that no more is sent
 pub record IsClient {P : Type 0} (traffic : P → Traffic) (xs : List Exchange) (k : Client P) : Type 0 where
-  pub history : History
+  pub history : ConnectionHistory
   pub has : HasHistory history k.connection
   pub answered : history.exchanges ≡ xs
   pub off : List ℕ

@@ -13,7 +13,7 @@ use Rattle.hall_desk.specs.Without.{GrantsNoPublication, stays, certifies, repli
 use Rattle.hall_desk.specs.Exchanged.{IsSealedRound}
 use Rattle.hall_desk.specs.declared.reply.Reply.{Reply}
 use Rattle.hall_http.specs.Serving.{IsRunOver}
-use Rattle.hall_http.specs.Told.{AsksFor, AsksForOther, AreTold, AllServed, ComesAgain, is_others, AreWithout}
+use Rattle.hall_http.specs.Told.{AsksFor, AsksForOther, AreRepliesTold, AllServed, ComesAgain, is_others, AreWithout}
 use Rattle.hall_http.specs.Told.{ComesExchanged, AreExchanged, AreBytesExchanged}
 use Rattle.hall_http.specs.Turns.{Turn, exchanges_of}
 
@@ -29,7 +29,7 @@ replies_on mine turns = map (λ x. x.reply) (exchanges_of (filter (λ turn. mine
 -- of the requests of all connections those with the key, and all bytes that are no request, came on these, and no
 -- others did
 abbrev pub ShowAlone : List ℕ → (ℕ → Bool) → List Turn → Type 0
-ShowAlone key mine turns = AreTold (shows key) (exchanges_of turns) (replies_on mine turns)
+ShowAlone key mine turns = AreRepliesTold (shows key) (exchanges_of turns) (replies_on mine turns)
 
 -- Connections that alone show e's key, one or several, have together the same replies, one after another, whether the
 -- requests of others who hold the role entrant alone come, on whatever connections, or don't: the other connections'

@@ -19,5 +19,6 @@ is_decimal text =
     not (length text == 0) && list_all is_ascii_digit text && (length text == 1 || not (slice_index text 0 == 48))
 
 -- the number of 64 bits that the text writes in decimal
-abbrev pub number_in : List ℕ → Option ℕ
-number_in text = if is_decimal text && nat_lt (digits_value 10 text) (2 ^ 64) then Some (digits_value 10 text) else None
+abbrev pub decimal_in : List ℕ → Option ℕ
+decimal_in text =
+    if is_decimal text && nat_lt (digits_value 10 text) (2 ^ 64) then Some (digits_value 10 text) else None

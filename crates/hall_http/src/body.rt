@@ -4,10 +4,12 @@ ghost use Rattle.std.specs.List.{list_any, list_all};
 ghost use Rattle.std.specs.Str.{bytes_eq};
 ghost use Rattle.serde_json.specs.Errors.{IsMemory};
 ghost use Rattle.serde_json.specs.View.{members_view};
-ghost use Rattle.hall_http.specs.Given.{Gives};
-ghost use Rattle.hall_http.specs.Body.{object_in, answer_in, text_in, budget_in, protest_in, ruling_in};
+ghost use Rattle.hall_http.specs.Given.{GivesForm};
+ghost use Rattle.hall_http.specs.Body.{object_in, answer_in_body, text_in_body, budget_in_body, protest_in_body};
+ghost use Rattle.hall_http.specs.Body.{ruling_in_body};
 ghost use Rattle.hall_http.specs.Body.{answer_among, text_among, budget_among, protest_among, ruling_among};
-ghost use Rattle.hall_http.specs.Body.{text_at, integer_at, flag_at, in_range, points_in, ruling_from};
+ghost use Rattle.hall_http.specs.Body.{text_of_member, integer_of_member, flag_of_member, in_range_or_fault, points_in};
+ghost use Rattle.hall_http.specs.Body.{ruling_from};
 
 use crate::form::{Field, FormFault, RequestFault};
 use crate::words::checked;
@@ -53,7 +55,7 @@ fn read_object(
     body: &[u8],
     names: &[&str],
 ) -> Result<Map<String, Value>, RequestFault>
-    ensures { Gives (λ m. members_view m.entries) result (object_in (map (λ n. n.now) names.now) body.now) }
+    ensures { GivesForm (λ m. members_view m.entries) result (object_in (map (λ n. n.now) names.now) body.now) }
 {
     let Ok(text) = str::from_utf8(body) else {
         return Err(SYNTAX);
@@ -77,7 +79,7 @@ fn text_at<'a>(
     name: &str,
     field: Field,
 ) -> Result<&'a str, RequestFault>
-    ensures { Gives (λ t. t.now) result (text_at field name.now (members_view members.now.entries)) }
+    ensures { GivesForm (λ t. t.now) result (text_of_member field name.now (members_view members.now.entries)) }
 {
     let Some(value) = members.get(name) else {
         return Err(RequestFault::Form(FormFault::Missing(field)));
@@ -90,7 +92,7 @@ fn text_at<'a>(
 
 /// The integer that a member is.
 fn integer_at(members: &Map<String, Value>, name: &str, field: Field) -> Result<i128, RequestFault>
-    ensures { Gives (λ n. n) result (integer_at field name.now (members_view members.now.entries)) }
+    ensures { GivesForm (λ n. n) result (integer_of_member field name.now (members_view members.now.entries)) }
 {
     let Some(value) = members.get(name) else {
         return Err(RequestFault::Form(FormFault::Missing(field)));
@@ -103,7 +105,7 @@ fn integer_at(members: &Map<String, Value>, name: &str, field: Field) -> Result<
 
 /// Whether a member is true or false.
 fn flag_at(members: &Map<String, Value>, name: &str, field: Field) -> Result<bool, RequestFault>
-    ensures { Gives (λ b. b) result (flag_at field name.now (members_view members.now.entries)) }
+    ensures { GivesForm (λ b. b) result (flag_of_member field name.now (members_view members.now.entries)) }
 {
     let Some(value) = members.get(name) else {
         return Err(RequestFault::Form(FormFault::Missing(field)));
@@ -119,7 +121,7 @@ fn in_range<const LEAST: u64, const MOST: u64>(
     integer: i128,
     fault: FormFault,
 ) -> Result<Within<LEAST, MOST>, RequestFault>
-    ensures { Gives (λ n. n) result (in_range fault LEAST MOST integer) }
+    ensures { GivesForm (λ n. n) result (in_range_or_fault fault LEAST MOST integer) }
 {
     let outside = RequestFault::Form(fault);
     let Ok(value) = u64::try_from(integer) else {
@@ -130,7 +132,7 @@ fn in_range<const LEAST: u64, const MOST: u64>(
 
 /// The answer among the members.
 fn answer_among(alloc: Global, members: &Map<String, Value>) -> Result<AnswerText, RequestFault>
-    ensures { Gives (λ t. t) result (answer_among (members_view members.now.entries)) }
+    ensures { GivesForm (λ t. t) result (answer_among (members_view members.now.entries)) }
 {
     let text = text_at(members, "answer", Field::Answer)?;
     checked(alloc, text.as_bytes(), FormFault::Range(Field::Answer))
@@ -138,7 +140,7 @@ fn answer_among(alloc: Global, members: &Map<String, Value>) -> Result<AnswerTex
 
 /// The answer that a body spells.
 pub(crate) fn read_answer(alloc: Global, body: &[u8]) -> Result<AnswerText, RequestFault>
-    ensures { Gives (λ t. t) result (answer_in body.now) }
+    ensures { GivesForm (λ t. t) result (answer_in_body body.now) }
 {
     let members = read_object(alloc, body, &["answer"])?;
     let answer = answer_among(alloc, &members);
@@ -148,7 +150,7 @@ pub(crate) fn read_answer(alloc: Global, body: &[u8]) -> Result<AnswerText, Requ
 
 /// The puzzle text among the members.
 fn text_among(alloc: Global, members: &Map<String, Value>) -> Result<PuzzleText, RequestFault>
-    ensures { Gives (λ t. t) result (text_among (members_view members.now.entries)) }
+    ensures { GivesForm (λ t. t) result (text_among (members_view members.now.entries)) }
 {
     let text = text_at(members, "text", Field::Text)?;
     checked(alloc, text.as_bytes(), FormFault::Range(Field::Text))
@@ -156,7 +158,7 @@ fn text_among(alloc: Global, members: &Map<String, Value>) -> Result<PuzzleText,
 
 /// The puzzle text that a body spells.
 pub(crate) fn read_text(alloc: Global, body: &[u8]) -> Result<PuzzleText, RequestFault>
-    ensures { Gives (λ t. t) result (text_in body.now) }
+    ensures { GivesForm (λ t. t) result (text_in_body body.now) }
 {
     let members = read_object(alloc, body, &["text"])?;
     let text = text_among(alloc, &members);
@@ -166,7 +168,7 @@ pub(crate) fn read_text(alloc: Global, body: &[u8]) -> Result<PuzzleText, Reques
 
 /// The budget among the members.
 fn budget_among(members: &Map<String, Value>) -> Result<Budget, RequestFault>
-    ensures { Gives (λ n. n) result (budget_among (members_view members.now.entries)) }
+    ensures { GivesForm (λ n. n) result (budget_among (members_view members.now.entries)) }
 {
     let budget = integer_at(members, "budget", Field::Budget)?;
     in_range(budget, FormFault::Range(Field::Budget))
@@ -174,7 +176,7 @@ fn budget_among(members: &Map<String, Value>) -> Result<Budget, RequestFault>
 
 /// The budget that a body spells.
 pub(crate) fn read_budget(alloc: Global, body: &[u8]) -> Result<Budget, RequestFault>
-    ensures { Gives (λ n. n) result (budget_in body.now) }
+    ensures { GivesForm (λ n. n) result (budget_in_body body.now) }
 {
     let members = read_object(alloc, body, &["budget"])?;
     let budget = budget_among(&members);
@@ -187,7 +189,7 @@ fn protest_among(
     alloc: Global,
     members: &Map<String, Value>,
 ) -> Result<(PuzzleNumber, ProtestText), RequestFault>
-    ensures { Gives (λ protest. protest) result (protest_among (members_view members.now.entries)) }
+    ensures { GivesForm (λ protest. protest) result (protest_among (members_view members.now.entries)) }
 {
     let number = integer_at(members, "number", Field::Number)?;
     let number = in_range(number, FormFault::Range(Field::Number))?;
@@ -201,7 +203,7 @@ pub(crate) fn read_protest(
     alloc: Global,
     body: &[u8],
 ) -> Result<(PuzzleNumber, ProtestText), RequestFault>
-    ensures { Gives (λ protest. protest) result (protest_in body.now) }
+    ensures { GivesForm (λ protest. protest) result (protest_in_body body.now) }
 {
     let members = read_object(alloc, body, &["number", "text"])?;
     let protest = protest_among(alloc, &members);
@@ -211,7 +213,7 @@ pub(crate) fn read_protest(
 
 /// The points of a ruling.
 fn points_of(integer: i128) -> Result<RulingPoints, RequestFault>
-    ensures { Gives (λ points. points) result (points_in integer) }
+    ensures { GivesForm (λ points. points) result (points_in integer) }
 {
     let outside = RequestFault::Form(FormFault::Range(Field::Points));
     let Ok(points) = i16::try_from(integer) else {
@@ -222,7 +224,7 @@ fn points_of(integer: i128) -> Result<RulingPoints, RequestFault>
 
 /// The ruling of these points; where the protest isn't upheld there are none.
 fn ruling_of(points: RulingPoints, upheld: bool) -> Result<Ruling, RequestFault>
-    ensures { Gives (λ ruling. ruling) result (ruling_from points upheld) }
+    ensures { GivesForm (λ ruling. ruling) result (ruling_from points upheld) }
 {
     if upheld {
         Ok(Ruling::Upheld(points))
@@ -235,7 +237,7 @@ fn ruling_of(points: RulingPoints, upheld: bool) -> Result<Ruling, RequestFault>
 
 /// The ruling among the members.
 fn ruling_among(members: &Map<String, Value>) -> Result<Ruling, RequestFault>
-    ensures { Gives (λ ruling. ruling) result (ruling_among (members_view members.now.entries)) }
+    ensures { GivesForm (λ ruling. ruling) result (ruling_among (members_view members.now.entries)) }
 {
     let points = points_of(integer_at(members, "points", Field::Points)?)?;
     let upheld = flag_at(members, "upheld", Field::Upheld)?;
@@ -244,7 +246,7 @@ fn ruling_among(members: &Map<String, Value>) -> Result<Ruling, RequestFault>
 
 /// The ruling that a body spells.
 pub(crate) fn read_ruling(alloc: Global, body: &[u8]) -> Result<Ruling, RequestFault>
-    ensures { Gives (λ ruling. ruling) result (ruling_in body.now) }
+    ensures { GivesForm (λ ruling. ruling) result (ruling_in_body body.now) }
 {
     let members = read_object(alloc, body, &["points", "upheld"])?;
     let ruling = ruling_among(&members);

@@ -2,7 +2,7 @@
 ghost use Rattle.std.specs.Prelude.{◌≡◌, IfOk, OnErr};
 ghost use Rattle.std.specs.Time.{system_time_nanos};
 ghost use Rattle.std.specs.declared.time.SystemTime.{SystemTime};
-ghost use Rattle.hall_http.specs.Clock.{moment_at, read_by, IsOfReading};
+ghost use Rattle.hall_http.specs.Clock.{moment_of_nanos, read_by, IsOfReading};
 
 use crate::connection::Clock;
 use hall_policy::Moment;
@@ -11,7 +11,7 @@ use std::{io, time};
 
 /// The moment of a reading of the system's clock: its whole seconds since 1970, where a moment can be so late.
 pub fn moment_of(reading: SystemTime) -> Option<Moment>
-    ensures { result ≡ moment_at (system_time_nanos reading) }
+    ensures { result ≡ moment_of_nanos (system_time_nanos reading) }
 {
     let since = reading.duration_since(UNIX_EPOCH).ok()?;
     Moment::new(since.as_secs())

@@ -3,7 +3,7 @@
 ghost use Rattle.std.specs.Prelude.{◌≡◌, ◌≤◌, ◌<◌, ◌+◌, ℕ, Option, length, true, false};
 ghost use Rattle.hall_http.specs.Head.{IsUnfinishedBelow};
 ghost use Rattle.hall_http.specs.Outgoing.{outgoing_text};
-ghost use Rattle.hall_http.specs.Resting.{Rests};
+ghost use Rattle.hall_http.specs.Resting.{HasRested};
 ghost use Rattle.hall_http.specs.Steps.{pending, fresh, IsAfterHearing, IsAfterSending, IsAfterEnd, Looks, gated};
 ghost use Rattle.hall_http.specs.Steps.{KeepsWaiting, then_of};
 
@@ -154,7 +154,7 @@ impl Connection {
         routes: &Routes,
         responder: &mut H,
     ) -> bool
-        ensures rests { Rests H.rests responder.old responder.new }
+        ensures rests { HasRested H.rests responder.old responder.new }
         ensures waits { result ≡ false → KeepsWaiting H.may_wait self.now responder.new }
     {
         let unread = self.inbox.unread();

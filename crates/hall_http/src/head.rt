@@ -4,7 +4,8 @@ ghost use Rattle.std.specs.Prelude.{MatchOption, option_map, codes};
 ghost use Rattle.std.specs.List.{list_any};
 ghost use Rattle.std.specs.Str.{str_eq_ignore_ascii_case};
 ghost use Rattle.httparse.specs.Spans.{IsHeaderWithin, header_bytes, span_bytes};
-ghost use Rattle.hall_http.specs.Head.{named, Header, Finds, Cuts, IsWhole, IsUnfinishedBelow, first_value};
+ghost use Rattle.hall_http.specs.Head.{headers_named, Header, Finds, Cuts, IsWholeRequest, IsUnfinishedBelow};
+ghost use Rattle.hall_http.specs.Head.{first_value};
 ghost use Rattle.hall_http.specs.Head.{IsLentBy, length_of_text, body_size, says_close};
 
 use httparse::Status;
@@ -72,7 +73,7 @@ fn has_name(bytes: &[u8], header: &HeaderSpan, name: &[u8]) -> bool
 /// The value of the one header of this name.
 fn find_value<'b>(bytes: &'b [u8], headers: &[HeaderSpan], name: &[u8]) -> Found<'b>
     requires { All (IsHeaderWithin (length bytes.now)) headers.now }
-    ensures { Finds result (named name.now (map (header_bytes bytes.now) headers.now)) }
+    ensures { Finds result (headers_named name.now (map (header_bytes bytes.now) headers.now)) }
 {
     let mut found = Found::None;
     for header in headers {
@@ -160,9 +161,9 @@ fn closes_after(bytes: &[u8], headers: &[HeaderSpan], version: u8) -> bool
 /// The value of the key's header, where there is one.
 fn shown_key<'b>(bytes: &'b [u8], headers: &[HeaderSpan]) -> Option<&'b [u8]>
     requires { All (IsHeaderWithin (length bytes.now)) headers.now }
-    ensures { length (named (codes "hall-key") (map (header_bytes bytes.now) headers.now)) ≤ 1 →
+    ensures { length (headers_named (codes "hall-key") (map (header_bytes bytes.now) headers.now)) ≤ 1 →
         option_map (λ value. value.now) result
-        ≡ first_value (named (codes "hall-key") (map (header_bytes bytes.now) headers.now)) }
+        ≡ first_value (headers_named (codes "hall-key") (map (header_bytes bytes.now) headers.now)) }
 {
     match find_value(bytes, headers, b"hall-key") {
         Found::One(value) => Some(value),
@@ -214,7 +215,7 @@ pub(crate) fn cut_from(bytes: &[u8], least: usize) -> Cut<'_>
 
 /// The request that the bytes are, where they are one and no more.
 pub(crate) fn read_raw_request(bytes: &[u8]) -> Option<RawRequest<'_>>
-    ensures { MatchOption result (¬ (IsWhole bytes.now)) (IsLentBy bytes.now) }
+    ensures { MatchOption result (¬ (IsWholeRequest bytes.now)) (IsLentBy bytes.now) }
 {
     match cut_request(bytes) {
         Cut::Whole { size, request } => {

@@ -1,9 +1,9 @@
 //! One request, read as what it asks for.
 ghost use Rattle.std.specs.Prelude.{◌≡◌, IfOk, Ok, codes, option_and_then, option_map};
 ghost use Rattle.std.specs.Str.{bytes_eq};
-ghost use Rattle.hall_http.specs.Given.{Finds};
+ghost use Rattle.hall_http.specs.Given.{FindsForm};
 ghost use Rattle.hall_http.specs.Parts.{parts_seen};
-ghost use Rattle.hall_http.specs.Request.{key_in, PutOf, PutPuzzleAt, PuzzleAt, put_round_at};
+ghost use Rattle.hall_http.specs.Request.{caller_key_in, PutOf, PutPuzzleAt, PuzzleAt, put_round_at};
 ghost use Rattle.hall_http.specs.Request.{ActionAt, ActionOf, AsksFor};
 
 use crate::body::{read_answer, read_budget, read_protest, read_ruling, read_text};
@@ -21,7 +21,7 @@ use std::alloc::{AllocError, Global};
 
 /// The caller's key; none where none is shown, or what is shown isn't of a key's form.
 fn key_of(alloc: Global, shown: Option<&[u8]>) -> Result<Option<Key>, AllocError>
-    ensures { IfOk result (λ key. key ≡ option_and_then key_in (option_map (λ text. text.now) shown.entry)) }
+    ensures { IfOk result (λ key. key ≡ option_and_then caller_key_in (option_map (λ text. text.now) shown.entry)) }
 {
     let Some(text) = shown else {
         return Ok(None);
@@ -35,7 +35,7 @@ fn key_of(alloc: Global, shown: Option<&[u8]>) -> Result<Option<Key>, AllocError
 
 /// The puzzle that a text spells, to be put under the key.
 fn put_of(alloc: Global, key: PuzzleKey, text: &[u8]) -> Result<Action, RequestFault>
-    ensures { Finds result (PutOf key text.now) }
+    ensures { FindsForm result (PutOf key text.now) }
 {
     match parse_puzzle(alloc, text) {
         Ok(puzzle) => Ok(Action::PutPuzzle { key, puzzle }),
@@ -48,7 +48,7 @@ fn put_of(alloc: Global, key: PuzzleKey, text: &[u8]) -> Result<Action, RequestF
 
 /// The puzzle that the body's text spells, to be put under the key that the path names.
 fn put_puzzle_at(alloc: Global, parts: &Parts, body: &[u8]) -> Result<Action, RequestFault>
-    ensures { Finds result (PutPuzzleAt (parts_seen parts.now) body.now) }
+    ensures { FindsForm result (PutPuzzleAt (parts_seen parts.now) body.now) }
 {
     let key = puzzle_key(alloc, parts)?;
     let text = read_text(alloc, body)?;
@@ -62,7 +62,7 @@ fn puzzle_at(
     parts: &Parts,
     body: &[u8],
 ) -> Result<Action, RequestFault>
-    ensures { Finds result
+    ensures { FindsForm result
         (PuzzleAt (bytes_eq method.now (codes "PUT")) method.now (parts_seen parts.now) body.now) }
 {
     if method == b"PUT".as_slice() {
@@ -79,7 +79,7 @@ fn certify_at(
     parts: &Parts,
     body: &[u8],
 ) -> Result<Action, RequestFault>
-    ensures { Finds result (ActionAt method.now Resource.Certificate (parts_seen parts.now) body.now) }
+    ensures { FindsForm result (ActionAt method.now Resource.Certificate (parts_seen parts.now) body.now) }
 {
     let key = puzzle_by(alloc, method, b"POST", parts)?;
     let budget = read_budget(alloc, body)?;
@@ -88,7 +88,7 @@ fn certify_at(
 
 /// The draft of the round that the path names, by the sheet that the body is.
 fn put_round_at(alloc: Global, parts: &Parts, body: &[u8]) -> Result<Action, RequestFault>
-    ensures { Finds result (λ outcome. outcome ≡ put_round_at (parts_seen parts.now) body.now) }
+    ensures { FindsForm result (λ outcome. outcome ≡ put_round_at (parts_seen parts.now) body.now) }
 {
     let round = word(alloc, parts.first)?;
     let sheet = read_round(alloc, body)?;
@@ -102,7 +102,7 @@ fn round_at(
     parts: &Parts,
     body: &[u8],
 ) -> Result<Action, RequestFault>
-    ensures { Finds result (ActionAt method.now Resource.Round (parts_seen parts.now) body.now) }
+    ensures { FindsForm result (ActionAt method.now Resource.Round (parts_seen parts.now) body.now) }
 {
     if method == b"PUT".as_slice() {
         return put_round_at(alloc, parts, body);
@@ -118,7 +118,7 @@ fn submit_at(
     parts: &Parts,
     body: &[u8],
 ) -> Result<Action, RequestFault>
-    ensures { Finds result (ActionAt method.now Resource.Answer (parts_seen parts.now) body.now) }
+    ensures { FindsForm result (ActionAt method.now Resource.Answer (parts_seen parts.now) body.now) }
 {
     let round = round_by(alloc, method, b"PUT", parts)?;
     let number = puzzle_number(parts.second)?;
@@ -139,7 +139,7 @@ fn protest_at(
     parts: &Parts,
     body: &[u8],
 ) -> Result<Action, RequestFault>
-    ensures { Finds result (ActionAt method.now Resource.Protest (parts_seen parts.now) body.now) }
+    ensures { FindsForm result (ActionAt method.now Resource.Protest (parts_seen parts.now) body.now) }
 {
     let round = round_by(alloc, method, b"PUT", parts)?;
     let token = word(alloc, parts.second)?;
@@ -159,7 +159,7 @@ fn rule_protest_at(
     parts: &Parts,
     body: &[u8],
 ) -> Result<Action, RequestFault>
-    ensures { Finds result (ActionAt method.now Resource.Ruling (parts_seen parts.now) body.now) }
+    ensures { FindsForm result (ActionAt method.now Resource.Ruling (parts_seen parts.now) body.now) }
 {
     let round = round_by(alloc, method, b"PUT", parts)?;
     let entrant = word(alloc, parts.second)?;
@@ -181,7 +181,7 @@ fn action_at(
     parts: &Parts,
     body: &[u8],
 ) -> Result<Action, RequestFault>
-    ensures { Finds result (ActionAt method.now resource (parts_seen parts.now) body.now) }
+    ensures { FindsForm result (ActionAt method.now resource (parts_seen parts.now) body.now) }
 {
     match resource {
         Resource::People => {
@@ -232,7 +232,7 @@ fn action_of(
     path: &[u8],
     body: &[u8],
 ) -> Result<Action, RequestFault>
-    ensures { Finds result (ActionOf method.now path.now body.now) }
+    ensures { FindsForm result (ActionOf method.now path.now body.now) }
 {
     let (resource, parts) = resource_of(routes, path)?;
     action_at(alloc, method, resource, &parts, body)
@@ -244,7 +244,7 @@ pub(crate) fn request_of(
     routes: &Routes,
     raw: &RawRequest<'_>,
 ) -> Result<Request, RequestFault>
-    ensures { Finds result (AsksFor raw.now) }
+    ensures { FindsForm result (AsksFor raw.now) }
 {
     let action = action_of(alloc, routes, raw.method, raw.path, raw.body)?;
     let key = key_of(alloc, raw.key)?;

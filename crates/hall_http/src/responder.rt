@@ -5,7 +5,7 @@ ghost use Rattle.hall_store.specs.Store.{Kept};
 ghost use Rattle.hall_http.specs.Answered.{answer_text};
 ghost use Rattle.hall_http.specs.Head.{IsLentBy};
 ghost use Rattle.hall_http.specs.Request.{ReachesStore};
-ghost use Rattle.hall_http.specs.Serving.{GoesOn, IsAnswered, WaitsForSearch};
+ghost use Rattle.hall_http.specs.Serving.{GoesOn, IsAnsweredOver, WaitsForSearch};
 ghost use Rattle.hall_http.specs.declared.answer.Answer.TheVariants as Answer;
 
 use crate::answer::{Answer, answer_raw_request, prepare_raw_request};
@@ -53,7 +53,7 @@ pub(crate) trait Responder {
 }
 
 impl<S: Store> Responder for Desk<S> {
-    ghost answers = { IsAnswered (λ desk. S.content (kept_by desk)) };
+    ghost answers = { IsAnsweredOver (λ desk. S.content (kept_by desk)) };
 
     ghost goes_on = { GoesOn (λ desk. S.content (kept_by desk)) };
 

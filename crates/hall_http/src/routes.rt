@@ -4,7 +4,7 @@ ghost use Rattle.std.specs.List.{list_all};
 ghost use Rattle.std.specs.Char.{is_ascii};
 ghost use Rattle.matchit.specs.Params.{walk};
 ghost use Rattle.hall_policy.specs.Reading.{of_kind};
-ghost use Rattle.hall_http.specs.Given.{Gives};
+ghost use Rattle.hall_http.specs.Given.{GivesForm};
 ghost use Rattle.hall_http.specs.Routes.{routes, found, rows_from, are_free, parts_of, resource_in, ascii_path};
 ghost use Rattle.hall_http.specs.Routes.{by_method, puzzle_number, puzzle_key_in, puzzle_by, round_by};
 ghost use Rattle.hall_http.specs.Parts.{parts_seen, AllAscii};
@@ -180,7 +180,7 @@ fn is_ascii(path: &[u8]) -> bool
 
 /// The path as a text, where it is ASCII.
 fn path_text(path: &[u8]) -> Result<&str, RequestFault>
-    ensures { Gives (λ text. text.now) result (ascii_path path.now) }
+    ensures { GivesForm (λ text. text.now) result (ascii_path path.now) }
 {
     if !is_ascii(path) {
         return Err(NO_ROUTE);
@@ -196,7 +196,7 @@ pub(crate) fn resource_of<'p>(
     routes: &Routes,
     path: &'p [u8],
 ) -> Result<(Resource, Parts<'p>), RequestFault>
-    ensures { Gives (λ at. (at.0, parts_seen at.1)) result (resource_in path.now) }
+    ensures { GivesForm (λ at. (at.0, parts_seen at.1)) result (resource_in path.now) }
 {
     let path = path_text(path)?;
     find(routes, path).ok_or(NO_ROUTE)
@@ -204,7 +204,7 @@ pub(crate) fn resource_of<'p>(
 
 /// Nothing, where the method is this one.
 pub(crate) fn by_method(method: &[u8], name: &[u8]) -> Result<(), RequestFault>
-    ensures { Gives (λ u. u) result (by_method method.now name.now) }
+    ensures { GivesForm (λ u. u) result (by_method method.now name.now) }
 {
     if method == name {
         Ok(())
@@ -215,7 +215,7 @@ pub(crate) fn by_method(method: &[u8], name: &[u8]) -> Result<(), RequestFault>
 
 /// The number of a puzzle in a round.
 pub(crate) fn puzzle_number(text: &str) -> Result<PuzzleNumber, RequestFault>
-    ensures { Gives (λ n. n) result (puzzle_number text.now) }
+    ensures { GivesForm (λ n. n) result (puzzle_number text.now) }
 {
     let number = read_decimal(text.as_bytes()).ok_or(NO_ROUTE)?;
     PuzzleNumber::new(number).ok_or(NO_ROUTE)
@@ -224,14 +224,14 @@ pub(crate) fn puzzle_number(text: &str) -> Result<PuzzleNumber, RequestFault>
 /// The parameter that is a text of this kind.
 pub(crate) fn word<K: TextKind>(alloc: Global, text: &str) -> Result<Checked<K>, RequestFault>
     requires { (byte : ℕ) → IsTrue (K.allows byte) → byte < 128 }
-    ensures { Gives (λ t. t) result (of_kind FormFault.NoRoute K.LEAST K.MOST K.allows text.now) }
+    ensures { GivesForm (λ t. t) result (of_kind FormFault.NoRoute K.LEAST K.MOST K.allows text.now) }
 {
     checked(alloc, text.as_bytes(), FormFault::NoRoute)
 }
 
 /// The key of the puzzle that the path names.
 pub(crate) fn puzzle_key(alloc: Global, parts: &Parts) -> Result<PuzzleKey, RequestFault>
-    ensures { Gives (λ key. key) result (puzzle_key_in (parts_seen parts.now)) }
+    ensures { GivesForm (λ key. key) result (puzzle_key_in (parts_seen parts.now)) }
 {
     Ok(PuzzleKey {
         author: word(alloc, parts.first)?,
@@ -246,7 +246,7 @@ pub(crate) fn puzzle_by(
     name: &[u8],
     parts: &Parts,
 ) -> Result<PuzzleKey, RequestFault>
-    ensures { Gives (λ key. key) result (puzzle_by method.now name.now (parts_seen parts.now)) }
+    ensures { GivesForm (λ key. key) result (puzzle_by method.now name.now (parts_seen parts.now)) }
 {
     by_method(method, name)?;
     puzzle_key(alloc, parts)
@@ -259,7 +259,7 @@ pub(crate) fn round_by(
     name: &[u8],
     parts: &Parts,
 ) -> Result<RoundId, RequestFault>
-    ensures { Gives (λ id. id) result (round_by method.now name.now (parts_seen parts.now)) }
+    ensures { GivesForm (λ id. id) result (round_by method.now name.now (parts_seen parts.now)) }
 {
     by_method(method, name)?;
     word(alloc, parts.first)

@@ -3,8 +3,8 @@ ghost use Rattle.std.specs.Prelude.{◌≡◌, ◌<◌, ◌==◌, ℕ, IsTrue, O
 ghost use Rattle.std.specs.List.{list_all, position};
 ghost use Rattle.std.specs.Char.{is_ascii_digit};
 ghost use Rattle.hall_policy.specs.Reading.{of_kind};
-ghost use Rattle.hall_http.specs.Given.{Gives};
-ghost use Rattle.hall_http.specs.Words.{cut, after_front, is_decimal, number_in};
+ghost use Rattle.hall_http.specs.Given.{GivesForm};
+ghost use Rattle.hall_http.specs.Words.{cut, after_front, is_decimal, decimal_in};
 
 use crate::form::{FormFault, RequestFault};
 use hall_policy::{Checked, TextKind};
@@ -54,7 +54,7 @@ fn is_decimal(text: &[u8]) -> bool
 
 /// The number that the text writes in decimal, without leading zeros.
 pub(crate) fn read_decimal(text: &[u8]) -> Option<u64>
-    ensures { result ≡ number_in text.now }
+    ensures { result ≡ decimal_in text.now }
 {
     if !is_decimal(text) {
         return None;
@@ -75,7 +75,7 @@ pub(crate) fn checked<K: TextKind>(
     fault: FormFault,
 ) -> Result<Checked<K>, RequestFault>
     requires { (byte : ℕ) → IsTrue (K.allows byte) → byte < 128 }
-    ensures { Gives (λ t. t) result (of_kind fault K.LEAST K.MOST K.allows text.now) }
+    ensures { GivesForm (λ t. t) result (of_kind fault K.LEAST K.MOST K.allows text.now) }
 {
     let Ok(text) = str::from_utf8(text) else {
         return Err(RequestFault::Form(fault));

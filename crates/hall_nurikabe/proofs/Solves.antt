@@ -10,7 +10,7 @@ use Rattle.hall_grid.specs.Rule.{Names}
 use Rattle.hall_grid.specs.Answer.{Breaks, BreaksNurikabe, AreBroken}
 use Rattle.hall_grid.specs.Board.{Board, cells}
 use Rattle.hall_grid.specs.Nurikabe.{IsNumbered, IsWall, IsWhite}
-use Rattle.hall_solve.specs.Question.{IsFilling, IsPartial, Solves}
+use Rattle.hall_solve.specs.Question.{IsQuestionFilling, IsPartial, Solves}
 use Rattle.hall_solve.specs.Puzzle.{IsRight, question_of}
 use Rattle.hall_nurikabe.proofs.Marks.{numbered_below}
 
@@ -19,20 +19,20 @@ pub no_rule_broken : (board : Board) (f : List ℕ) → board.kind ≡ Nurikabe 
 no_rule_broken board f kind right rule h = right rule (subst (λ k. Breaks k board f rule) (sym kind) h)
 
 -- a value of a filling is white or wall
-pub white_or_wall : (board : Board) (f : List ℕ) (cell : ℕ) → IsFilling (question_of Nurikabe board) f → cell < cells board.size → (IsWall board.size f cell → ⊥)
+pub white_or_wall : (board : Board) (f : List ℕ) (cell : ℕ) → IsQuestionFilling (question_of Nurikabe board) f → cell < cells board.size → (IsWall board.size f cell → ⊥)
     → get_or f cell 0 ≡ 0
 white_or_wall board f cell filling low not_wall =
     let small = filling.in_range cell low in
     elim (cases_eq (get_or f cell 0) 1) [ inl e ↦ absurd (not_wall (low, e)) | inr ne ↦ omega arith ]
 
-pub wall_or_white : (board : Board) (f : List ℕ) (cell : ℕ) → IsFilling (question_of Nurikabe board) f → cell < cells board.size → (IsWhite board.size f cell → ⊥)
+pub wall_or_white : (board : Board) (f : List ℕ) (cell : ℕ) → IsQuestionFilling (question_of Nurikabe board) f → cell < cells board.size → (IsWhite board.size f cell → ⊥)
     → get_or f cell 0 ≡ 1
 wall_or_white board f cell filling low not_white =
     let small = filling.in_range cell low in
     elim (cases_eq (get_or f cell 0) 0) [ inl e ↦ absurd (not_white (low, e)) | inr ne ↦ omega arith ]
 
 -- a cell with a number is white in each right filling
-pub number_is_white : (board : Board) → board.kind ≡ Nurikabe → (f : List ℕ) (cell : ℕ) → length board.clues ≡ cells board.size → IsFilling (question_of Nurikabe board) f → IsRight board f
+pub number_is_white : (board : Board) → board.kind ≡ Nurikabe → (f : List ℕ) (cell : ℕ) → length board.clues ≡ cells board.size → IsQuestionFilling (question_of Nurikabe board) f → IsRight board f
     → IsNumbered board cell → get_or f cell 0 ≡ 0
 number_is_white board kind f cell whole filling right numbered =
     white_or_wall board f cell filling (let low = numbered_below board cell numbered in omega arith) (λ w. no_rule_broken board f kind right N1 (cell, numbered, w))

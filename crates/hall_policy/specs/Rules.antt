@@ -35,14 +35,14 @@ TheRound world action P =
     (id : List ℕ) × (round : Round) × (round_named action ≡ Some id) × (get world.rounds id ≡ Some round) × P round
 
 -- the round has this entry at some number
-abbrev pub Lists : World → List ℕ → Entry → Type 0
-Lists world round entry = (number : ℕ) × (place_of world round number ≡ Some entry)
+abbrev pub ListsEntry : World → List ℕ → Entry → Type 0
+ListsEntry world round entry = (number : ℕ) × (place_of world round number ≡ Some entry)
 
 -- the puzzle stands in that round, which is released
 abbrev pub StandsReleased : World → PuzzleKey → List ℕ → Type 0
 StandsReleased world key id =
     (round : Round) × (entry : Entry) × (get world.rounds id ≡ Some round) × IsTrue round.released
-    × Lists world id entry × (entry.puzzle ≡ key)
+    × ListsEntry world id entry × (entry.puzzle ≡ key)
 
 -- the puzzle is kept in the state one
 abbrev pub IsCertified : World → PuzzleKey → Type 0
@@ -119,7 +119,7 @@ IsMissing world caller ListRounds = ⊥
 abbrev pub ListsAuthor : World → Option (List ℕ) → List ℕ → Type 0
 ListsAuthor world named author =
     (id : List ℕ) × (round : Round) × (entry : Entry) × (named ≡ Some id) × (get world.rounds id ≡ Some round)
-    × Lists world id entry × (entry.puzzle.author ≡ author)
+    × ListsEntry world id entry × (entry.puzzle.author ≡ author)
 
 -- the person of that name is a tester of the round that is named
 abbrev pub ListsTester : World → Option (List ℕ) → List ℕ → Type 0
@@ -186,7 +186,7 @@ IsAfterStart world action t = TheRound world action (λ round. round.start ≤ t
 -- 11. The puzzle stands in a released round; for Release, a puzzle of the round stands in another released round.
 abbrev pub IsInReleasedRound : World → Action → Type 0
 IsInReleasedRound world (Release id) =
-    (entry : Entry) × (other : List ℕ) × Lists world id entry × (other ≢ id)
+    (entry : Entry) × (other : List ℕ) × ListsEntry world id entry × (other ≢ id)
     × StandsReleased world entry.puzzle other
 IsInReleasedRound world (PutPuzzle key puzzle) = (id : List ℕ) × StandsReleased world key id
 IsInReleasedRound world _ = ⊥
@@ -194,7 +194,7 @@ IsInReleasedRound world _ = ⊥
 -- 12. A puzzle of the round isn't in state one; one that isn't kept has none.
 abbrev pub IsUncertified : World → Action → Type 0
 IsUncertified world action =
-    (id : List ℕ) × (entry : Entry) × (round_named action ≡ Some id) × Lists world id entry
+    (id : List ℕ) × (entry : Entry) × (round_named action ≡ Some id) × ListsEntry world id entry
     × ¬ (IsCertified world entry.puzzle)
 
 -- 13. The round is there and is no draft.

@@ -4,6 +4,7 @@ use Rattle.std.specs.List.{list_all}
 use Rattle.std.specs.declared.cmp.Ordering.{Ordering}
 use Rattle.std.specs.Ordering.{nat_cmp}
 use Rattle.std.specs.Cmp.Lexicographic.{slice_cmp}
+use Rattle.hall_grid.specs.Printable.{is_printable}
 
 -- the order of bytes
 abbrev pub text_cmp : List ℕ → List ℕ → Ordering
@@ -26,10 +27,6 @@ is_word_byte b = (nat_le 97 b && nat_le b 122) || (nat_le 48 b && nat_le b 57) |
 -- these and A to Z
 abbrev pub is_key_byte : ℕ → Bool
 is_key_byte b = (nat_le 65 b && nat_le b 90) || is_word_byte b
-
--- bytes 32 to 126
-abbrev pub is_printable : ℕ → Bool
-is_printable b = nat_le 32 b && nat_le b 126
 
 -- The limits of each kind of texts, as whoever reads a text or speaks of one is told them: the fewest bytes, the most,
 -- and which may stand in it.

@@ -1,7 +1,8 @@
 //! Checked texts: names, labels, round ids, tokens, keys, titles and longer texts, each within its limits.
 ghost use Rattle.std.specs.Prelude.{◌≡◌, ◌↔◌, ℕ, List, Bool, IsTrue, IfSome, IfNone, ◌<◌, ◌≤◌};
 ghost use Rattle.std.specs.String.{string_bytes};
-ghost use Rattle.hall_policy.specs.Text.{IsOfKind, is_word_byte, is_key_byte, is_printable};
+ghost use Rattle.hall_grid.specs.Printable.{is_printable};
+ghost use Rattle.hall_policy.specs.Text.{IsOfKind, is_word_byte, is_key_byte};
 
 use std::alloc::AllocError;
 use std::cmp::Ordering;
@@ -183,7 +184,7 @@ impl Alphabet for Letters {
 pub struct Printable {}
 
 impl Alphabet for Printable {
-    ghost use Rattle.hall_policy.specs.Text.{is_printable};
+    ghost use Rattle.hall_grid.specs.Printable.{is_printable};
 
     ghost allows = { is_printable };
 

@@ -12,7 +12,8 @@ use Rattle.hall_policy.specs.declared.record.AnswerRow.{AnswerRow}
 use Rattle.hall_policy.specs.declared.record.Mode.{Mode}
 use Rattle.hall_policy.specs.declared.record.Mode.TheVariants.{Instant, Sealed}
 use Rattle.hall_score.specs.Total.{is_right, same_puzzle, has_right_before, has_later, does_count, cost_of, does_score, points_for, points_of}
-use Rattle.hall_score.specs.Laws.{AreNumbered, IsRight, IsAnswerTo, IsFirstRight, IsLast, wrong_before_n, GivesInstant, GivesSealed, Gives, Solves}
+use Rattle.hall_score.specs.Laws.{AreNumbered, IsAnswerRight, IsAnswerTo, IsFirstRight, IsLast, wrong_before_n}
+use Rattle.hall_score.specs.Laws.{GivesInstant, GivesSealed, GivesPoints, CountsAsRight}
 use Rattle.hall_score.proofs.Gains.{sum_once}
 use Rattle.hall_score.proofs.Once.{counts_once}
 use Rattle.hall_score.proofs.Scores.{no_points, true_false}
@@ -185,7 +186,7 @@ rising = record { either = λ a b. le_either a.n b.n; through = λ a b c h g. om
 falling : IsRanking (λ a b. b.n ≤ a.n)
 falling = record { either = λ a b. le_either b.n a.n; through = λ a b c h g. omega arith }
 
-first_right : (answers : List AnswerRow) (number : ℕ) → ((row : AnswerRow) × IsFirstRight number answers row) ⊎ ((row : AnswerRow) → IsAnswerTo number answers row → ¬ (IsRight row))
+first_right : (answers : List AnswerRow) (number : ℕ) → ((row : AnswerRow) × IsFirstRight number answers row) ⊎ ((row : AnswerRow) → IsAnswerTo number answers row → ¬ (IsAnswerRight row))
 first_right answers number = elim (best_of (λ a b. a.n ≤ b.n) (λ row. (row.key.number == number) && is_right row) rising answers) [
   | inl found ↦
       let parts = two_parts (found.0.key.number == number) (is_right found.0) found.1.passes in
@@ -274,7 +275,7 @@ given_is round answers numbered number row to counts =
     ∙ (ap gain here ∙ ap (λ b. cond b (points_for round answers row) 0) (eqb_same row.key.number number to.puzzle))
 
 -- what an answer gives where it scores
-scored : (round : RoundRow) (answers : List AnswerRow) (row : AnswerRow) (entry : Entry) (mode : Mode) → round.round.mode ≡ mode → entry_at round.puzzles row.key.number ≡ Some entry → does_count mode answers row ≡ true → IsRight row → points_for round answers row ≡ entry.points - cost_of round mode answers row
+scored : (round : RoundRow) (answers : List AnswerRow) (row : AnswerRow) (entry : Entry) (mode : Mode) → round.round.mode ≡ mode → entry_at round.puzzles row.key.number ≡ Some entry → does_count mode answers row ≡ true → IsAnswerRight row → points_for round answers row ≡ entry.points - cost_of round mode answers row
 scored round answers row entry mode is at counts right =
     let scores : does_score round answers row ≡ true =
     both_true (is_some (entry_at round.puzzles row.key.number)) (does_count round.round.mode answers row && is_right row) (ap is_some at)
@@ -327,13 +328,13 @@ gives_sealed round answers numbered number entry at mode = elim (last_answer ans
 ]
 
 -- each puzzle gives what the rules say, by the round's mode
-pub gives_by : (mode : Mode) (round : RoundRow) (answers : List AnswerRow) → AreNumbered answers → (number : ℕ) (entry : Entry) → entry_at round.puzzles number ≡ Some entry → round.round.mode ≡ mode → Gives mode round.round.penalty answers number entry.points (sum_at (points_for round answers) answers number)
+pub gives_by : (mode : Mode) (round : RoundRow) (answers : List AnswerRow) → AreNumbered answers → (number : ℕ) (entry : Entry) → entry_at round.puzzles number ≡ Some entry → round.round.mode ≡ mode → GivesPoints mode round.round.penalty answers number entry.points (sum_at (points_for round answers) answers number)
 gives_by Instant round answers numbered number entry at is = gives_instant round answers numbered number entry at is
 gives_by Sealed round answers numbered number entry at is = gives_sealed round answers numbered number entry at is
 
 -- ---- the answers that score
 -- a right answer that counts
-pub solves_counts : (mode : Mode) (number : ℕ) (answers : List AnswerRow) (row : AnswerRow) → Solves mode number answers row → IsAnswerTo number answers row × (does_count mode answers row ≡ true) × IsRight row
+pub solves_counts : (mode : Mode) (number : ℕ) (answers : List AnswerRow) (row : AnswerRow) → CountsAsRight mode number answers row → IsAnswerTo number answers row × (does_count mode answers row ≡ true) × IsAnswerRight row
 solves_counts Instant number answers row is = (is.to, first_counts answers number row is, is.right)
 solves_counts Sealed number answers row is = (is.0.to, last_counts answers number row is.0, is.1)
 
@@ -344,7 +345,7 @@ negated false e = refl
 pub any_at : (p : AnswerRow → Bool) (rows : List AnswerRow) (row : AnswerRow) → Contains rows row → p row ≡ true → list_any p rows ≡ true
 any_at p rows row among passes = list_any_at p rows among.0 row among.1 (subst (λ r. p r ≡ true) (sym among.2) passes)
 
-pub counts_solves : (mode : Mode) (number : ℕ) (answers : List AnswerRow) (row : AnswerRow) → IsAnswerTo number answers row → does_count mode answers row ≡ true → is_right row ≡ true → Solves mode number answers row
+pub counts_solves : (mode : Mode) (number : ℕ) (answers : List AnswerRow) (row : AnswerRow) → IsAnswerTo number answers row → does_count mode answers row ≡ true → is_right row ≡ true → CountsAsRight mode number answers row
 counts_solves Instant number answers row to counts right = record {
   to = to;
   right = eqb_true row.verdict 0 right;

@@ -9,7 +9,8 @@ use Rattle.hall_policy.specs.declared.record.AnswerRow.{AnswerRow}
 use Rattle.hall_policy.specs.declared.record.Mode.{Mode}
 use Rattle.hall_policy.specs.declared.record.Mode.TheVariants.{Instant, Sealed}
 use Rattle.hall_score.specs.Total.{is_right}
-use Rattle.hall_score.specs.Laws.{AreNumbered, IsRight, IsLast, wrong_before_n, GivesInstant, GivesSealed, Gives, IsLastMoment, AreMinutes, IsBonus, upheld_points, TotalsAreOne}
+use Rattle.hall_score.specs.Laws.{AreNumbered, IsAnswerRight, IsLast, wrong_before_n, GivesInstant, GivesSealed}
+use Rattle.hall_score.specs.Laws.{GivesPoints, IsLastMoment, AreMinutes, IsBonus, upheld_points, TotalsAreOne}
 use Rattle.hall_score.proofs.Counting.{by_bool, eqb_true, eqb_same, not_less, less, same_default, sum_equal}
 use Rattle.hall_score.proofs.Scores.{entry_of, true_false}
 
@@ -48,15 +49,15 @@ sealed_once : (answers : List AnswerRow) → AreNumbered answers → (number poi
 sealed_once answers numbered number points one other (inl a) (inl b) =
     let same : a.0 ≡ b.0 = one_last answers numbered number a.0 b.0 a.1 b.1 in
     by_bool (one ≡ other) (is_right a.0)
-    (λ e. let right = eqb_true a.0.verdict 0 e in a.2 right ∙ sym (b.2 (subst IsRight same right)))
+    (λ e. let right = eqb_true a.0.verdict 0 e in a.2 right ∙ sym (b.2 (subst IsAnswerRight same right)))
     (λ e.
-    let wrong : ¬ (IsRight a.0) = λ right. true_false (is_right a.0) (eqb_same a.0.verdict 0 right) e in
-    a.3 wrong ∙ sym (b.3 (λ right. wrong (subst IsRight (sym same) right))))
+    let wrong : ¬ (IsAnswerRight a.0) = λ right. true_false (is_right a.0) (eqb_same a.0.verdict 0 right) e in
+    a.3 wrong ∙ sym (b.3 (λ right. wrong (subst IsAnswerRight (sym same) right))))
 sealed_once answers numbered number points one other (inl a) (inr b) = absurd (b.0 a.0 a.1.to)
 sealed_once answers numbered number points one other (inr a) (inl b) = absurd (a.0 b.0 b.1.to)
 sealed_once answers numbered number points one other (inr a) (inr b) = a.1 ∙ sym b.1
 
-gives_once : (mode : Mode) (penalty : ℕ) (answers : List AnswerRow) → AreNumbered answers → (number points one other : ℕ) → Gives mode penalty answers number points one → Gives mode penalty answers number points other → one ≡ other
+gives_once : (mode : Mode) (penalty : ℕ) (answers : List AnswerRow) → AreNumbered answers → (number points one other : ℕ) → GivesPoints mode penalty answers number points one → GivesPoints mode penalty answers number points other → one ≡ other
 gives_once Instant penalty answers numbered number points one other a b = instant_once penalty answers number points one other a b
 gives_once Sealed penalty answers numbered number points one other a b = sealed_once answers numbered number points one other a b
 

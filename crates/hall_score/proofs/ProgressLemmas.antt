@@ -9,17 +9,17 @@ use Rattle.std.proofs.lemmas.Bool.Decides.{nat_tests}
 use Rattle.hall_policy.specs.declared.record.AnswerRow.{AnswerRow}
 use Rattle.hall_policy.specs.declared.record.RoundRow.{RoundRow}
 use Rattle.hall_score.specs.Total.{is_solved, are_all_solved, minutes_left, points_for, bonus_of, answer_points}
-use Rattle.hall_score.specs.Progress.{Gives, IsScoreOf, AreTriesOf, AreTriedBefore, IsProgressOf}
+use Rattle.hall_score.specs.Progress.{HasScoreParts, IsScoreOf, AreTriesOf, AreTriedBefore, IsProgressOf}
 use Rattle.hall_score.specs.declared.entrant.Score.{Score}
 use Rattle.hall_score.specs.declared.entrant.Progress.{Progress}
 use Rattle.hall_score.proofs.Gains.{one_if}
 use Rattle.hall_score.proofs.Scores.{score_append, none_scores}
 use Rattle.hall_score.proofs.Tried.{alone}
 
-none_at_all : (round : RoundRow) (score : Score) → Gives score 0 0 0 → IsScoreOf round [] score
+none_at_all : (round : RoundRow) (score : Score) → HasScoreParts score 0 0 0 → IsScoreOf round [] score
 none_at_all round score gives = none_scores round [] score (λ k d within. absurd (omega arith)) gives.0 gives.1 gives.2
 
-pub first_work : (round : RoundRow) (row : AnswerRow) (progress : Progress) → progress.number ≡ row.key.number → progress.n ≡ row.n → Gives progress.closed 0 0 0 → AreTriesOf round (row ∷ []) progress.tries → IsProgressOf round (row ∷ []) progress
+pub first_work : (round : RoundRow) (row : AnswerRow) (progress : Progress) → progress.number ≡ row.key.number → progress.n ≡ row.n → HasScoreParts progress.closed 0 0 0 → AreTriesOf round (row ∷ []) progress.tries → IsProgressOf round (row ∷ []) progress
 first_work round row progress number n gives tries = record {
   closed = [];
   current = row ∷ [];

@@ -13,7 +13,8 @@ use Rattle.hall_policy.specs.declared.record.RoundRow.{RoundRow}
 use Rattle.hall_policy.specs.declared.record.AnswerRow.{AnswerRow}
 use Rattle.hall_policy.specs.declared.record.ProtestRow.{ProtestRow}
 use Rattle.hall_score.specs.Total.{is_right, does_count, does_score, points_for, is_solved, are_all_solved, last_moment, minutes_left, bonus_of, answer_points, protest_points}
-use Rattle.hall_score.specs.Laws.{Solves, IsNumberIn, IsAllSolved, AreMinutes, IsBonus, upheld_points, TotalsAreRight, TotalsKeepNoOrder}
+use Rattle.hall_score.specs.Laws.{CountsAsRight, IsNumberIn, IsAllSolved, AreMinutes, IsBonus, upheld_points}
+use Rattle.hall_score.specs.Laws.{TotalsAreRight, TotalsKeepNoOrder}
 use Rattle.hall_score.proofs.Counting.{by_bool, two_parts, both_true, eqb_true, eqb_same, not_less, less, any_at, sum_at, sum_by_number, gives_by, solves_counts, counts_solves}
 use Rattle.hall_score.proofs.Permuted.{above, total_of_permutes}
 use Rattle.hall_score.proofs.Scores.{no_points, entry_within, has_entry, true_false}
@@ -29,14 +30,14 @@ own_number round answers row =
 
 -- ---- the answers that solve
 -- an answer that scores solves its puzzle, which is one of the round's
-score_solves : (round : RoundRow) (answers : List AnswerRow) (row : AnswerRow) → Contains answers row → does_score round answers row ≡ true → IsNumberIn round row.key.number × Solves round.round.mode row.key.number answers row
+score_solves : (round : RoundRow) (answers : List AnswerRow) (row : AnswerRow) → Contains answers row → does_score round answers row ≡ true → IsNumberIn round row.key.number × CountsAsRight round.round.mode row.key.number answers row
 score_solves round answers row among scores =
     let parts = two_parts (is_some (entry_at round.puzzles row.key.number)) (does_count round.round.mode answers row && is_right row) scores in
     let counts = two_parts (does_count round.round.mode answers row) (is_right row) parts.1 in
     (entry_within round.puzzles row.key.number parts.0, counts_solves round.round.mode row.key.number answers row (record { given = among; puzzle = refl }) counts.0 counts.1)
 
 -- an answer that solves a puzzle of the round scores
-solves_score : (round : RoundRow) (answers : List AnswerRow) (number : ℕ) (row : AnswerRow) → IsNumberIn round number → Solves round.round.mode number answers row → Contains answers row × (row.key.number ≡ number) × (does_score round answers row ≡ true)
+solves_score : (round : RoundRow) (answers : List AnswerRow) (number : ℕ) (row : AnswerRow) → IsNumberIn round number → CountsAsRight round.round.mode number answers row → Contains answers row × (row.key.number ≡ number) × (does_score round answers row ≡ true)
 solves_score round answers number row within solves =
     let is = solves_counts round.round.mode number answers row solves in
     let entry : is_some (entry_at round.puzzles row.key.number) ≡ true = ap (λ k. is_some (entry_at round.puzzles k)) is.0.puzzle ∙ has_entry round.puzzles number within.0 within.1 in (
@@ -47,15 +48,15 @@ solves_score round answers number row within solves =
     )
 
 -- a solved puzzle has an answer that solves it
-solver : (round : RoundRow) (answers : List AnswerRow) (number : ℕ) → is_solved round answers number ≡ true → (row : AnswerRow) × Solves round.round.mode number answers row
+solver : (round : RoundRow) (answers : List AnswerRow) (number : ℕ) → is_solved round answers number ≡ true → (row : AnswerRow) × CountsAsRight round.round.mode number answers row
 solver round answers number e =
     let found = Any-from_list_any (λ row. (row.key.number == number) && does_score round answers row) answers e in
     let row = found.1 in
     let parts = two_parts (row.key.number == number) (does_score round answers row) found.4 in
     let solves = (score_solves round answers row (found.0, found.2, found.3) parts.1).1 in
-    (row, subst (λ k. Solves round.round.mode k answers row) (eqb_true row.key.number number parts.0) solves)
+    (row, subst (λ k. CountsAsRight round.round.mode k answers row) (eqb_true row.key.number number parts.0) solves)
 
-solved : (round : RoundRow) (answers : List AnswerRow) (number : ℕ) (row : AnswerRow) → IsNumberIn round number → Solves round.round.mode number answers row → is_solved round answers number ≡ true
+solved : (round : RoundRow) (answers : List AnswerRow) (number : ℕ) (row : AnswerRow) → IsNumberIn round number → CountsAsRight round.round.mode number answers row → is_solved round answers number ≡ true
 solved round answers number row within solves =
     let is = solves_score round answers number row within solves in
     any_at (λ row. (row.key.number == number) && does_score round answers row) answers row is.0
@@ -79,7 +80,7 @@ solved_all round answers all = list_all-from_AllPass (is_solved round answers) (
     ap (is_solved round answers) at ∙ solved round answers (1 + k) here.0 (omega arith, omega (arith, index)) here.1)
 
 -- ---- the bonus
-greatest : (round : RoundRow) (answers : List AnswerRow) (number : ℕ) (row : AnswerRow) → IsNumberIn round number → Solves round.round.mode number answers row → row.moment ≤ last_moment round answers
+greatest : (round : RoundRow) (answers : List AnswerRow) (number : ℕ) (row : AnswerRow) → IsNumberIn round number → CountsAsRight round.round.mode number answers row → row.moment ≤ last_moment round answers
 greatest round answers number row within solves =
     let is = solves_score round answers number row within solves in
     let last = last_moment round answers in
@@ -90,7 +91,7 @@ greatest round answers number row within solves =
 
 abbrev IsReached : RoundRow → List AnswerRow → ℕ → Type 0
 IsReached round answers moment =
-    (number : ℕ) × (row : AnswerRow) × IsNumberIn round number × Solves round.round.mode number answers row × (row.moment ≡ moment)
+    (number : ℕ) × (row : AnswerRow) × IsNumberIn round number × CountsAsRight round.round.mode number answers row × (row.moment ≡ moment)
 
 reached : (round : RoundRow) (answers : List AnswerRow) (moment : ℕ) → last_moment round answers ≡ moment → 0 < length round.puzzles → IsAllSolved round answers → IsReached round answers moment
 reached round answers zero is some all =

@@ -10,7 +10,7 @@ use Rattle.hall_policy.specs.declared.record.AnswerRow.{AnswerRow}
 use Rattle.hall_policy.specs.declared.record.RoundRow.{RoundRow}
 use Rattle.hall_policy.specs.declared.record.Mode.TheVariants.{Instant, Sealed}
 use Rattle.hall_score.specs.Total.{is_right, same_puzzle, has_right_before, has_later, does_count, wrong_before, cost_of, does_score, points_for, points_of}
-use Rattle.hall_score.specs.Progress.{Gives, IsScoreOf, AreTriesOf, AreTriedBefore}
+use Rattle.hall_score.specs.Progress.{HasScoreParts, IsScoreOf, AreTriesOf, AreTriedBefore}
 use Rattle.hall_score.specs.declared.entrant.Score.{Score}
 use Rattle.hall_score.specs.declared.entrant.Tries.{Tries}
 use Rattle.hall_score.proofs.Gains.{gain_append, gain_none, gain_agree, solved_by, one_if, solved_none}
@@ -203,7 +203,7 @@ outside_scores_not round rows row k same none =
     first_false (is_some (entry_at round.puzzles row.key.number)) (does_count round.round.mode rows row && is_right row) entry
 
 -- answers to no puzzle of the round give nothing
-pub outside_none : (round : RoundRow) (rows : List AnswerRow) (row : AnswerRow) (c : Score) → AreTriedBefore rows row → is_some (entry_at round.puzzles row.key.number) ≡ false → Gives c 0 0 0 → IsScoreOf round (rows ++ row ∷ []) c
+pub outside_none : (round : RoundRow) (rows : List AnswerRow) (row : AnswerRow) (c : Score) → AreTriedBefore rows row → is_some (entry_at round.puzzles row.key.number) ≡ false → HasScoreParts c 0 0 0 → IsScoreOf round (rows ++ row ∷ []) c
 outside_none round rows row c before none gives =
     let all = rows ++ row ∷ [] in
     none_scores round all c
@@ -214,7 +214,7 @@ by_entry : (P : Type 0) (b : Bool) → (b ≡ true → P) → (b ≡ false → P
 by_entry P true there missing = there refl
 by_entry P false there missing = missing refl
 
-pub instant_first : (round : RoundRow) (rows : List AnswerRow) (row : AnswerRow) (tries : Tries) (cost : ℕ) (c : Score) → cost ≡ tries.wrong * round.round.penalty → round.round.mode ≡ Instant → AreTriedBefore rows row → AreTriesOf round rows tries → tries.has_right ≡ false → is_right row ≡ true → (is_some (entry_at round.puzzles row.key.number) ≡ true → Gives c (points_of (entry_at round.puzzles row.key.number) - cost) 1 row.moment) → (is_some (entry_at round.puzzles row.key.number) ≡ false → Gives c 0 0 0) → IsScoreOf round (rows ++ row ∷ []) c
+pub instant_first : (round : RoundRow) (rows : List AnswerRow) (row : AnswerRow) (tries : Tries) (cost : ℕ) (c : Score) → cost ≡ tries.wrong * round.round.penalty → round.round.mode ≡ Instant → AreTriedBefore rows row → AreTriesOf round rows tries → tries.has_right ≡ false → is_right row ≡ true → (is_some (entry_at round.puzzles row.key.number) ≡ true → HasScoreParts c (points_of (entry_at round.puzzles row.key.number) - cost) 1 row.moment) → (is_some (entry_at round.puzzles row.key.number) ≡ false → HasScoreParts c 0 0 0) → IsScoreOf round (rows ++ row ∷ []) c
 instant_first round rows row tries cost c charged mode before is none right within outside =
     by_entry (IsScoreOf round (rows ++ row ∷ []) c) (is_some (entry_at round.puzzles row.key.number))
     (λ entry.
@@ -228,18 +228,18 @@ pub instant_other : (round : RoundRow) (rows : List AnswerRow) (row : AnswerRow)
 instant_other round rows row tries mode before is idle =
     instant_stays round rows row tries.score mode before (sym (ap (λ b. is_right row && not b) is.has_right) ∙ idle) is.score
 
-pub sealed_right : (round : RoundRow) (rows : List AnswerRow) (row : AnswerRow) (c : Score) → round.round.mode ≡ Sealed → AreTriedBefore rows row → is_right row ≡ true → (is_some (entry_at round.puzzles row.key.number) ≡ true → Gives c (points_of (entry_at round.puzzles row.key.number) - 0) 1 row.moment) → (is_some (entry_at round.puzzles row.key.number) ≡ false → Gives c 0 0 0) → IsScoreOf round (rows ++ row ∷ []) c
+pub sealed_right : (round : RoundRow) (rows : List AnswerRow) (row : AnswerRow) (c : Score) → round.round.mode ≡ Sealed → AreTriedBefore rows row → is_right row ≡ true → (is_some (entry_at round.puzzles row.key.number) ≡ true → HasScoreParts c (points_of (entry_at round.puzzles row.key.number) - 0) 1 row.moment) → (is_some (entry_at round.puzzles row.key.number) ≡ false → HasScoreParts c 0 0 0) → IsScoreOf round (rows ++ row ∷ []) c
 sealed_right round rows row c mode before right within outside =
     by_entry (IsScoreOf round (rows ++ row ∷ []) c) (is_some (entry_at round.puzzles row.key.number))
     (λ entry. let gives = within entry in sealed_scores round rows row c mode before right entry (omega (arith, gives.0)) gives.1 gives.2)
     (λ entry. outside_none round rows row c before entry (outside entry))
 
-pub sealed_wrong : (round : RoundRow) (rows : List AnswerRow) (row : AnswerRow) (c : Score) → round.round.mode ≡ Sealed → AreTriedBefore rows row → is_right row ≡ false → Gives c 0 0 0 → IsScoreOf round (rows ++ row ∷ []) c
+pub sealed_wrong : (round : RoundRow) (rows : List AnswerRow) (row : AnswerRow) (c : Score) → round.round.mode ≡ Sealed → AreTriedBefore rows row → is_right row ≡ false → HasScoreParts c 0 0 0 → IsScoreOf round (rows ++ row ∷ []) c
 sealed_wrong round rows row c mode before wrong gives =
     sealed_none round rows row c mode before (second_false (is_some (entry_at round.puzzles row.key.number)) (is_right row) wrong) gives.0 gives.1 gives.2
 
 -- ---- the counts
-pub no_tries : (round : RoundRow) (tries : Tries) → tries.wrong ≡ 0 → tries.has_right ≡ false → Gives tries.score 0 0 0 → AreTriesOf round [] tries
+pub no_tries : (round : RoundRow) (tries : Tries) → tries.wrong ≡ 0 → tries.has_right ≡ false → HasScoreParts tries.score 0 0 0 → AreTriesOf round [] tries
 no_tries round tries wrong none gives = record {
   wrong = wrong;
   has_right = none;

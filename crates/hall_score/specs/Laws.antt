@@ -17,8 +17,8 @@ abbrev pub AreNumbered : List AnswerRow → Type 0
 AreNumbered answers = AllPairs (λ a b. a.key.number ≡ b.key.number → a.n ≢ b.n) answers
 
 -- an answer is right where it breaks no rule
-abbrev pub IsRight : AnswerRow → Type 0
-IsRight row = row.verdict ≡ 0
+abbrev pub IsAnswerRight : AnswerRow → Type 0
+IsAnswerRight row = row.verdict ≡ 0
 
 -- the answer is one of these, and to the puzzle of this number
 pub record IsAnswerTo (number : ℕ) (answers : List AnswerRow) (row : AnswerRow) : Type 0 where
@@ -28,8 +28,8 @@ pub record IsAnswerTo (number : ℕ) (answers : List AnswerRow) (row : AnswerRow
 -- the first right answer to the puzzle: no right answer to it has a smaller n
 pub record IsFirstRight (number : ℕ) (answers : List AnswerRow) (row : AnswerRow) : Type 0 where
   pub to : IsAnswerTo number answers row
-  pub right : IsRight row
-  pub first : (other : AnswerRow) → IsAnswerTo number answers other → IsRight other → row.n ≤ other.n
+  pub right : IsAnswerRight row
+  pub first : (other : AnswerRow) → IsAnswerTo number answers other → IsAnswerRight other → row.n ≤ other.n
 
 -- the last answer to the puzzle: no answer to it has a greater n
 pub record IsLast (number : ℕ) (answers : List AnswerRow) (row : AnswerRow) : Type 0 where
@@ -47,24 +47,25 @@ abbrev pub GivesInstant : ℕ → List AnswerRow → ℕ → ℕ → ℕ → Typ
 GivesInstant penalty answers number points given =
     ((row : AnswerRow) × IsFirstRight number answers row
     × (given ≡ points - wrong_before_n number answers row.n * penalty))
-    ⊎ (((row : AnswerRow) → IsAnswerTo number answers row → ¬ (IsRight row)) × (given ≡ 0))
+    ⊎ (((row : AnswerRow) → IsAnswerTo number answers row → ¬ (IsAnswerRight row)) × (given ≡ 0))
 
 -- what a puzzle gives in a sealed round: the last answer counts, and gives the puzzle's points if it is right, and 0
 -- if it is wrong; no answer gives 0
 abbrev pub GivesSealed : List AnswerRow → ℕ → ℕ → ℕ → Type 0
 GivesSealed answers number points given =
-    ((row : AnswerRow) × IsLast number answers row × (IsRight row → given ≡ points) × (¬ (IsRight row) → given ≡ 0))
+    ((row : AnswerRow) × IsLast number answers row × (IsAnswerRight row → given ≡ points)
+    × (¬ (IsAnswerRight row) → given ≡ 0))
     ⊎ (((row : AnswerRow) → ¬ (IsAnswerTo number answers row)) × (given ≡ 0))
 
 -- what the puzzle of this number and these points gives, by the round's mode
-abbrev pub Gives : Mode → ℕ → List AnswerRow → ℕ → ℕ → ℕ → Type 0
-Gives Instant penalty answers number points given = GivesInstant penalty answers number points given
-Gives Sealed penalty answers number points given = GivesSealed answers number points given
+abbrev pub GivesPoints : Mode → ℕ → List AnswerRow → ℕ → ℕ → ℕ → Type 0
+GivesPoints Instant penalty answers number points given = GivesInstant penalty answers number points given
+GivesPoints Sealed penalty answers number points given = GivesSealed answers number points given
 
 -- the answer counts for the puzzle, and is right
-abbrev pub Solves : Mode → ℕ → List AnswerRow → AnswerRow → Type 0
-Solves Instant number answers row = IsFirstRight number answers row
-Solves Sealed number answers row = IsLast number answers row × IsRight row
+abbrev pub CountsAsRight : Mode → ℕ → List AnswerRow → AnswerRow → Type 0
+CountsAsRight Instant number answers row = IsFirstRight number answers row
+CountsAsRight Sealed number answers row = IsLast number answers row × IsAnswerRight row
 
 -- a puzzle of the round has this number
 abbrev pub IsNumberIn : RoundRow → ℕ → Type 0
@@ -73,14 +74,14 @@ IsNumberIn round number = (1 ≤ number) × (number ≤ length round.puzzles)
 -- every puzzle of the round has a right answer that counts
 abbrev pub IsAllSolved : RoundRow → List AnswerRow → Type 0
 IsAllSolved round answers =
-    (number : ℕ) → IsNumberIn round number → (row : AnswerRow) × Solves round.round.mode number answers row
+    (number : ℕ) → IsNumberIn round number → (row : AnswerRow) × CountsAsRight round.round.mode number answers row
 
 -- the greatest moment of the right answers that count
 pub record IsLastMoment (round : RoundRow) (answers : List AnswerRow) (moment : ℕ) : Type 0 where
   pub reached : (number : ℕ) × (row : AnswerRow) × IsNumberIn round number
-      × Solves round.round.mode number answers row × (row.moment ≡ moment)
+      × CountsAsRight round.round.mode number answers row × (row.moment ≡ moment)
   pub greatest : (number : ℕ) (row : AnswerRow) → IsNumberIn round number →
-      Solves round.round.mode number answers row → row.moment ≤ moment
+      CountsAsRight round.round.mode number answers row → row.moment ≤ moment
 
 -- so many whole minutes go from the moment to the end, rounded down: below 0 where the moment lies after the end
 pub record AreMinutes (moment end : ℕ) (minutes : ℤ) : Type 0 where
@@ -105,7 +106,7 @@ upheld_points (row ∷ rows) = ruling_points row.ruling +ℤ upheld_points rows
 pub record IsTotal (round : RoundRow) (answers : List AnswerRow) (protests : List ProtestRow) (total : ℤ) : Type 0 where
   pub given : ℕ → ℕ
   pub each : (number : ℕ) (entry : Entry) → entry_at round.puzzles number ≡ Some entry →
-      Gives round.round.mode round.round.penalty answers number entry.points (given number)
+      GivesPoints round.round.mode round.round.penalty answers number entry.points (given number)
   pub bonus : ℤ
   pub bonus_is : IsBonus round answers bonus
   pub total_is : total ≡ pos (sum_by given (range_with_len 1 (length round.puzzles))) +ℤ bonus +ℤ upheld_points protests

@@ -15,8 +15,8 @@ pub record IsScoreOf (round : RoundRow) (rows : List AnswerRow) (score : Score) 
   pub last : score.last ≡ last_moment round rows
 
 -- the parts of a score
-abbrev pub Gives : Score → ℕ → ℕ → ℕ → Type 0
-Gives score points solved last = (score.points ≡ points) × (score.solved ≡ solved) × (score.last ≡ last)
+abbrev pub HasScoreParts : Score → ℕ → ℕ → ℕ → Type 0
+HasScoreParts score points solved last = (score.points ≡ points) × (score.solved ≡ solved) × (score.last ≡ last)
 
 -- these are to the same puzzle as the answer, and before it
 abbrev pub AreTriedBefore : List AnswerRow → AnswerRow → Type 0

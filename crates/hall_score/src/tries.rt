@@ -5,7 +5,7 @@ ghost use Rattle.hall_policy.specs.declared.record.AnswerRow.{AnswerRow};
 ghost use Rattle.hall_policy.specs.declared.record.RoundRow.{RoundRow};
 ghost use Rattle.hall_policy.specs.declared.record.Mode.TheVariants.{Instant, Sealed};
 ghost use Rattle.hall_score.specs.Total.{points_of};
-ghost use Rattle.hall_score.specs.Progress.{Gives, IsScoreOf, AreTriesOf, AreTriedBefore};
+ghost use Rattle.hall_score.specs.Progress.{HasScoreParts, IsScoreOf, AreTriesOf, AreTriedBefore};
 
 use crate::entrant::{Score, Tries};
 use crate::points::{entry_at, is_right};
@@ -13,7 +13,7 @@ use hall_policy::{AnswerRow, Mode, RoundRow};
 
 /// What no answer gives.
 pub(crate) fn no_score() -> Score
-    ensures { Gives result 0 0 0 }
+    ensures { HasScoreParts result 0 0 0 }
 {
     Score {
         points: 0,
@@ -25,8 +25,8 @@ pub(crate) fn no_score() -> Score
 /// What a right answer gives where the wrong ones before it cost so much; nothing where the round has no such puzzle.
 fn score_of(round: &RoundRow, row: &AnswerRow, cost: u64) -> Score
     ensures within { is_some (entry_at round.now.puzzles row.now.key.number) ≡ true
-        → Gives result (points_of (entry_at round.now.puzzles row.now.key.number) - cost) 1 row.now.moment }
-    ensures outside { is_some (entry_at round.now.puzzles row.now.key.number) ≡ false → Gives result 0 0 0 }
+        → HasScoreParts result (points_of (entry_at round.now.puzzles row.now.key.number) - cost) 1 row.now.moment }
+    ensures outside { is_some (entry_at round.now.puzzles row.now.key.number) ≡ false → HasScoreParts result 0 0 0 }
     ensures once { result.solved ≤ 1 }
 {
     match entry_at(round.puzzles.as_slice(), row.key.number) {

@@ -8,9 +8,9 @@ use Rattle.hall_sheet.specs.declared.fault.Refusal.{Refusal}
 use Rattle.hall_sheet.specs.declared.fault.SheetFault.{SheetFault}
 use Rattle.hall_sheet.specs.declared.fault.SheetFault.TheVariants as fault
 use Rattle.hall_sheet.specs.declared.list.Listed.{Listed}
-use Rattle.hall_sheet.specs.Given.{Fails}
-use Rattle.hall_sheet.specs.List.{Rows, HasLeft, Takes, TakesHeader, IsListed, AddsRow}
-use Rattle.hall_sheet.specs.People.{person_in, people_from, people_in}
+use Rattle.hall_sheet.specs.Given.{SheetFails}
+use Rattle.hall_sheet.specs.List.{Rows, HasLeft, TakesRow, TakesHeader, IsListed, AddsRow}
+use Rattle.hall_sheet.specs.People.{person_after, people_from, people_in}
 
 -- the people so far, and those of the rows that are left, are the people of the bytes
 pub record Kept (bytes : List ℕ) (rows : Rows) (list : Listed) : Type 0 where
@@ -25,10 +25,10 @@ pub begun : (bytes : List ℕ) (rows : Rows) (list : Listed)
 begun bytes rows list h none = record { left = h.0; people = []; has = h.1; listed = none; so_far = h.2 }
 
 pub refused_header : (bytes : List ℕ) (e : SheetFault) (rows : Rows)
-    → TakesHeader (Err e) (records default_config (strip_bom bytes)) rows → Fails e (people_in bytes)
+    → TakesHeader (Err e) (records default_config (strip_bom bytes)) rows → SheetFails e (people_in bytes)
 refused_header bytes e rows h = h
 
-pub gone_on : (bytes : List ℕ) (a b : Rows) (c d : Listed) (row : Row) (k : Kept bytes a c) → Takes (Some row) k.left b
+pub gone_on : (bytes : List ℕ) (a b : Rows) (c d : Listed) (row : Row) (k : Kept bytes a c) → TakesRow (Some row) k.left b
     → AddsRow (Ok tt) k.people (fields_of row) d → Kept bytes b d
 gone_on bytes a b c d row k took adds = record {
   left = took.0;
@@ -48,16 +48,16 @@ nearer bytes a c d row k adds =
 
 fails_at : (e : SheetFault) (people : List Person) (row : Row) (left more : List (List (List ℕ)))
     (all : Result (List Person) Refusal) → left ≡ fields_of row ∷ more → all ≡ people_from people left
-    → Fails e (person_in people (fields_of row)) → Fails e all
+    → SheetFails e (person_after people (fields_of row)) → SheetFails e all
 fails_at fault.Memory people row left more all is so_far f = tt
 fails_at (fault.Refused r) people row left more all is so_far f = so_far ∙ rw (is, f) refl
 
 pub refused : (bytes : List ℕ) (a b : Rows) (c d : Listed) (row : Row) (e : SheetFault) (k : Kept bytes a c)
-    → Takes (Some row) k.left b → AddsRow (Err e) k.people (fields_of row) d → Fails e (people_in bytes)
+    → TakesRow (Some row) k.left b → AddsRow (Err e) k.people (fields_of row) d → SheetFails e (people_in bytes)
 refused bytes a b c d row e k took adds =
     fails_at e k.people row k.left took.0 (people_in bytes) took.1 k.so_far adds
 
-pub ended : (bytes : List ℕ) (a b : Rows) (c : Listed) (people : List Person) (k : Kept bytes a c) → Takes None k.left b
+pub ended : (bytes : List ℕ) (a b : Rows) (c : Listed) (people : List Person) (k : Kept bytes a c) → TakesRow None k.left b
     → people ≡ c.people.items → people_in bytes ≡ Ok people
 ended bytes a b c people k took is = k.so_far ∙ rw took (ap Ok (sym (is ∙ k.listed.people)))
 

@@ -8,7 +8,7 @@ use Rattle.std.proofs.lemmas.List.Splits.{slice_split-cons_no, slice_split_first
 use Rattle.std.proofs.lemmas.Slice.Eq.{bytes_eq-Decides}
 use Rattle.hall_policy.specs.declared.record.Roles.{Roles}
 use Rattle.hall_sheet.specs.Entry.{with_role}
-use Rattle.hall_sheet.specs.People.{words_in, is_role, is_among, are_distinct, roles_named, roles_in}
+use Rattle.hall_sheet.specs.People.{words_in, is_role, is_among, are_distinct, roles_named, roles_in_text}
 
 -- the roles that words name after these
 abbrev pub roles_from : Roles → List (List ℕ) → Option Roles
@@ -164,7 +164,7 @@ tells [] d a r e = rw (and_false d, and_false a, and_false r, and_false e, or_fa
 tells (word ∷ words) d a r e = next word words (tells words) d a r e
 
 -- all words of a text, from no role on
-pub all_words : (text : List ℕ) → roles_from (made false false false false) (words_in text) ≡ roles_in text
+pub all_words : (text : List ℕ) → roles_from (made false false false false) (words_in text) ≡ roles_in_text text
 all_words text = tells (words_in text) false false false false ∙ ap (chosen (roles_named (words_in text))) (and_true _)
   where
     and_true : (b : Bool) → (b && true) ≡ b

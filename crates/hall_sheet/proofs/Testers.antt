@@ -18,9 +18,9 @@ use Rattle.hall_sheet.specs.declared.fault.Refusal.{Refusal}
 use Rattle.hall_sheet.specs.declared.fault.Refusal.TheVariants as refusal
 use Rattle.hall_sheet.specs.declared.fault.SheetFault.{SheetFault}
 use Rattle.hall_sheet.specs.declared.fault.SheetFault.TheVariants as fault
-use Rattle.hall_sheet.specs.Given.{Fails}
+use Rattle.hall_sheet.specs.Given.{SheetFails}
 use Rattle.hall_sheet.specs.People.{is_among, are_distinct}
-use Rattle.hall_sheet.specs.Table.{texts_in}
+use Rattle.hall_sheet.specs.Table.{texts_field}
 use Rattle.hall_sheet.specs.Sheet.{names_in, named_testers_in}
 
 -- the names so far, and those of the texts that follow
@@ -47,7 +47,7 @@ other_text before more text r e = by (is_name text) refl
 
 pub no_name : {T : Type 0} (seen : T → List ℕ) (before : List (List ℕ)) (ts : List T) (i : ℕ) (t : T) (e : SheetFault)
     (all : Result (List (List ℕ)) Refusal) → i < length ts → all ≡ names_from before (map seen (drop i ts))
-    → Fails e (named (seen (get_or ts i t))) → Fails e all
+    → SheetFails e (named (seen (get_or ts i t))) → SheetFails e all
 no_name seen before ts i t fault.Memory all within so_far f = tt
 no_name seen before ts i t (fault.Refused r) all within so_far f =
     so_far ∙ rw (drop_more ts i t within) (other_text before (map seen (drop (i + 1) ts)) (seen (get_or ts i t)) r f)
@@ -87,14 +87,14 @@ names_are texts names e = by (list_all is_name texts) refl
 
 module _ (ms : Members) (texts names : List (List ℕ)) where
   -- the names of at most twenty texts, none of them twice
-  pub testers_are : texts_in field.Testers ms ≡ Ok texts → length texts ≤ 20 → names_in texts ≡ Ok names
+  pub testers_are : texts_field field.Testers ms ≡ Ok texts → length texts ≤ 20 → names_in texts ≡ Ok names
       → AreTesters names → named_testers_in ms ≡ Ok names
   unfolding named_testers_in
   testers_are read few named valid =
       rw (read, le-leb (length texts) 20 few, named, names_distinct names valid.different) refl
 
   -- or one of them twice
-  pub tester_repeated : texts_in field.Testers ms ≡ Ok texts → length texts ≤ 20 → names_in texts ≡ Ok names
+  pub tester_repeated : texts_field field.Testers ms ≡ Ok texts → length texts ≤ 20 → names_in texts ≡ Ok names
       → ¬ (AreTesters names) → named_testers_in ms ≡ Err refusal.Repeated
   unfolding named_testers_in
   tester_repeated read few named invalid =

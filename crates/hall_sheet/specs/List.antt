@@ -17,8 +17,8 @@ use Rattle.hall_policy.specs.declared.record.Person.{Person}
 use Rattle.hall_sheet.specs.declared.fault.Refusal.TheVariants.{Repeated}
 use Rattle.hall_sheet.specs.declared.fault.SheetFault.{SheetFault}
 use Rattle.hall_sheet.specs.declared.list.Listed.{Listed}
-use Rattle.hall_sheet.specs.Given.{Fails}
-use Rattle.hall_sheet.specs.People.{new_after, person_in, people_from, people_of}
+use Rattle.hall_sheet.specs.Given.{SheetFails}
+use Rattle.hall_sheet.specs.People.{new_after, person_after, people_from, people_of}
 
 -- an iterator over the rows of some bytes, between two rows
 abbrev pub Rows : Type 0
@@ -38,15 +38,15 @@ pub record HasLeft (rows : Rows) (left : List (List (List ℕ))) : Type 0 where
   pub are : left ≡ records_from default_config most (reader_state (owned_rows_reader rows)) bytes
 
 -- the first of the rows that were left was taken, or there was none
-abbrev pub Takes : Option Row → List (List (List ℕ)) → Rows → Type 0
-Takes None left rows = left ≡ []
-Takes (Some row) left rows = (more : List (List (List ℕ))) × (left ≡ fields_of row ∷ more) × HasLeft rows more
+abbrev pub TakesRow : Option Row → List (List (List ℕ)) → Rows → Type 0
+TakesRow None left rows = left ≡ []
+TakesRow (Some row) left rows = (more : List (List (List ℕ))) × (left ≡ fields_of row ∷ more) × HasLeft rows more
 
 -- the header was taken from the rows that were left, or there is none
 abbrev pub TakesHeader : Result (Unit {0}) SheetFault → List (List (List ℕ)) → Rows → Type 0
 TakesHeader (Ok done) left rows =
     (more : List (List (List ℕ))) × HasLeft rows more × (people_of left ≡ people_from [] more)
-TakesHeader (Err e) left rows = Fails e (people_of left)
+TakesHeader (Err e) left rows = SheetFails e (people_of left)
 
 -- the set has the texts that the people have, and no other
 abbrev pub AreTexts : (Person → List ℕ) → List Person → BTreeSet (List ℕ) → Type 0
@@ -68,5 +68,5 @@ Adds false before person listed = new_after before person ≡ Err Repeated
 -- the person of a row was added, or the row has none
 abbrev pub AddsRow : Result (Unit {0}) SheetFault → List Person → List (List ℕ) → Listed → Type 0
 AddsRow (Ok done) before fields listed =
-    (person : Person) × (person_in before fields ≡ Ok person) × IsListed listed (before ++ person ∷ [])
-AddsRow (Err e) before fields listed = Fails e (person_in before fields)
+    (person : Person) × (person_after before fields ≡ Ok person) × IsListed listed (before ++ person ∷ [])
+AddsRow (Err e) before fields listed = SheetFails e (person_after before fields)

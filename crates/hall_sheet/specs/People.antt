@@ -65,8 +65,8 @@ roles_named words = record {
 }
 
 -- the roles that a text names, where each of its words is a role and none stands twice
-abbrev pub roles_in : List ℕ → Option Roles
-roles_in text =
+abbrev pub roles_in_text : List ℕ → Option Roles
+roles_in_text text =
     if list_all is_role (words_in text) && are_distinct (words_in text) then Some (roles_named (words_in text))
     else None
 
@@ -76,7 +76,7 @@ spelled_in line =
     filled_in line
     >>= (λ _. as_word (of_kind (Range field.Name)) line.name)
     >>= (λ name. as_key (of_kind (Range field.Key)) line.key
-    >>= (λ key. or_fault (Range field.Roles) (roles_in line.roles)
+    >>= (λ key. or_fault (Range field.Roles) (roles_in_text line.roles)
     >>= (λ roles. Ok (record { name = name; key = key; roles = roles }))))
 
 -- the person of a record
@@ -90,8 +90,8 @@ new_after before person =
     >>= (λ _. Ok person)
 
 -- the person of the record after these people, who are at most 4,999
-abbrev pub person_in : List Person → List (List ℕ) → Result Person Refusal
-person_in before fields =
+abbrev pub person_after : List Person → List (List ℕ) → Result Person Refusal
+person_after before fields =
     unless (Range field.List) (nat_lt (length before) 5000)
     >>= (λ _. person_of fields)
     >>= new_after before
@@ -99,7 +99,7 @@ person_in before fields =
 -- these people, and then those of these records, as long as each spells one
 abbrev pub people_from : List Person → List (List (List ℕ)) → Result (List Person) Refusal
 people_from before [] = Ok before
-people_from before (first ∷ more) = person_in before first >>= (λ person. people_from (before ++ person ∷ []) more)
+people_from before (first ∷ more) = person_after before first >>= (λ person. people_from (before ++ person ∷ []) more)
 
 -- name,key,roles
 abbrev pub is_header : Fields → Bool

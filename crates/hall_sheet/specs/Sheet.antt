@@ -6,7 +6,8 @@ use Rattle.std.specs.List.{list_any, list_all}
 use Rattle.std.specs.Str.{bytes_eq, is_utf8}
 use Rattle.toml.specs.Data.{Members}
 use Rattle.toml.specs.Parse.{parse_document}
-use Rattle.hall_policy.specs.Text.{is_kind, is_printable, as_word, as_title}
+use Rattle.hall_grid.specs.Printable.{is_printable}
+use Rattle.hall_policy.specs.Text.{is_kind, as_word, as_title}
 use Rattle.hall_policy.specs.Reading.{◌>>=◌, or_fault, unless}
 use Rattle.hall_policy.specs.declared.record.Entry.{Entry}
 use Rattle.hall_policy.specs.declared.record.Mode.{Mode}
@@ -18,7 +19,7 @@ use Rattle.hall_sheet.specs.declared.fault.Refusal.{Refusal}
 use Rattle.hall_sheet.specs.declared.fault.Refusal.TheVariants as refusal
 use Rattle.hall_sheet.specs.declared.version.Version.{Version}
 use Rattle.hall_sheet.specs.declared.version.Version.TheVariants.{First, Second, Third}
-use Rattle.hall_sheet.specs.Table.{has_only, text_at, text_in, number_in, tables_in, texts_in}
+use Rattle.hall_sheet.specs.Table.{has_only, text_at, text_field, number_field, tables_field, texts_field}
 use Rattle.hall_sheet.specs.People.{are_distinct}
 use Rattle.hall_sheet.specs.Version.{version_in, version_or_first, sheet_fields}
 use Rattle.hall_sheet.specs.Start.{civil_in, start_in}
@@ -36,14 +37,14 @@ document_in bytes = unless refusal.Syntax (is_utf8 bytes) >>= (λ _. or_fault re
 abbrev pub are_listed : Members → Bool
 are_listed ms =
     has_only (sheet_fields (version_or_first ms)) ms
-    && list_all (has_only entry_fields) (unwrap_or (result_ok (tables_in field.Puzzle ms)) [])
+    && list_all (has_only entry_fields) (unwrap_or (result_ok (tables_field field.Puzzle ms)) [])
 
 -- the moment at which the clocks of the sheet's zone show its start
 abbrev pub zoned_start_in : Members → Result ℕ Refusal
 zoned_start_in ms = do
   start ← text_at field.Start ms
   civil ← or_fault refusal.Start (civil_in start)
-  zone ← text_in field.Zone 1 64 is_printable ms
+  zone ← text_field field.Zone 1 64 is_printable ms
   moment_in zone civil
 
 -- the moment at which the round starts
@@ -53,15 +54,15 @@ starts_in Second ms = zoned_start_in ms
 starts_in Third ms = zoned_start_in ms
 
 -- the mode of this name
-abbrev pub mode_of : List ℕ → Result Mode Refusal
-mode_of text =
+abbrev pub mode_named : List ℕ → Result Mode Refusal
+mode_named text =
     if bytes_eq text (codes "instant") then Ok Instant
     else if bytes_eq text (codes "sealed") then Ok Sealed
     else Err (refusal.Range field.Mode)
 
 -- how answers count
-abbrev pub mode_in : Members → Result Mode Refusal
-mode_in ms = text_at field.Mode ms >>= mode_of
+abbrev pub mode_in_sheet : Members → Result Mode Refusal
+mode_in_sheet ms = text_at field.Mode ms >>= mode_named
 
 -- the texts, where each of them is a name
 abbrev pub names_in : List (List ℕ) → Result (List (List ℕ)) Refusal
@@ -70,24 +71,24 @@ names_in texts = unless (refusal.Range field.Testers) (list_all (as_word is_kind
 -- those whom the sheet names as testers: at most twenty names, none twice
 unfoldable pub named_testers_in : Members → Result (List (List ℕ)) Refusal
 named_testers_in ms = do
-  texts ← texts_in field.Testers ms
+  texts ← texts_field field.Testers ms
   _ ← unless (refusal.Range field.Testers) (nat_le (length texts) 20)
   names ← names_in texts
   _ ← unless refusal.Repeated (are_distinct names)
   Ok names
 
 -- those who test the round: nobody in a version that names none
-abbrev pub testers_in : Version → Members → Result (List (List ℕ)) Refusal
-testers_in First ms = Ok []
-testers_in Second ms = Ok []
-testers_in Third ms = named_testers_in ms
+abbrev pub testers_in_sheet : Version → Members → Result (List (List ℕ)) Refusal
+testers_in_sheet First ms = Ok []
+testers_in_sheet Second ms = Ok []
+testers_in_sheet Third ms = named_testers_in ms
 
 -- a puzzle of the round, and the points for it
 unfoldable pub entry_in : Members → Result Entry Refusal
 entry_in ms = do
-  author ← as_word (text_in field.Author) ms
-  label ← as_word (text_in field.Label) ms
-  points ← number_in field.Points 1 1000 ms
+  author ← as_word (text_field field.Author) ms
+  label ← as_word (text_field field.Label) ms
+  points ← number_field field.Points 1 1000 ms
   Ok (record { puzzle = record { author = author; label = label }; points = points })
 
 -- the two entries are of one puzzle
@@ -106,7 +107,7 @@ entries_in before (ms ∷ more) = do
 -- the round's list: one to forty puzzles
 unfoldable pub list_in : Members → Result (List Entry) Refusal
 list_in ms = do
-  tables ← tables_in field.Puzzle ms
+  tables ← tables_field field.Puzzle ms
   _ ← unless (refusal.Range field.Puzzle) (nat_le 1 (length tables) && nat_le (length tables) 40)
   entries_in [] tables
 
@@ -114,14 +115,14 @@ list_in ms = do
 unfoldable pub fields_in : Members → Result Sheet Refusal
 fields_in ms = do
   version ← version_in ms
-  title ← as_title (text_in field.Title) ms
+  title ← as_title (text_field field.Title) ms
   start ← starts_in version ms
-  minutes ← number_in field.Minutes 1 1440 ms
-  protest_minutes ← number_in field.ProtestMinutes 0 10080 ms
-  mode ← mode_in ms
-  penalty ← number_in field.Penalty 0 1000 ms
-  bonus ← number_in field.Bonus 0 1000 ms
-  testers ← testers_in version ms
+  minutes ← number_field field.Minutes 1 1440 ms
+  protest_minutes ← number_field field.ProtestMinutes 0 10080 ms
+  mode ← mode_in_sheet ms
+  penalty ← number_field field.Penalty 0 1000 ms
+  bonus ← number_field field.Bonus 0 1000 ms
+  testers ← testers_in_sheet version ms
   puzzles ← list_in ms
   Ok (record {
     title = title;

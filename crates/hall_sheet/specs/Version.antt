@@ -8,7 +8,7 @@ use Rattle.hall_sheet.specs.declared.fault.Field.TheVariants as field
 use Rattle.hall_sheet.specs.declared.fault.Refusal.{Refusal}
 use Rattle.hall_sheet.specs.declared.version.Version.{Version}
 use Rattle.hall_sheet.specs.declared.version.Version.TheVariants.{First, Second, Third}
-use Rattle.hall_sheet.specs.Table.{number_in}
+use Rattle.hall_sheet.specs.Table.{number_field}
 
 -- the version of this number
 abbrev pub version_of : ℕ → Version
@@ -16,7 +16,7 @@ version_of number = if number == 1 then First else if number == 2 then Second el
 
 -- the version that a sheet is of: 1, 2 or 3
 abbrev pub version_in : Members → Result Version Refusal
-version_in ms = number_in field.Version 1 3 ms >>= (λ number. Ok (version_of number))
+version_in ms = number_field field.Version 1 3 ms >>= (λ number. Ok (version_of number))
 
 -- the same, and the first version where the sheet says none
 abbrev pub version_or_first : Members → Version

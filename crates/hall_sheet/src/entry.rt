@@ -5,7 +5,7 @@ ghost use Rattle.hall_policy.specs.HasRole.{HasRole};
 ghost use Rattle.hall_policy.specs.Reading.{or_fault};
 ghost use Rattle.hall_sheet.specs.Given.{Gives};
 ghost use Rattle.hall_sheet.specs.declared.fault.Refusal.TheVariants.{Syntax};
-ghost use Rattle.hall_sheet.specs.People.{three_in, filled_in, spelled_in, is_header, roles_in};
+ghost use Rattle.hall_sheet.specs.People.{three_in, filled_in, spelled_in, is_header, roles_in_text};
 ghost use Rattle.hall_sheet.specs.Entry.{line_seen, with_role};
 
 use crate::fault::{Field, Refusal, SheetFault};
@@ -109,7 +109,7 @@ fn with_role(roles: Roles, word: &str) -> Option<Roles>
 
 /// The roles that words joined by `+` name, where each word names one and none stands twice.
 fn read_roles(text: &str) -> Option<Roles>
-    ensures value { result ≡ roles_in text.now }
+    ensures value { result ≡ roles_in_text text.now }
     ensures some { IfSome result (λ roles. HasRole roles) }
 {
     let mut roles = NO_ROLES;
@@ -123,7 +123,7 @@ fn read_roles(text: &str) -> Option<Roles>
 
 /// The roles that words joined by `+` name, of which there is one at least.
 fn read_some_roles(text: &str) -> Option<SomeRoles>
-    ensures { result ≡ roles_in text.now }
+    ensures { result ≡ roles_in_text text.now }
 {
     SomeRoles::new(read_roles(text)?)
 }

@@ -1,6 +1,6 @@
 //! Why bytes are no entry list or round sheet.
 ghost use Rattle.std.specs.Prelude.{◌≡◌};
-ghost use Rattle.hall_sheet.specs.Fault.{name_of};
+ghost use Rattle.hall_sheet.specs.Fault.{field_name};
 
 use std::alloc::AllocError;
 use std::fmt;
@@ -32,7 +32,7 @@ pub enum Field {
 impl Field {
     /// Its name, as lists, sheets and refusals write it.
     pub fn name(self) -> &'static str
-        ensures { result.now ≡ name_of self }
+        ensures { result.now ≡ field_name self }
     {
         match self {
             Field::List => "list",

@@ -6,7 +6,7 @@ ghost use Rattle.hall_policy.specs.declared.record.Person.{Person};
 ghost use Rattle.hall_sheet.specs.declared.fault.SheetFault.TheVariants.{Memory};
 ghost use Rattle.hall_sheet.specs.Given.{Gives};
 ghost use Rattle.hall_sheet.specs.People.{texts_in, header_in, person_of, people_in};
-ghost use Rattle.hall_sheet.specs.List.{HasLeft, Takes, TakesHeader, IsListed, Adds, AddsRow};
+ghost use Rattle.hall_sheet.specs.List.{HasLeft, TakesRow, TakesHeader, IsListed, Adds, AddsRow};
 
 use crate::entry::read_line;
 use crate::fault::{Field, Refusal, SheetFault};
@@ -30,7 +30,8 @@ fn rows_of(alloc: Global, bytes: &[u8]) -> ByteRecordsIntoIter<&[u8]>
 
 /// The next row, where there is one.
 fn next_row(rows: &mut ByteRecordsIntoIter<&[u8]>) -> Result<Option<ByteRecord>, SheetFault>
-    ensures ok { (left : List (List (List ℕ))) → HasLeft rows.old left → IfOk result (λ row. Takes row left rows.new) }
+    ensures ok { (left : List (List (List ℕ))) → HasLeft rows.old left
+        → IfOk result (λ row. TakesRow row left rows.new) }
     ensures memory { IfErr result (λ e. e ≡ Memory) }
 {
     match rows.next() {

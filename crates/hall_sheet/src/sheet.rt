@@ -3,8 +3,9 @@ ghost use Rattle.std.specs.Prelude.{◌≡◌, [], map, IfOk};
 ghost use Rattle.std.specs.List.{list_any};
 ghost use Rattle.toml.specs.View.{table_view};
 ghost use Rattle.hall_sheet.specs.Given.{Gives};
-ghost use Rattle.hall_sheet.specs.Sheet.{document_in, are_listed, zoned_start_in, starts_in, mode_in, entry_in};
-ghost use Rattle.hall_sheet.specs.Sheet.{names_in, named_testers_in, testers_in, is_repeated, entries_in, list_in};
+ghost use Rattle.hall_sheet.specs.Sheet.{document_in, are_listed, zoned_start_in, starts_in, mode_in_sheet, entry_in};
+ghost use Rattle.hall_sheet.specs.Sheet.{names_in, named_testers_in, testers_in_sheet, is_repeated, entries_in};
+ghost use Rattle.hall_sheet.specs.Sheet.{list_in};
 ghost use Rattle.hall_sheet.specs.Sheet.{fields_in, sheet_in};
 
 use crate::fault::{Field, Refusal, SheetFault};
@@ -76,7 +77,7 @@ fn read_start(alloc: Global, table: &Table, version: Version) -> Result<Moment, 
 
 /// How answers count.
 fn read_mode(table: &Table) -> Result<Mode, SheetFault>
-    ensures { Gives (λ m. m) result (mode_in (table_view table.now)) }
+    ensures { Gives (λ m. m) result (mode_in_sheet (table_view table.now)) }
 {
     match text_at(table, Field::Mode)? {
         "instant" => Ok(Mode::Instant),
@@ -115,7 +116,7 @@ fn read_named_testers(alloc: Global, document: &Table) -> Result<Testers, SheetF
 
 /// Those who test the round.
 fn read_testers(alloc: Global, document: &Table, version: Version) -> Result<Testers, SheetFault>
-    ensures { Gives (λ t. t) result (testers_in version (table_view document.now)) }
+    ensures { Gives (λ t. t) result (testers_in_sheet version (table_view document.now)) }
 {
     match version {
         Version::First | Version::Second => Ok(Testers::none(alloc)),

@@ -5,11 +5,11 @@ ghost use Rattle.std.specs.Str.{bytes_eq};
 ghost use Rattle.toml.specs.Data.{as_str, as_table};
 ghost use Rattle.toml.specs.View.{view, items_view, table_view};
 ghost use Rattle.hall_policy.specs.Reading.{or_fault};
-ghost use Rattle.hall_sheet.specs.Fault.{name_of};
+ghost use Rattle.hall_sheet.specs.Fault.{field_name};
 ghost use Rattle.hall_sheet.specs.Given.{Gives};
 ghost use Rattle.hall_sheet.specs.declared.fault.Refusal.TheVariants.{Missing};
-ghost use Rattle.hall_sheet.specs.Table.{has_only, value_at, text_at, integer_at, in_range, number_in};
-ghost use Rattle.hall_sheet.specs.Table.{text_in, items_at, each_as, tables_in, texts_in};
+ghost use Rattle.hall_sheet.specs.Table.{has_only, value_at, text_at, integer_at, in_range, number_field};
+ghost use Rattle.hall_sheet.specs.Table.{text_field, items_at, each_as, tables_field, texts_field};
 
 use crate::fault::{Field, Refusal, SheetFault};
 use crate::words::checked;
@@ -19,7 +19,7 @@ use toml::{Table, Value};
 
 /// Whether the key is the name of one of these fields.
 fn is_listed(fields: &[Field], key: &str) -> bool
-    ensures { result ≡ list_any (λ f. bytes_eq (name_of f) key.now) fields.now }
+    ensures { result ≡ list_any (λ f. bytes_eq (field_name f) key.now) fields.now }
 {
     fields.iter().any(|field| field.name() == key)
 }
@@ -79,7 +79,7 @@ pub(crate) fn read_number<const LEAST: u64, const MOST: u64>(
     table: &Table,
     field: Field,
 ) -> Result<Within<LEAST, MOST>, SheetFault>
-    ensures { Gives (λ n. n) result (number_in field LEAST MOST (table_view table.now)) }
+    ensures { Gives (λ n. n) result (number_field field LEAST MOST (table_view table.now)) }
 {
     in_range(integer_at(table, field)?, field)
 }
@@ -90,7 +90,7 @@ pub(crate) fn read_text<K: TextKind>(
     table: &Table,
     field: Field,
 ) -> Result<Checked<K>, SheetFault>
-    ensures { Gives (λ t. t) result (text_in field K.LEAST K.MOST K.allows (table_view table.now)) }
+    ensures { Gives (λ t. t) result (text_field field K.LEAST K.MOST K.allows (table_view table.now)) }
 {
     checked(alloc, text_at(table, field)?, Refusal::Range(field))
 }
@@ -139,7 +139,7 @@ pub(crate) fn read_tables(
     field: Field,
 ) -> Result<Vec<&Table>, SheetFault>
     ensures { Gives (λ tables. map (λ t. table_view t.now) tables.items) result
-        (tables_in field (table_view table.now)) }
+        (tables_field field (table_view table.now)) }
 {
     tables_of(alloc, values_at(table, field)?, field)
 }
@@ -166,7 +166,7 @@ pub(crate) fn read_texts(
     field: Field,
 ) -> Result<Vec<&str>, SheetFault>
     ensures { Gives (λ texts. map (λ t. t.now) texts.items) result
-        (texts_in field (table_view table.now)) }
+        (texts_field field (table_view table.now)) }
 {
     texts_of(alloc, values_at(table, field)?, field)
 }

@@ -20,7 +20,7 @@ use jiff::{Error, Timestamp};
 pub(crate) struct ZoneText {}
 
 impl TextKind for ZoneText {
-    ghost use Rattle.hall_policy.specs.Text.{is_printable};
+    ghost use Rattle.hall_grid.specs.Printable.{is_printable};
 
     ghost allows = { is_printable };
 

@@ -7,7 +7,7 @@ use Rattle.std.proofs.lemmas.List.Sums.{sum_by-cons}
 use Rattle.hall_grid.specs.Slither.{is_line}
 use Rattle.hall_solve.specs.Question.{Question, Solves, Extends, IsOpen}
 use Rattle.hall_slither.specs.Dot.{count_at, AreBelow}
-use Rattle.hall_slither.specs.Count.{count_sides, is_one, has_line, is_open, Meets, Follows, IsTold}
+use Rattle.hall_slither.specs.Count.{count_sides, is_one, has_line, is_place_unset, Meets, Follows, IsConsequenceTold}
 use Rattle.hall_slither.specs.declared.count.Demand.{Demand}
 use Rattle.hall_slither.specs.declared.count.Consequence.{Consequence}
 use Rattle.hall_slither.specs.declared.count.Consequence.TheVariants.{Nothing, AllBe, Impossible}
@@ -24,25 +24,25 @@ line_bounds f (Some w) s h =
     subst (λ x. (cond (eqb w 1) 1 0 ≤ cond (eqb x 1) 1 0) × (cond (eqb x 1) 1 0 ≤ cond (eqb w 1) 1 0 + 0)) (sym e) (omega arith, omega arith)
 
 at_bounds : (f : List ℕ) (p : List (Option ℕ)) (o : Option ℕ) → Extends f p
-    → (count_at (has_line p) o ≤ count_at (is_line f) o) × (count_at (is_line f) o ≤ count_at (has_line p) o + count_at (is_open p) o)
+    → (count_at (has_line p) o ≤ count_at (is_line f) o) × (count_at (is_line f) o ≤ count_at (has_line p) o + count_at (is_place_unset p) o)
 at_bounds f p None h = (omega arith, omega arith)
 at_bounds f p (Some s) h = line_bounds f (get_or p s None) s (λ w e. h s w e)
 
 -- a solution has at least the lines so far, and at most those and the open sides
 pub count_bounds : (f : List ℕ) (p : List (Option ℕ)) (os : List (Option ℕ)) → Extends f p
-    → (count_sides (has_line p) os ≤ count_sides (is_line f) os) × (count_sides (is_line f) os ≤ count_sides (has_line p) os + count_sides (is_open p) os)
+    → (count_sides (has_line p) os ≤ count_sides (is_line f) os) × (count_sides (is_line f) os ≤ count_sides (has_line p) os + count_sides (is_place_unset p) os)
 count_bounds f p [] h = (omega arith, omega arith)
 count_bounds f p (o ∷ os) h =
     let a = at_bounds f p o h in
     let r = count_bounds f p os h in
     let x = count-cons (has_line p) o os in
     let y = count-cons (is_line f) o os in
-    let z = count-cons (is_open p) o os in
+    let z = count-cons (is_place_unset p) o os in
     let a0 = a.0 in let a1 = a.1 in let r0 = r.0 in let r1 = r.1 in
     (omega arith, omega arith)
 
 -- an open side among them is counted
-open_at : (f : List ℕ) (p : List (Option ℕ)) (s : ℕ) → get_or p s None ≡ None → (count_at (has_line p) (Some s) ≡ 0) × (count_at (is_open p) (Some s) ≡ 1)
+open_at : (f : List ℕ) (p : List (Option ℕ)) (s : ℕ) → get_or p s None ≡ None → (count_at (has_line p) (Some s) ≡ 0) × (count_at (is_place_unset p) (Some s) ≡ 1)
 open_at f p s e = (ap (λ v. cond (is_one v) 1 0) e, ap (λ v. cond (is_none v) 1 0) e)
 
 -- with no further line
@@ -66,14 +66,14 @@ none_further f p (o ∷ os) s h e (suc k, low, is) u =
 
 -- with all further lines
 pub all_further : (f : List ℕ) (p : List (Option ℕ)) (os : List (Option ℕ)) (s : ℕ) → Extends f p
-    → count_sides (is_line f) os ≡ count_sides (has_line p) os + count_sides (is_open p) os
+    → count_sides (is_line f) os ≡ count_sides (has_line p) os + count_sides (is_place_unset p) os
     → Contains os (Some s) → get_or p s None ≡ None → is_line f s ≡ true
 all_further f p [] s h e (k, low, is) u = absurd (omega arith)
 all_further f p (o ∷ os) s h e (zero, low, is) u =
-    let x = count-cons (has_line p) o os in let y = count-cons (is_line f) o os in let w = count-cons (is_open p) o os in
+    let x = count-cons (has_line p) o os in let y = count-cons (is_line f) o os in let w = count-cons (is_place_unset p) o os in
     let a = (at_bounds f p o h).1 in let r = (count_bounds f p os h).1 in
-    let here : count_at (is_line f) (Some s) ≡ count_at (has_line p) (Some s) + count_at (is_open p) (Some s) =
-    subst (λ t. count_at (is_line f) t ≡ count_at (has_line p) t + count_at (is_open p) t) is (omega arith) in
+    let here : count_at (is_line f) (Some s) ≡ count_at (has_line p) (Some s) + count_at (is_place_unset p) (Some s) =
+    subst (λ t. count_at (is_line f) t ≡ count_at (has_line p) t + count_at (is_place_unset p) t) is (omega arith) in
     let z = open_at f p s u in
     let z0 = z.0 in let z1 = z.1 in
     elim (cases_Bool (is_line f s)) [
@@ -81,7 +81,7 @@ all_further f p (o ∷ os) s h e (zero, low, is) u =
       | inr t ↦ absurd (let none : count_at (is_line f) (Some s) ≡ 0 = ap (λ b. cond b 1 0) t in omega arith)
     ]
 all_further f p (o ∷ os) s h e (suc k, low, is) u =
-    let x = count-cons (has_line p) o os in let y = count-cons (is_line f) o os in let w = count-cons (is_open p) o os in
+    let x = count-cons (has_line p) o os in let y = count-cons (is_line f) o os in let w = count-cons (is_place_unset p) o os in
     let a = (at_bounds f p o h).1 in let r = (count_bounds f p os h).1 in
     all_further f p os s h (omega arith) (k, omega arith, is) u
 
@@ -90,11 +90,11 @@ none_or None = inl refl
 none_or (Some v) = inr refl
 
 -- some side among them is open
-pub some_open : (p : List (Option ℕ)) (os : List (Option ℕ)) → 0 < count_sides (is_open p) os → AreBelow (length p) os
+pub some_open : (p : List (Option ℕ)) (os : List (Option ℕ)) → 0 < count_sides (is_place_unset p) os → AreBelow (length p) os
     → (s : ℕ) × Contains os (Some s) × IsOpen p s
 some_open p [] h low = absurd (omega arith)
 some_open p (None ∷ os) h low =
-    let e = count-cons (is_open p) None os in
+    let e = count-cons (is_place_unset p) None os in
     let r = some_open p os (omega arith) (All-tail (λ o. IfSome o (λ s. s < length p)) None os low) in
     (r.0, (suc r.1.0, let k = r.1.1 in omega arith, r.1.2), r.2)
 some_open p (Some s ∷ os) h low =
@@ -102,8 +102,8 @@ some_open p (Some s ∷ os) h low =
     elim (none_or (get_or p s None)) [
       | inl e ↦ (s, (0, omega arith, refl), (All-head (λ o. IfSome o (λ s. s < length p)) (Some s) os low, e))
       | inr set ↦
-          let e = count-cons (is_open p) (Some s) os in
-          let z : count_at (is_open p) (Some s) ≡ 0 = ap (λ b. cond b 1 0) set in
+          let e = count-cons (is_place_unset p) (Some s) os in
+          let z : count_at (is_place_unset p) (Some s) ≡ 0 = ap (λ b. cond b 1 0) set in
           let r = some_open p os (omega arith) rest in
           (r.0, (suc r.1.0, let k = r.1.1 in omega arith, r.1.2), r.2)
     ]
@@ -111,7 +111,7 @@ some_open p (Some s ∷ os) h low =
 -- q: two values at each place. p: a partial filling. lines, unset: how many of the sides are lines and how many open
 module _ (q : Question) (p : List (Option ℕ)) (os : List (Option ℕ)) (demand : Demand) (lines unset : ℕ)
     (two : q.values ≡ 2) (exact : length p ≡ q.cells) (low : AreBelow (length p) os)
-    (are_lines : lines ≡ count_sides (has_line p) os) (are_unset : unset ≡ count_sides (is_open p) os)
+    (are_lines : lines ≡ count_sides (has_line p) os) (are_unset : unset ≡ count_sides (is_place_unset p) os)
     (meets : (f : List ℕ) → Solves q p f → Meets demand (count_sides (is_line f) os)) where
   -- the count of a solution lies between
   between : (f : List ℕ) → Solves q p f → (lines ≤ count_sides (is_line f) os) × (count_sides (is_line f) os ≤ lines + unset)
@@ -134,7 +134,7 @@ module _ (q : Question) (p : List (Option ℕ)) (os : List (Option ℕ)) (demand
       eqb-true (slice_index f s) 1 (all_further f p os s sol.extends (let e = exactly 1 h f sol in omega arith) among is_unset.1)
   forced (suc (suc value)) lt h f s sol among is_unset = absurd (omega arith)
 
-  pub IsTold-from_counts : (o : Consequence) → Follows demand lines unset o → IsTold q p os o
+  pub IsTold-from_counts : (o : Consequence) → Follows demand lines unset o → IsConsequenceTold q p os o
   IsTold-from_counts Nothing h = tt
   IsTold-from_counts (AllBe value) h =
       (h.1, some_open p os (let k = h.0 in omega arith) low, forced value h.1 h.2)

@@ -17,17 +17,17 @@ use Rattle.hall_slither.specs.declared.count.Consequence.TheVariants.{Nothing, A
 use Rattle.hall_slither.specs.Dot.{sides_at, count_at}
 
 -- the number of a dot or a cell, and how many there are of its kind
-abbrev pub number_of : Centre → ℕ
-number_of (Dot d) = d
-number_of (Cell cell) = cell
+abbrev pub centre_number : Centre → ℕ
+centre_number (Dot d) = d
+centre_number (Cell cell) = cell
 
-abbrev pub count_of : Size → Centre → ℕ
-count_of size (Dot d) = dots size
-count_of size (Cell cell) = cells size
+abbrev pub centre_count : Size → Centre → ℕ
+centre_count size (Dot d) = dots size
+centre_count size (Cell cell) = cells size
 
 -- the spot is on the board
 abbrev pub IsCentre : Size → Centre → Type 0
-IsCentre size centre = number_of centre < count_of size centre
+IsCentre size centre = centre_number centre < centre_count size centre
 
 -- the sides at a dot or round a cell
 abbrev pub sides_round : Size → Centre → List (Option ℕ)
@@ -47,8 +47,8 @@ abbrev pub has_line : List (Option ℕ) → ℕ → Bool
 has_line p s = is_one (slice_index_or p s None)
 
 -- the place is not set
-abbrev pub is_open : List (Option ℕ) → ℕ → Bool
-is_open p s = is_none (slice_index_or p s None)
+abbrev pub is_place_unset : List (Option ℕ) → ℕ → Bool
+is_place_unset p s = is_none (slice_index_or p s None)
 
 -- the count is as demanded: a loop passes a dot or doesn't, and a number is the count
 abbrev pub Meets : Demand → ℕ → Type 0
@@ -72,13 +72,13 @@ Follows demand lines unset (AllBe value) =
 Follows demand lines unset Impossible = (n : ℕ) → lines ≤ n → n ≤ lines + unset → Meets demand n → ⊥
 
 -- what is told of the open ones of the sides is true of each solution
-abbrev pub IsTold : Question → List (Option ℕ) → List (Option ℕ) → Consequence → Type 0
-IsTold q p sides Nothing = Unit {0}
-IsTold q p sides (AllBe value) =
+abbrev pub IsConsequenceTold : Question → List (Option ℕ) → List (Option ℕ) → Consequence → Type 0
+IsConsequenceTold q p sides Nothing = Unit {0}
+IsConsequenceTold q p sides (AllBe value) =
     (value < 2)
     × ((s : ℕ) × Contains sides (Some s) × IsOpen p s)
     × ((f : List ℕ) (s : ℕ) → Solves q p f → Contains sides (Some s) → IsOpen p s → slice_index f s ≡ value)
-IsTold q p sides Impossible = IsHopeless q p
+IsConsequenceTold q p sides Impossible = IsHopeless q p
 
 -- what a clue demands
 abbrev pub demand_for : Option Clue → Demand
@@ -96,7 +96,7 @@ demand_of board (Cell cell) = demand_for (slice_get board.clues cell)
 abbrev pub IsSilent : Board → List (Option ℕ) → Centre → Type 0
 IsSilent board p centre =
     Follows (demand_of board centre) (count_sides (has_line p) (sides_round board.size centre))
-    (count_sides (is_open p) (sides_round board.size centre)) Nothing
+    (count_sides (is_place_unset p) (sides_round board.size centre)) Nothing
 
 -- no count says anything
 abbrev pub AreSilent : Board → List (Option ℕ) → Type 0

@@ -3,8 +3,8 @@ ghost use Rattle.std.specs.Prelude.{◌≡◌, ℕ, ◌+◌, ◌*◌, ◌<◌, �
 ghost use Rattle.hall_grid.specs.Board.{IsSize, cells};
 ghost use Rattle.hall_grid.specs.Slither.{all_sides, dots, is_line};
 ghost use Rattle.hall_solve.specs.Question.{IsPartial};
-ghost use Rattle.hall_slither.specs.Count.{IsCentre, sides_round, count_sides, has_line, is_open};
-ghost use Rattle.hall_slither.specs.Count.{Meets, Follows, IsTold, demand_of, IsSilent};
+ghost use Rattle.hall_slither.specs.Count.{IsCentre, sides_round, count_sides, has_line, is_place_unset};
+ghost use Rattle.hall_slither.specs.Count.{Meets, Follows, IsConsequenceTold, demand_of, IsSilent};
 ghost use Rattle.hall_slither.specs.Dot.{AreBelow};
 ghost use Rattle.hall_solve.specs.Puzzle.{IsRight, question_of};
 
@@ -80,7 +80,7 @@ pub(crate) fn lines_and_open(partial: &Partial, sides: &[Option<usize>]) -> (usi
     requires below { AreBelow (length partial.now.places) sides.now }
     requires few { length sides.now ≤ 4 }
     ensures lines { result.0 ≡ count_sides (has_line partial.now.places) sides.now }
-    ensures unset { result.1 ≡ count_sides (is_open partial.now.places) sides.now }
+    ensures unset { result.1 ≡ count_sides (is_place_unset partial.now.places) sides.now }
     ensures few { result.0 + result.1 ≤ 4 }
 {
     let mut lines = 0;
@@ -139,7 +139,7 @@ pub(crate) fn consequence_at(puzzle: &Puzzle, partial: &Partial, centre: Centre)
     requires kind { puzzle.now.kind ≡ Kind.Slither }
     requires partial { IsPartial (question_of Kind.Slither puzzle.now) partial.now.places }
     requires centre { IsCentre puzzle.now.size centre }
-    ensures told { IsTold (question_of Kind.Slither puzzle.now) partial.now.places
+    ensures told { IsConsequenceTold (question_of Kind.Slither puzzle.now) partial.now.places
         (sides_round puzzle.now.size centre) result }
     ensures silent { result ≡ Consequence.Nothing → IsSilent puzzle.now partial.now.places centre }
 {

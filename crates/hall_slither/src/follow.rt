@@ -9,7 +9,7 @@ ghost use Rattle.hall_solve.specs.Puzzle.{question_of};
 ghost use Rattle.hall_solve.specs.Trail.{Grows};
 ghost use Rattle.hall_slither.specs.Colour.{AreColoured};
 ghost use Rattle.hall_slither.specs.Dot.{AreBelow};
-ghost use Rattle.hall_slither.specs.Count.{IsCentre, IsSilent, IsTold, AreSilent};
+ghost use Rattle.hall_slither.specs.Count.{IsCentre, IsSilent, IsConsequenceTold, AreSilent};
 ghost use Rattle.hall_slither.specs.Follow.{IsSamePosition, IsFollowed, AreSet, HasAll, work};
 
 use crate::colour::{Colours, cells_by};
@@ -103,7 +103,8 @@ pub(crate) fn set_side(position: &mut Position, setting: Setting) -> Result<Pass
 /// Sets the open ones of the sides to the value that every solution has there.
 fn set_open(position: &mut Position, sides: &[Option<usize>], value: u8) -> Result<Pass, AllocError>
     requires below { AreBelow (all_sides position.old.puzzle.now.size) sides.now }
-    requires told { IsTold (question_of Kind.Slither position.old.puzzle.now) position.old.partial.now.places sides.now
+    requires told { IsConsequenceTold (question_of Kind.Slither position.old.puzzle.now) position.old.partial.now.places
+        sides.now
         (Consequence.AllBe value) }
     ensures followed { IsFollowed position.old.puzzle.now position.old.partial.now position.new.partial.now result }
     ensures same { IsSamePosition position.old position.new }

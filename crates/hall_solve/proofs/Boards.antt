@@ -4,7 +4,8 @@ use Rattle.std.specs.Prelude.{is_none}
 use Rattle.std.proofs.lemmas.Bool.{cases_eq, cases_lt}
 use Rattle.std.proofs.lemmas.List.{get_or-set_same, get_or-set_other, get_or_past, length-set, same_lists, get_or_default}
 use Rattle.std.proofs.lemmas.List.Sums.{sum_by-set, sum_by-cons}
-use Rattle.hall_solve.specs.Question.{Question, IsSame, IsFilling, IsPartial, Extends, Keeps, Solves, Narrows, IsWhole, IsHopeless, IsOpen, open_places}
+use Rattle.hall_solve.specs.Question.{Question, IsSameQuestion, IsQuestionFilling, IsPartial, Extends, Keeps, Solves}
+use Rattle.hall_solve.specs.Question.{Narrows, IsWhole, IsHopeless, IsOpen, open_places}
 use Rattle.hall_solve.specs.Deduction.{IsForced}
 
 -- the weight of a place in the count of those that are open
@@ -69,20 +70,20 @@ pub Solves-keeps : (q : Question) (old new : List (Option ℕ)) (f : List ℕ) �
 Solves-keeps q old new f k s = record { filling = s.filling; extends = λ i v h. s.extends i v (k i v h); right = s.right }
 
 -- the same question has the same solutions
-pub Solves-same : (q r : Question) (p : List (Option ℕ)) (f : List ℕ) → IsSame q r → Solves q p f → Solves r p f
+pub Solves-same : (q r : Question) (p : List (Option ℕ)) (f : List ℕ) → IsSameQuestion q r → Solves q p f → Solves r p f
 Solves-same q r p f e s = record {
   filling = record { size = s.filling.size ∙ sym e.cells; in_range = λ i h. rw e.values (s.filling.in_range i (omega (arith, e.cells))) };
   extends = s.extends;
   right = (e.right f).1 s.right;
 }
 
-pub same_itself : (q : Question) → IsSame q q
+pub same_itself : (q : Question) → IsSameQuestion q q
 same_itself q = record { cells = refl; values = refl; right = λ f. (λ h. h, λ h. h) }
 
-pub same_turned : (q r : Question) → IsSame q r → IsSame r q
+pub same_turned : (q r : Question) → IsSameQuestion q r → IsSameQuestion r q
 same_turned q r e = record { cells = sym e.cells; values = sym e.values; right = λ f. ((e.right f).1, (e.right f).0) }
 
-pub same_twice : (q r s : Question) → IsSame q r → IsSame r s → IsSame q s
+pub same_twice : (q r s : Question) → IsSameQuestion q r → IsSameQuestion r s → IsSameQuestion q s
 same_twice q r s d e = record {
   cells = e.cells ∙ d.cells;
   values = e.values ∙ d.values;
@@ -90,7 +91,7 @@ same_twice q r s d e = record {
 }
 
 -- a partial filling of one question is one of the same question
-pub IsPartial-same : (q r : Question) (p : List (Option ℕ)) → IsSame q r → IsPartial q p → IsPartial r p
+pub IsPartial-same : (q r : Question) (p : List (Option ℕ)) → IsSameQuestion q r → IsPartial q p → IsPartial r p
 IsPartial-same q r p e h = record { size = h.size ∙ sym e.cells; in_range = λ i v at. rw e.values (h.in_range i v at) }
 
 pub IsPartial-set : (q : Question) (p : List (Option ℕ)) (i v : ℕ) → i < length p → v < q.values → IsPartial q p → IsPartial q (set p i (Some v))
@@ -126,7 +127,7 @@ set_within p i v h =
     ]
 
 -- each value of a whole board's filling is one of the board
-pub IsFilling-whole : (q : Question) (p : List (Option ℕ)) (f : List ℕ) → IsWhole p → IsPartial q p → length f ≡ length p → Extends f p → IsFilling q f
+pub IsFilling-whole : (q : Question) (p : List (Option ℕ)) (f : List ℕ) → IsWhole p → IsPartial q p → length f ≡ length p → Extends f p → IsQuestionFilling q f
 IsFilling-whole q p f whole h e ext = record {
   size = e ∙ h.size;
   in_range = λ i lt.

@@ -8,12 +8,13 @@ use Rattle.hall_solve.specs.declared.outcome.Outcome.{Outcome}
 use Rattle.hall_solve.specs.declared.outcome.Outcome.TheVariants.{None as Nothing, One, More, GaveUp}
 use Rattle.hall_solve.specs.declared.visit.Visited.{Visited}
 use Rattle.hall_solve.specs.declared.visit.Visited.TheVariants.{Closed, Whole, Open}
-use Rattle.hall_solve.specs.Question.{Question, IsSame, IsFilling, IsPartial, IsHopeless, Extends, Solves, Narrows, open_places, plain_tree}
+use Rattle.hall_solve.specs.Question.{Question, IsSameQuestion, IsQuestionFilling, IsPartial, IsHopeless, Extends}
+use Rattle.hall_solve.specs.Question.{Solves, Narrows, open_places, plain_tree}
 use Rattle.hall_solve.specs.Answer.{IsTrueOf, OutcomeOf}
 use Rattle.hall_solve.specs.Trail.{Trailed, IsTrailed, Grows}
 use Rattle.hall_solve.specs.Choices.{AreMade, AwaitsTurn, IsAhead, SameBelow, visits_left, visits_ahead}
 use Rattle.hall_solve.specs.Visit.{IsVisit}
-use Rattle.hall_solve.specs.Underway.{IsUnderWay, IsTold}
+use Rattle.hall_solve.specs.Underway.{IsUnderWay, IsOutcomeTold}
 use Rattle.hall_solve.proofs.Boards.{Solves-same, same_turned, IsPartial-set}
 use Rattle.hall_solve.proofs.Trees.{plain_tree-le, plain_tree-pos}
 use Rattle.hall_solve.proofs.Ahead.{SameBelow-grows, SameBelow-turned, AwaitsTurn-same, not_awaiting}
@@ -24,7 +25,7 @@ pub record IsTurning (q : Question) (start : List (Option ℕ)) (b : Trailed) (s
   pub made : AreMade b stack
   pub solutions : (f : List ℕ) → Solves q start f → (got ≡ Some f) ⊎ AwaitsTurn b stack f
   pub found : (f : List ℕ) → got ≡ Some f → Solves q start f × (AwaitsTurn b stack f → ⊥) × (stack ≢ [] → 2 ≤ visits)
-  pub ahead : (f : List ℕ) → IsFilling q f → AwaitsTurn b stack f → Extends f start
+  pub ahead : (f : List ℕ) → IsQuestionFilling q f → AwaitsTurn b stack f → Extends f start
   pub paid : visits + visits_left (length b.places) q.values stack ≤ plain_tree q.values (open_places start)
   pub visited : 0 < visits
 
@@ -33,7 +34,7 @@ abbrev pub answer_of : Option (List ℕ) → Outcome
 answer_of None = Nothing
 answer_of (Some f) = One f
 
-pub IsVisit-same : (q r : Question) (old new : Trailed) (v : Visited) → IsSame q r → IsVisit r old new v → IsVisit q old new v
+pub IsVisit-same : (q r : Question) (old new : Trailed) (v : Visited) → IsSameQuestion q r → IsVisit r old new v → IsVisit q old new v
 IsVisit-same q r old new Closed e h = (λ f s. h.0 f (Solves-same q r old.places f e s), h.1)
 IsVisit-same q r old new (Whole g) e h = ((Solves-same r q old.places g (same_turned q r e) h.0.0, λ f s. h.0.1 f (Solves-same q r old.places f e s)), h.1)
 IsVisit-same q r old new (Open i) e h = (
@@ -113,7 +114,7 @@ module _ (q : Question) (start : List (Option ℕ)) (b : Trailed) (stack : List 
   gave_up got u = omega (arith, u.paid, plain_tree-pos q.values (length b.places - length b.trail))
 
   -- every choice was tried to its end
-  pub all_found : (got : Option (List ℕ)) → IsTurning q start b stack got visits → ((f : List ℕ) → IsFilling q f → q.right f → AwaitsTurn b stack f → ⊥) → IsTrueOf (Solves q start) (answer_of got)
+  pub all_found : (got : Option (List ℕ)) → IsTurning q start b stack got visits → ((f : List ℕ) → IsQuestionFilling q f → q.right f → AwaitsTurn b stack f → ⊥) → IsTrueOf (Solves q start) (answer_of got)
   all_found None t over = λ f s. elim (t.solutions f s) [ inl e ↦ absurd cc | inr w ↦ over f s.filling s.right w ]
   all_found (Some g) t over = (
     (t.found g refl).0,
@@ -121,7 +122,7 @@ module _ (q : Question) (start : List (Option ℕ)) (b : Trailed) (stack : List 
   )
 
   -- a choice has a next value
-  pub turned : (got : Option (List ℕ)) (n : Trailed) (rest : List Choice) → IsTurning q start b stack got visits → IsPartial q n.places → AreMade n rest → IsTrailed n → ((f : List ℕ) → IsFilling q f → q.right f → AwaitsTurn b stack f → IsAhead n rest f) → ((f : List ℕ) → IsFilling q f → IsAhead n rest f → AwaitsTurn b stack f) → visits_ahead q.values n rest ≤ visits_left (length b.places) q.values stack → IsUnderWay q start n rest got visits
+  pub turned : (got : Option (List ℕ)) (n : Trailed) (rest : List Choice) → IsTurning q start b stack got visits → IsPartial q n.places → AreMade n rest → IsTrailed n → ((f : List ℕ) → IsQuestionFilling q f → q.right f → AwaitsTurn b stack f → IsAhead n rest f) → ((f : List ℕ) → IsQuestionFilling q f → IsAhead n rest f → AwaitsTurn b stack f) → visits_ahead q.values n rest ≤ visits_left (length b.places) q.values stack → IsUnderWay q start n rest got visits
   turned got n rest t partial made trailed next waited paid = record {
     partial = partial;
     trailed = trailed;
@@ -187,11 +188,11 @@ module _ (q : Question) (start : List (Option ℕ)) (b : Trailed) (stack : List 
       same_left : visits_left (length n.places) q.values stack ≡ visits_left (length b.places) q.values stack
       same_left = ap (λ k. visits_left k q.values stack) g.size
 
-IsFilling-same : (q r : Question) (f : List ℕ) → IsSame q r → IsFilling q f → IsFilling r f
+IsFilling-same : (q r : Question) (f : List ℕ) → IsSameQuestion q r → IsQuestionFilling q f → IsQuestionFilling r f
 IsFilling-same q r f e h = record { size = h.size ∙ sym e.cells; in_range = λ i lt. rw e.values (h.in_range i (omega (arith, lt, e.cells))) }
 
 -- a search that is under way, told of a question that asks the same
-pub IsUnderWay-same : (q r : Question) (start : List (Option ℕ)) (b : Trailed) (stack : List Choice) (got : Option (List ℕ)) (visits : ℕ) → IsSame q r → IsUnderWay q start b stack got visits → IsUnderWay r start b stack got visits
+pub IsUnderWay-same : (q r : Question) (start : List (Option ℕ)) (b : Trailed) (stack : List Choice) (got : Option (List ℕ)) (visits : ℕ) → IsSameQuestion q r → IsUnderWay q start b stack got visits → IsUnderWay r start b stack got visits
 IsUnderWay-same q r start b stack got visits e u = record {
   partial = record { size = u.partial.size ∙ sym e.cells; in_range = λ i v at. rw e.values (u.partial.in_range i v at) };
   trailed = u.trailed;
@@ -204,14 +205,14 @@ IsUnderWay-same q r start b stack got visits e u = record {
 }
 
 -- a place is open, told of a question that asks the same
-pub opened_after : (q r : Question) (start : List (Option ℕ)) (b : Trailed) (stack : List Choice) (visits after : ℕ) (got : Option (List ℕ)) (n m : Trailed) (rest : List Choice) (place : ℕ) → IsSame q r → IsUnderWay q start b stack got visits → IsVisit r b n (Open place) → after ≡ visits + 1 → m.places ≡ set n.places place (Some 0) → AreMade m rest → IsTrailed m → ((f : List ℕ) → IsAhead n stack f ↔ IsAhead m rest f) → ((k : ℕ) → 0 < k → visits_ahead k m rest + 1 ≡ visits_ahead k n stack) → IsUnderWay q start m rest got after
+pub opened_after : (q r : Question) (start : List (Option ℕ)) (b : Trailed) (stack : List Choice) (visits after : ℕ) (got : Option (List ℕ)) (n m : Trailed) (rest : List Choice) (place : ℕ) → IsSameQuestion q r → IsUnderWay q start b stack got visits → IsVisit r b n (Open place) → after ≡ visits + 1 → m.places ≡ set n.places place (Some 0) → AreMade m rest → IsTrailed m → ((f : List ℕ) → IsAhead n stack f ↔ IsAhead m rest f) → ((k : ℕ) → 0 < k → visits_ahead k m rest + 1 ≡ visits_ahead k n stack) → IsUnderWay q start m rest got after
 opened_after q r start b stack visits after got n m rest place same u visit count places made trailed next paid =
     let h = IsVisit-same q r b n (Open place) same visit in
     subst (λ (k : ℕ). IsUnderWay q start m rest got k) (sym count)
     (opened q start b stack visits got n m rest place u h.0.0 h.1 h.0.1.0 h.0.2 places made trailed next (paid q.values h.0.2))
 
 -- a choice has a next value, told of a question that asks the same
-pub turned_among : (q r : Question) (start : List (Option ℕ)) (b : Trailed) (stack : List Choice) (visits : ℕ) (got : Option (List ℕ)) (n : Trailed) (rest : List Choice) → IsSame q r → IsTurning q start b stack got visits → IsPartial r n.places → AreMade n rest → IsTrailed n → ((f : List ℕ) → IsFilling r f → r.right f → AwaitsTurn b stack f → IsAhead n rest f) → ((f : List ℕ) → IsFilling r f → IsAhead n rest f → AwaitsTurn b stack f) → visits_ahead r.values n rest ≤ visits_left (length b.places) r.values stack → IsUnderWay q start n rest got visits
+pub turned_among : (q r : Question) (start : List (Option ℕ)) (b : Trailed) (stack : List Choice) (visits : ℕ) (got : Option (List ℕ)) (n : Trailed) (rest : List Choice) → IsSameQuestion q r → IsTurning q start b stack got visits → IsPartial r n.places → AreMade n rest → IsTrailed n → ((f : List ℕ) → IsQuestionFilling r f → r.right f → AwaitsTurn b stack f → IsAhead n rest f) → ((f : List ℕ) → IsQuestionFilling r f → IsAhead n rest f → AwaitsTurn b stack f) → visits_ahead r.values n rest ≤ visits_left (length b.places) r.values stack → IsUnderWay q start n rest got visits
 turned_among q r start b stack visits got n rest e t partial made trailed next waited paid =
     turned q start b stack visits got n rest t
     (record { size = partial.size ∙ e.cells; in_range = λ i v at. rw (sym e.values) (partial.in_range i v at) })
@@ -221,11 +222,11 @@ turned_among q r start b stack visits got n rest e t partial made trailed next w
     (subst (λ (x : ℕ). visits_ahead x n rest ≤ visits_left (length b.places) x stack) e.values paid)
 
 -- nothing awaits its turn: the answer
-pub told_all : (q r : Question) (start : List (Option ℕ)) (b : Trailed) (stack : List Choice) (visits : ℕ) (got : Option (List ℕ)) (o : Outcome) → IsSame q r → IsTurning q start b stack got visits → ((f : List ℕ) → IsFilling r f → r.right f → AwaitsTurn b stack f → ⊥) → o ≡ answer_of got → IsTold q start visits o
+pub told_all : (q r : Question) (start : List (Option ℕ)) (b : Trailed) (stack : List Choice) (visits : ℕ) (got : Option (List ℕ)) (o : Outcome) → IsSameQuestion q r → IsTurning q start b stack got visits → ((f : List ℕ) → IsQuestionFilling r f → r.right f → AwaitsTurn b stack f → ⊥) → o ≡ answer_of got → IsOutcomeTold q start visits o
 told_all q r start b stack visits got o e t over is =
-    subst (λ (x : Outcome). IsTold q start visits x) (sym is) (told got (all_found q start b stack visits got t (λ f filling right. over f (IsFilling-same q r f e filling) ((e.right f).1 right))))
+    subst (λ (x : Outcome). IsOutcomeTold q start visits x) (sym is) (told got (all_found q start b stack visits got t (λ f filling right. over f (IsFilling-same q r f e filling) ((e.right f).1 right))))
   where
-    told : (g : Option (List ℕ)) → IsTrueOf (Solves q start) (answer_of g) → IsTold q start visits (answer_of g)
+    told : (g : Option (List ℕ)) → IsTrueOf (Solves q start) (answer_of g) → IsOutcomeTold q start visits (answer_of g)
     told None h = record { answer = h; no_giving_up = λ (eq : Nothing ≡ GaveUp). absurd cc; enough = omega (arith, t.visited) }
     told (Some f) h = record { answer = h; no_giving_up = λ (eq : One f ≡ GaveUp). absurd cc; enough = omega (arith, t.visited) }
 
@@ -243,7 +244,7 @@ begun_under_way q start b partial same trailed = record {
 }
 
 -- what is told within a budget may be answered
-pub told_outcome : (q : Question) (start : List (Option ℕ)) (visits budget : ℕ) (o : Outcome) → IsTold q start visits o → visits ≤ budget → OutcomeOf q start budget o
+pub told_outcome : (q : Question) (start : List (Option ℕ)) (visits budget : ℕ) (o : Outcome) → IsOutcomeTold q start visits o → visits ≤ budget → OutcomeOf q start budget o
 told_outcome q start visits budget o t le = record { answer = t.answer; gives_up_late = λ e. absurd (t.no_giving_up e); within_budget = omega (arith, t.enough) }
 
 -- a search that is under way may be given up after its last visit
@@ -268,7 +269,7 @@ IsEnded q n stack old m rest new v =
     ⊎ IsRefused q n stack m rest v × (new ≡ old)
 
 -- what a visit closed, or the first that it found
-pub turning_of : (q r : Question) (start : List (Option ℕ)) (b n : Trailed) (stack : List Choice) (visits after : ℕ) (v : Visited) (old new : Option (List ℕ)) → IsSame q r → IsUnderWay q start b stack old visits → IsVisit r b n v → after ≡ visits + 1 → ((v ≡ Closed) × (new ≡ old)) ⊎ ((g : List ℕ) × (v ≡ Whole g) × (None ≡ old) × (new ≡ Some g)) → IsTurning q start n stack new after
+pub turning_of : (q r : Question) (start : List (Option ℕ)) (b n : Trailed) (stack : List Choice) (visits after : ℕ) (v : Visited) (old new : Option (List ℕ)) → IsSameQuestion q r → IsUnderWay q start b stack old visits → IsVisit r b n v → after ≡ visits + 1 → ((v ≡ Closed) × (new ≡ old)) ⊎ ((g : List ℕ) × (v ≡ Whole g) × (None ≡ old) × (new ≡ Some g)) → IsTurning q start n stack new after
 turning_of q r start b n stack visits after v old new same u h count (inl e) =
     let closed : IsVisit q b n Closed = subst (λ (x : Visited). IsVisit q b n x) e.0 (IsVisit-same q r b n v same h) in
     rw (closed.1, e.1, count) (closed_turning q start b stack visits old u closed.0)
@@ -277,14 +278,14 @@ turning_of q r start b n stack visits after v old new same u h count (inr w) =
     rw (whole.1, w.3, count) (whole_turning q start b stack visits w.0 (subst (λ (o : Option (List ℕ)). IsUnderWay q start b stack o visits) (sym w.2) u) whole.0.0 whole.0.1)
 
 -- whichever way nothing is left below the board
-pub turning_after : (q r s : Question) (start : List (Option ℕ)) (b n : Trailed) (stack : List Choice) (visits after : ℕ) (v : Visited) (old : Option (List ℕ)) (m : Trailed) (rest : List Choice) (new : Option (List ℕ)) → IsSame q r → IsSame q s → IsUnderWay q start b stack old visits → IsVisit r b n v → after ≡ visits + 1 → IsEnded s n stack old m rest new v → IsTurning q start m rest new after
+pub turning_after : (q r s : Question) (start : List (Option ℕ)) (b n : Trailed) (stack : List Choice) (visits after : ℕ) (v : Visited) (old : Option (List ℕ)) (m : Trailed) (rest : List Choice) (new : Option (List ℕ)) → IsSameQuestion q r → IsSameQuestion q s → IsUnderWay q start b stack old visits → IsVisit r b n v → after ≡ visits + 1 → IsEnded s n stack old m rest new v → IsTurning q start m rest new after
 turning_after q r s start b n stack visits after v old m rest new same same_after u h count (inl e) = rw (e.1, e.2) (turning_of q r start b n stack visits after v old new same u h count e.0)
 turning_after q r s start b n stack visits after v old m rest new same same_after u h count (inr e) =
     let under_way = opened_after q r start b stack visits after old n m rest e.0.place same u (subst (λ (x : Visited). IsVisit r b n x) e.0.is h) count e.0.places e.0.made e.0.trailed e.0.ahead e.0.paid in
     rw e.1 (refused_turning q start m rest after old under_way (λ f t. e.0.hopeless f (Solves-same q s m.places f same_after t)) (omega (arith, count)))
 
 -- what may be answered to a question that asks the same
-pub OutcomeOf-same : (q r : Question) (start : List (Option ℕ)) (budget : ℕ) (o : Outcome) → IsSame q r → OutcomeOf r start budget o → OutcomeOf q start budget o
+pub OutcomeOf-same : (q r : Question) (start : List (Option ℕ)) (budget : ℕ) (o : Outcome) → IsSameQuestion q r → OutcomeOf r start budget o → OutcomeOf q start budget o
 OutcomeOf-same q r start budget o e h = record {
   answer = told o h.answer;
   gives_up_late = λ gave. rw (sym e.values) (h.gives_up_late gave);

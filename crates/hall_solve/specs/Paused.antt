@@ -10,8 +10,8 @@ use Rattle.hall_solve.specs.Progress.{IsWalkAt}
 use Rattle.hall_solve.specs.Searched.{visits_made, outcome_of, visits_of, IsSpent}
 
 -- where the search started
-abbrev pub start_of : Search → List (Option ℕ)
-start_of search = search.start.places
+abbrev pub started_at : Search → List (Option ℕ)
+started_at search = search.start.places
 
 -- the most visits that it may make
 abbrev pub budget_of : Search → ℕ
@@ -31,7 +31,7 @@ pub record IsEnd (q : Question) (start : List (Option ℕ)) (budget visits : ℕ
 
 -- the search is the old one, and under way after more visits
 pub record IsPause (q : Question) (old : Search) (until visits : ℕ) (new : Search) : Type 0 where
-  pub start : start_of new ≡ start_of old
+  pub start : started_at new ≡ started_at old
   pub budget : budget_of new ≡ budget_of old
   pub under_way : IsSearchAt q visits new
   pub reached : visits ≡ until
@@ -39,5 +39,5 @@ pub record IsPause (q : Question) (old : Search) (until visits : ℕ) (new : Sea
 
 -- the search went on to its end, or until so many visits were made
 abbrev pub HasGoneOn : Question → Question → Search → ℕ → ℕ → Searching → Type 0
-HasGoneOn q r old until visits (Ended searched) = IsEnd q (start_of old) (budget_of old) visits searched
+HasGoneOn q r old until visits (Ended searched) = IsEnd q (started_at old) (budget_of old) visits searched
 HasGoneOn q r old until visits (Paused new) = IsPause r old until visits new

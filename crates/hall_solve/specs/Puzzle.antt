@@ -9,7 +9,7 @@ use Rattle.hall_grid.specs.Board.{Board}
 use Rattle.hall_grid.specs.Slither.{all_sides}
 use Rattle.hall_grid.specs.Answer.{IsBroken, places_of, values_of}
 use Rattle.hall_solve.specs.declared.outcome.Outcome.{Outcome}
-use Rattle.hall_solve.specs.Question.{Question, IsFilling, Extends}
+use Rattle.hall_solve.specs.Question.{Question, IsQuestionFilling, Extends}
 use Rattle.hall_solve.specs.Answer.{OutcomeOf}
 
 -- no rule is broken
@@ -43,7 +43,7 @@ OutcomeOfPuzzle board budget o = OutcomeOf (question_of board.kind board) (start
 
 -- every filling that breaks no rule has what is set
 abbrev pub AllExtend : Kind → Board → List (Option ℕ) → Type 0
-AllExtend kind board p = (f : List ℕ) → IsFilling (question_of kind board) f → IsRight board f → Extends f p
+AllExtend kind board p = (f : List ℕ) → IsQuestionFilling (question_of kind board) f → IsRight board f → Extends f p
 
 -- what a search sees of a puzzle: its board, and how often it was visited and asked
 pub record SearchView : Type 0 where

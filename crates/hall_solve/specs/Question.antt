@@ -9,13 +9,13 @@ pub record Question : Type 1 where
   pub right : List ℕ → Type 0
 
 -- two questions ask the same
-pub record IsSame (old new : Question) : Type 0 where
+pub record IsSameQuestion (old new : Question) : Type 0 where
   pub cells : new.cells ≡ old.cells
   pub values : new.values ≡ old.values
   pub right : (f : List ℕ) → new.right f ↔ old.right f
 
 -- a whole filling: a value at each place
-pub record IsFilling (q : Question) (f : List ℕ) : Type 0 where
+pub record IsQuestionFilling (q : Question) (f : List ℕ) : Type 0 where
   pub size : length f ≡ q.cells
   pub in_range : (i : ℕ) → i < q.cells → slice_index f i < q.values
 
@@ -34,7 +34,7 @@ Keeps old new = (i v : ℕ) → slice_index_or old i None ≡ Some v → slice_i
 
 -- a filling that is right and has what the partial filling has set
 pub record Solves (q : Question) (p : List (Option ℕ)) (f : List ℕ) : Type 0 where
-  pub filling : IsFilling q f
+  pub filling : IsQuestionFilling q f
   pub extends : Extends f p
   pub right : q.right f
 

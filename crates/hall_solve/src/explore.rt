@@ -2,7 +2,8 @@
 ghost use Rattle.std.specs.Prelude.{◌≡◌, ◌≤◌, ◌<◌, ◌+◌, ◌↔◌, ◌⊎◌, ℕ, false, List, None, Some};
 ghost use Rattle.std.specs.Prelude.{IfOk, IsTrue};
 ghost use Rattle.std.specs.Prelude.{length, slice_index_or, slice_set};
-ghost use Rattle.hall_solve.specs.Question.{IsPartial, IsFilling, IsHopeless, IsSame, IsOpen, plain_tree, open_places};
+ghost use Rattle.hall_solve.specs.Question.{IsPartial, IsQuestionFilling, IsHopeless, IsSameQuestion, IsOpen};
+ghost use Rattle.hall_solve.specs.Question.{plain_tree, open_places};
 ghost use Rattle.hall_solve.specs.Answer.{OutcomeOf, fewest_visits};
 ghost use Rattle.hall_solve.specs.Trail.{IsTrailed};
 ghost use Rattle.hall_solve.specs.Progress.{IsBegun, IsWalkAt, IsProgress};
@@ -39,7 +40,7 @@ pub fn search<R: Rules>(
     ensures within { R.visits rules.new ≤ budget }
     ensures at_visits { R.asked rules.new ≤ R.visits rules.new }
 
-    ensures same { IsSame (R.question rules.old) (R.question rules.new) }
+    ensures same { IsSameQuestion (R.question rules.old) (R.question rules.new) }
 {
     let walk = begin(alloc, start)?;
     match go_on(alloc, rules, start, walk, budget)? {
@@ -99,7 +100,7 @@ pub(crate) fn go_on<R: Rules>(
         (λ _. R.visits rules.new ≤ plain_tree (R.question rules.old).values (open_places start.now.places)) }
     ensures within { R.visits rules.new ≤ until }
     ensures at_visits { R.asked rules.new ≤ R.visits rules.new }
-    ensures same { IsSame (R.question rules.old) (R.question rules.new) }
+    ensures same { IsSameQuestion (R.question rules.old) (R.question rules.new) }
 {
     let _ = start;
     let Walk {
@@ -176,13 +177,14 @@ fn turn<R: Rules>(rules: &R, board: &mut Partial, stack: &mut Vec<Choice>) -> bo
     requires partial { IsPartial (R.question rules.now) board.old.places }
     requires made { AreMade board.old stack.old.items }
     ensures made { IsTrue result → AreMade board.new stack.new.items }
-    ensures waited { IsTrue result → (f : List ℕ) → IsFilling (R.question rules.now) f
+    ensures waited { IsTrue result → (f : List ℕ) → IsQuestionFilling (R.question rules.now) f
         → IsAhead board.new stack.new.items f → AwaitsTurn board.old stack.old.items f }
-    ensures ahead { IsTrue result → (f : List ℕ) → IsFilling (R.question rules.now) f → (R.question rules.now).right f
+    ensures ahead { IsTrue result → (f : List ℕ) → IsQuestionFilling (R.question rules.now) f
+        → (R.question rules.now).right f
         → AwaitsTurn board.old stack.old.items f → IsAhead board.new stack.new.items f }
     ensures paid { IsTrue result → visits_ahead (R.question rules.now).values board.new stack.new.items
         ≤ visits_left (length board.old.places) (R.question rules.now).values stack.old.items }
-    ensures over { result ≡ false → (f : List ℕ) → IsFilling (R.question rules.now) f
+    ensures over { result ≡ false → (f : List ℕ) → IsQuestionFilling (R.question rules.now) f
         → (R.question rules.now).right f → AwaitsTurn board.old stack.old.items f → ⊥ }
     ensures partial { IsTrue result → IsPartial (R.question rules.now) board.new.places }
     ensures trailed { IsTrue result → IsTrailed board.new }

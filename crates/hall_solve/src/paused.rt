@@ -1,9 +1,9 @@
 //! A search that pauses, and goes on from there.
 ghost use Rattle.std.specs.Prelude.{◌≡◌, ◌≤◌, ◌<◌, ◌+◌, IfOk};
-ghost use Rattle.hall_solve.specs.Question.{IsPartial, IsSame, plain_tree, open_places};
+ghost use Rattle.hall_solve.specs.Question.{IsPartial, IsSameQuestion, plain_tree, open_places};
 ghost use Rattle.hall_solve.specs.Answer.{OutcomeOf, fewest_visits};
 ghost use Rattle.hall_solve.specs.Searched.{visits_made, outcome_of, visits_of, IsSpent};
-ghost use Rattle.hall_solve.specs.Paused.{start_of, budget_of, IsSearchAt, HasGoneOn};
+ghost use Rattle.hall_solve.specs.Paused.{started_at, budget_of, IsSearchAt, HasGoneOn};
 
 use crate::explore::{Progress, Walk, begin, go_on};
 use crate::outcome::Outcome;
@@ -39,7 +39,7 @@ impl Search {
     ) -> Result<Search, AllocError>
         requires fresh { R.visits rules.now ≡ 0 }
         requires start { IsPartial (R.question rules.now) start.places }
-        ensures start { IfOk result (λ search. start_of search ≡ start.places) }
+        ensures start { IfOk result (λ search. started_at search ≡ start.places) }
         ensures budget { IfOk result (λ search. budget_of search ≡ budget) }
         ensures under_way { IfOk result (IsSearchAt (R.question rules.now) (R.visits rules.now)) }
     {
@@ -67,11 +67,11 @@ impl Search {
 
         // How many visits were made.
         ensures frugal { IfOk result
-            (λ _. R.visits rules.new ≤ plain_tree (R.question rules.old).values (open_places (start_of self))) }
+            (λ _. R.visits rules.new ≤ plain_tree (R.question rules.old).values (open_places (started_at self))) }
         ensures within { R.visits rules.new ≤ budget_of self }
         ensures at_visits { R.asked rules.new ≤ R.visits rules.new }
 
-        ensures same { IsSame (R.question rules.old) (R.question rules.new) }
+        ensures same { IsSameQuestion (R.question rules.old) (R.question rules.new) }
     {
         let Search {
             start,
@@ -118,7 +118,7 @@ pub fn search_by_turns<R: Rules>(
     ensures within { R.visits rules.new ≤ budget }
     ensures at_visits { R.asked rules.new ≤ R.visits rules.new }
 
-    ensures same { IsSame (R.question rules.old) (R.question rules.new) }
+    ensures same { IsSameQuestion (R.question rules.old) (R.question rules.new) }
 {
     let mut search = Search::new(alloc, rules, start, budget)?;
     'turns: loop {

@@ -1,7 +1,7 @@
 //! What a kind of puzzle tells a search.
 ghost use Rattle.std.specs.Prelude.{◌≡◌, ◌↔◌, ℕ, ◌+◌, ◌-◌, ◌^◌, ◌<◌, List, Option, IfOk, OnErr, IfSome, IfNone, IsTrue};
 ghost use Rattle.std.specs.Prelude.{length};
-ghost use Rattle.hall_solve.specs.Question.{Question, IsSame, IsFilling, IsPartial};
+ghost use Rattle.hall_solve.specs.Question.{Question, IsSameQuestion, IsQuestionFilling, IsPartial};
 ghost use Rattle.hall_solve.specs.Question.{IsHopeless, IsOpen, IsWhole, Narrows};
 ghost use Rattle.hall_solve.specs.Trail.{Grows};
 
@@ -64,16 +64,16 @@ pub trait Rules {
         ensures grows { Grows partial.old partial.new }
         ensures counted { visits self.new ≡ visits self.old + 1 }
         ensures not_asked { asked self.new ≡ asked self.old }
-        ensures same { IsSame (question self.old) (question self.new) };
+        ensures same { IsSameQuestion (question self.old) (question self.new) };
 
     /// Whether the filling is right.
     fn accepts(&mut self, alloc: Global, filling: &Filling) -> Result<bool, AllocError>
         requires countable { asked self.old < 2 ^ 64 - 1 }
-        requires filling { IsFilling (question self.old) filling.now }
+        requires filling { IsQuestionFilling (question self.old) filling.now }
         ensures right { IfOk result (λ yes. IsTrue yes ↔ (question self.old).right filling.now) }
         ensures counted { asked self.new ≡ asked self.old + 1 }
         ensures not_visited { visits self.new ≡ visits self.old }
-        ensures same { IsSame (question self.old) (question self.new) };
+        ensures same { IsSameQuestion (question self.old) (question self.new) };
 
     /// The place to try values at, `None` where every place is set.
     ///

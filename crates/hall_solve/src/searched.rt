@@ -1,6 +1,6 @@
 //! A search that tells how many visits it made.
 ghost use Rattle.std.specs.Prelude.{◌≡◌, ◌≤◌, IfOk};
-ghost use Rattle.hall_solve.specs.Question.{IsPartial, IsSame, plain_tree, open_places};
+ghost use Rattle.hall_solve.specs.Question.{IsPartial, IsSameQuestion, plain_tree, open_places};
 ghost use Rattle.hall_solve.specs.Answer.{OutcomeOf, fewest_visits};
 ghost use Rattle.hall_solve.specs.Searched.{visits_made, outcome_of, visits_of, IsSpent};
 
@@ -82,7 +82,7 @@ pub fn search_counted<R: Rules>(
     ensures within { R.visits rules.new ≤ budget }
     ensures at_visits { R.asked rules.new ≤ R.visits rules.new }
 
-    ensures same { IsSame (R.question rules.old) (R.question rules.new) }
+    ensures same { IsSameQuestion (R.question rules.old) (R.question rules.new) }
 {
     let outcome = search(alloc, rules, start, budget)?;
     Ok(Searched::of(outcome, rules.visits()))

@@ -1,6 +1,6 @@
 //! One visit to a partial filling.
 ghost use Rattle.std.specs.Prelude.{◌≡◌, ◌≤◌, ◌<◌, ◌+◌, ◌^◌, ◌-◌, IfOk};
-ghost use Rattle.hall_solve.specs.Question.{IsPartial, IsSame, IsWhole};
+ghost use Rattle.hall_solve.specs.Question.{IsPartial, IsSameQuestion, IsWhole};
 ghost use Rattle.hall_solve.specs.Trail.{Grows};
 ghost use Rattle.hall_solve.specs.Visit.{IsLook, IsVisit};
 
@@ -34,7 +34,7 @@ pub(crate) fn visit<R: Rules>(
     ensures visit { IfOk result (IsVisit (R.question rules.old) partial.old partial.new) }
     ensures counted { R.visits rules.new ≡ R.visits rules.old + 1 }
     ensures at_visits { R.asked rules.new ≤ R.visits rules.new }
-    ensures same { IsSame (R.question rules.old) (R.question rules.new) }
+    ensures same { IsSameQuestion (R.question rules.old) (R.question rules.new) }
 {
     let mark = partial.mark();
     let visited = look(alloc, rules, partial)?;
@@ -60,7 +60,7 @@ fn look<R: Rules>(
     ensures grows { Grows partial.old partial.new }
     ensures counted { R.visits rules.new ≡ R.visits rules.old + 1 }
     ensures at_visits { R.asked rules.new ≤ R.visits rules.new }
-    ensures same { IsSame (R.question rules.old) (R.question rules.new) }
+    ensures same { IsSameQuestion (R.question rules.old) (R.question rules.new) }
 {
     match rules.propagate(alloc, partial)? {
         Step::Dead => return Ok(Visited::Closed),
@@ -83,7 +83,7 @@ fn judge<R: Rules>(alloc: Global, rules: &mut R, whole: &Partial) -> Result<Visi
     ensures answer { IfOk result (IsLook (R.question rules.old) whole.now.places whole.now.places) }
     ensures asked { R.asked rules.new ≤ R.asked rules.old + 1 }
     ensures visits { R.visits rules.new ≡ R.visits rules.old }
-    ensures same { IsSame (R.question rules.old) (R.question rules.new) }
+    ensures same { IsSameQuestion (R.question rules.old) (R.question rules.new) }
 {
     let filling = whole.filling(alloc)?;
     if rules.accepts(alloc, &filling)? {

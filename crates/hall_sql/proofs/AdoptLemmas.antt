@@ -14,8 +14,9 @@ use Rattle.hall_store.specs.Maps.{empty_world}
 use Rattle.hall_sql.specs.Tables.{IsHallSchema, no_schema, hall_schema}
 use Rattle.hall_sql.specs.Rows.{world_of}
 use Rattle.hall_sql.specs.Stands.{IsBareHall}
-use Rattle.hall_sql.specs.Standing.{AddsNoOutcome, Lasts, AreKeyed, AreAllKeyed, Rests, IsBare, HasAdopted, HasDeclined, MakesAtMost, without_limit}
-use Rattle.hall_sql.specs.Inside.{Carries}
+use Rattle.hall_sql.specs.Standing.{AddsNoOutcome, LeadsConnection, AreKeyed, AreAllKeyed, KeptOrRolledBack}
+use Rattle.hall_sql.specs.Standing.{IsBareDatabase, HasAdopted, HasDeclined, MakesAtMost, without_limit}
+use Rattle.hall_sql.specs.Inside.{LeadsUncommitted}
 use Rattle.hall_sql.specs.Made.{all_tables, Awaits, HasGrown}
 use Rattle.hall_sql.specs.Scan.{AreScanned}
 use Rattle.hall_sql.proofs.LastLemmas.{last_none, last_then, last_begun, last_lifted, quiet}
@@ -44,8 +45,8 @@ awaits_all held is = record {
   lacks = (refl, (refl, (refl, (refl, (refl, (refl, (refl, refl)))))));
 }
 
-bare_hall : (held : Database) → Awaits [] held → IsBare hall_schema held
-bare_hall held it = subst (λ s. IsBare s held) it.lacks it.bare
+bare_hall : (held : Database) → Awaits [] held → IsBareDatabase hall_schema held
+bare_hall held it = subst (λ s. IsBareDatabase s held) it.lacks it.bare
 
 -- what changes nothing is refused
 pub declined_itself : (s : State) → HasDeclined s s
@@ -61,8 +62,8 @@ none_open : (s : State) → s.in_transaction ≡ false → IsTrue s.in_transacti
 none_open s alone inside = let no : false ≡ true = sym alone ∙ inside in cc
 
 -- what rests is refused
-pub rests_declined : (old new : State) → old.in_transaction ≡ false → (IsTrue old.is_open → old.now ≡ old.committed) → Lasts old new
-    → (HasCleanDisk new → Rests old new) → HasDeclined old new
+pub rests_declined : (old new : State) → old.in_transaction ≡ false → (IsTrue old.is_open → old.now ≡ old.committed) → LeadsConnection old new
+    → (HasCleanDisk new → KeptOrRolledBack old new) → HasDeclined old new
 rests_declined old new alone settled lasts rests = record {
   follows = record { lasts = lasts; opened = λ clean opens. was (rests clean) opens };
   mode = λ clean. mode (rests clean);
@@ -70,21 +71,21 @@ rests_declined old new alone settled lasts rests = record {
   same = λ clean opens. same (rests clean) opens;
 }
   where
-    was : Rests old new → IsTrue new.is_open → IsTrue old.is_open
+    was : KeptOrRolledBack old new → IsTrue new.is_open → IsTrue old.is_open
     was (inl left) opens = left.0.was_open
     was (inr back) opens = back.was_open opens
 
-    mode : Rests old new → new.in_transaction ≡ old.in_transaction
+    mode : KeptOrRolledBack old new → new.in_transaction ≡ old.in_transaction
     mode (inl left) = left.0.mode
     mode (inr back) = back.autocommit ∙ sym alone
 
-    same : Rests old new → IsTrue new.is_open → (new.now ≡ old.now) × (new.committed ≡ old.committed)
+    same : KeptOrRolledBack old new → IsTrue new.is_open → (new.now ≡ old.now) × (new.committed ≡ old.committed)
     same (inl left) opens = (left.0.now_is, left.0.committed_is)
     same (inr back) opens = ((back.undone opens).0 ∙ sym (settled (back.was_open opens)), (back.undone opens).1)
 
 -- the hall's tables stood
 pub scanned_adopted : (old new : State) → old.in_transaction ≡ false → (IsTrue old.is_open → old.now ≡ old.committed) → IsHallSchema old.now.schema
-    → Lasts old new → AddsNoOutcome old new → (HasCleanDisk new → AreScanned all_tables old new) → HasAdopted old (without_limit new)
+    → LeadsConnection old new → AddsNoOutcome old new → (HasCleanDisk new → AreScanned all_tables old new) → HasAdopted old (without_limit new)
 scanned_adopted old new alone settled has lasts quiets scanned =
     let left = λ (clean : HasCleanDisk new). (scanned clean).left in
     let was = λ (clean : HasCleanDisk new). sym (left clean).is_open ∙ (scanned clean).serves in
@@ -108,7 +109,7 @@ module _ {S : Type 0} (g : Ghosts S) (held : Held S) (settled : IsTrue (state g 
   base = state g (record held { in_transaction = true })
 
   -- rolled back, the tables are as they were
-  pub rolled_declined : held.in_transaction ≡ false → (mid end : State) → Carries base mid → Lasts mid end
+  pub rolled_declined : held.in_transaction ≡ false → (mid end : State) → LeadsUncommitted base mid → LeadsConnection mid end
       → (HasCleanDisk end → IsRolledBack mid end) → HasDeclined (state g held) end
   rolled_declined alone mid end carries lasts rolled =
       let now : HasCleanDisk end → HasCleanDisk mid = λ (clean : HasCleanDisk end). let was : HasCleanDisk mid = omega (arith, lasts.clean, clean) in was in
@@ -125,16 +126,16 @@ module _ {S : Type 0} (g : Ghosts S) (held : Held S) (settled : IsTrue (state g 
       }
 
   -- so they are where the commit was refused
-  pub refused_declined : held.in_transaction ≡ false → (error : Error) (mid end : State) → Carries base mid
+  pub refused_declined : held.in_transaction ≡ false → (error : Error) (mid end : State) → LeadsUncommitted base mid
       → (HasCleanDisk mid → IsTrue base.in_transaction → HasGrown all_tables [] base mid)
-      → Lasts mid end → (HasCleanDisk end → FailsToCommit mid end error) → HasDeclined (state g held) end
+      → LeadsConnection mid end → (HasCleanDisk end → FailsToCommit mid end error) → HasDeclined (state g held) end
   refused_declined alone error mid end carries grown lasts fails =
       rolled_declined alone mid end carries lasts (λ clean.
       let was : HasCleanDisk mid = omega (arith, lasts.clean, clean) in
       commit_refused mid end error (grown was refl).mode (fails clean))
 
   -- what a commit of all seven may leave
-  pub grown_stops : (mid end : State) → held.schema ≡ no_schema → Carries base mid
+  pub grown_stops : (mid end : State) → held.schema ≡ no_schema → LeadsUncommitted base mid
       → (HasCleanDisk mid → IsTrue base.in_transaction → HasGrown all_tables [] base mid)
       → Survives mid end (λ db. db ≡ mid.now.trees) → MakesAtMost (state g held) end
   grown_stops mid end none carries grown survives clean db may =
@@ -153,20 +154,20 @@ module _ {S : Type 0} (g : Ghosts S) (held : Held S) (settled : IsTrue (state g 
       ]
 
   -- and where nothing was committed
-  pub rolled_stops : (mid end : State) → Carries base mid → Survives mid end (λ _. ⊥) → MakesAtMost (state g held) end
+  pub rolled_stops : (mid end : State) → LeadsUncommitted base mid → Survives mid end (λ _. ⊥) → MakesAtMost (state g held) end
   rolled_stops mid end carries survives clean db may =
       let clean_mid : HasCleanDisk mid = omega (arith, survives.clean, clean) in
       inl (carries.stops clean_mid db (quiet mid end survives clean db may))
 
   -- committed, the hall stands with an empty world
-  pub committed_adopted : held.in_transaction ≡ false → (mid end : State) → held.schema ≡ no_schema → Carries base mid → (HasCleanDisk mid → IsTrue base.in_transaction → HasGrown all_tables [] base mid)
-      → Lasts mid end → MakesAtMost (state g held) end → end.in_transaction ≡ false
+  pub committed_adopted : held.in_transaction ≡ false → (mid end : State) → held.schema ≡ no_schema → LeadsUncommitted base mid → (HasCleanDisk mid → IsTrue base.in_transaction → HasGrown all_tables [] base mid)
+      → LeadsConnection mid end → MakesAtMost (state g held) end → end.in_transaction ≡ false
       → (HasCleanDisk end → IsTrue mid.in_transaction × Shows mid end mid.now mid.now false × KeepsCounts mid end × (end.marks ≡ []))
       → HasAdopted (state g held) (without_limit end)
   committed_adopted alone mid end none carries grown lasts stops ended ok =
       let now : HasCleanDisk end → HasCleanDisk mid = λ (clean : HasCleanDisk end). let was : HasCleanDisk mid = omega (arith, lasts.clean, clean) in was in
-      let bare : HasCleanDisk end → IsBare hall_schema end.now = λ (clean : HasCleanDisk end).
-      subst (IsBare hall_schema) (sym (ok clean).1.now_is) (bare_hall mid.now ((grown (now clean) refl).made (awaits_all base.now none))) in
+      let bare : HasCleanDisk end → IsBareDatabase hall_schema end.now = λ (clean : HasCleanDisk end).
+      subst (IsBareDatabase hall_schema) (sym (ok clean).1.now_is) (bare_hall mid.now ((grown (now clean) refl).made (awaits_all base.now none))) in
       record {
         alone = alone;
         hall = record {

@@ -29,8 +29,10 @@ use Rattle.hall_policy.specs.declared.record.AnswerRow.{AnswerRow}
 use Rattle.hall_policy.specs.declared.record.ProtestRow.{ProtestRow}
 use Rattle.hall_store.specs.Maps.{empty_world}
 use Rattle.hall_sql.specs.AllRead.{AreAllRead, IsRead, StaysRead, is_record}
-use Rattle.hall_sql.specs.Rows.{answer_in, answer_of, columns_from, entry, kept, person_in, person_of, place_in, place_of, protest_in, protest_of, puzzle_row_in, puzzle_row_of, round_in, round_of, tester_in, tester_of, world_of}
-use Rattle.hall_sql.specs.Standing.{HasAdded, IsBareLike, IsOver, IsSelection, RestedAny}
+use Rattle.hall_sql.specs.Rows.{answer_in, answer_of_row, columns_from, entry, kept, person_in, person_of_row, place_in}
+use Rattle.hall_sql.specs.Rows.{place_of_row, protest_in, protest_of_row, puzzle_row_in, puzzle_of_row, round_in}
+use Rattle.hall_sql.specs.Rows.{round_of_row, tester_in, tester_of_row, world_of}
+use Rattle.hall_sql.specs.Standing.{HasAdded, IsBareLike, IsOver, IsSelection, KeptAnyTables}
 use Rattle.hall_sql.specs.Statements.{plain_query}
 use Rattle.hall_sql.specs.declared.people.TheConstants.{ALL_PEOPLE}
 use Rattle.hall_sql.specs.declared.puzzles.TheConstants.{ALL_PUZZLES}
@@ -134,7 +136,7 @@ module _ (old new : State) (clean : HasCleanDisk old) where
       read_all all_testers_are tester_in 2 (λ db. refl) (λ r. refl) (λ r. refl) old new hall clean
 
 -- a table that rests was read before, where it is
-pub read_before : (tree : ℕ) (old new : State) → IsAnyHall old → RestedAny old new → HasCleanDisk new → IsTrue new.is_open
+pub read_before : (tree : ℕ) (old new : State) → IsAnyHall old → KeptAnyTables old new → HasCleanDisk new → IsTrue new.is_open
     → IsRead new.now.trees tree → IsRead old.now.trees tree
 read_before tree old new hall rested clean opens =
     subst (λ (d : Database). IsRead d.trees tree) ((rested hall.schema hall.tabled).same clean opens)
@@ -199,13 +201,13 @@ pub all_bare : (held : Database) → IsHallSchema held.schema → world_of held.
 all_bare held has none each = record {
   is = has;
   empty =
-      let n0 = none_kept text_total (λ (p : Person). p.name) person_of (held.trees 0) (ap (λ (w : World). w.people) none) each.0 in
-      let n1 = none_kept puzzle_total (λ (p : PuzzleRow). p.key) puzzle_row_of (held.trees 3) (ap (λ (w : World). w.puzzles) none) each.1.0 in
-      let n2 = none_kept text_total (λ (r : Round). r.id) round_of (held.trees 5) (ap (λ (w : World). w.rounds) none) each.1.1.0 in
-      let n3 = none_listed place_total place_of (held.trees 7) (ap (λ (w : World). w.places) none) each.1.1.1.0 in
-      let n4 = none_kept answer_total (λ (a : AnswerRow). a.key) answer_of (held.trees 9) (ap (λ (w : World). w.answers) none) each.1.1.1.1.0 in
-      let n5 = none_kept protest_total (λ (p : ProtestRow). p.key) protest_of (held.trees 12) (ap (λ (w : World). w.protests) none) each.1.1.1.1.1.0 in
-      let n6 = none_listed tester_total tester_of (held.trees 14) (ap (λ (w : World). w.testers) none) each.1.1.1.1.1.1.0 in
+      let n0 = none_kept text_total (λ (p : Person). p.name) person_of_row (held.trees 0) (ap (λ (w : World). w.people) none) each.0 in
+      let n1 = none_kept puzzle_total (λ (p : PuzzleRow). p.key) puzzle_of_row (held.trees 3) (ap (λ (w : World). w.puzzles) none) each.1.0 in
+      let n2 = none_kept text_total (λ (r : Round). r.id) round_of_row (held.trees 5) (ap (λ (w : World). w.rounds) none) each.1.1.0 in
+      let n3 = none_listed place_total place_of_row (held.trees 7) (ap (λ (w : World). w.places) none) each.1.1.1.0 in
+      let n4 = none_kept answer_total (λ (a : AnswerRow). a.key) answer_of_row (held.trees 9) (ap (λ (w : World). w.answers) none) each.1.1.1.1.0 in
+      let n5 = none_kept protest_total (λ (p : ProtestRow). p.key) protest_of_row (held.trees 12) (ap (λ (w : World). w.protests) none) each.1.1.1.1.1.0 in
+      let n6 = none_listed tester_total tester_of_row (held.trees 14) (ap (λ (w : World). w.testers) none) each.1.1.1.1.1.1.0 in
       (n0, (n1, (n2, (n3, (n4, (n5, (n6, tt)))))));
 }
 

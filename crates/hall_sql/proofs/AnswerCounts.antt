@@ -22,7 +22,7 @@ use Rattle.hall_policy.proofs.Texts.{text_decides, and_first, and_second}
 use Rattle.hall_store.specs.Store.{IsListing, IsNumberTaken, HasSubmitted, is_of}
 use Rattle.hall_sql.specs.Tables.{IsHallSchema}
 use Rattle.hall_sql.proofs.Wordings.{Wording, hall_in, worded}
-use Rattle.hall_sql.specs.Rows.{answer_in, answer_of, world_of}
+use Rattle.hall_sql.specs.Rows.{answer_in, answer_of_row, world_of}
 use Rattle.hall_sql.specs.Standing.{AreKeyed}
 use Rattle.hall_sql.specs.declared.answers.TheConstants.{ANSWERS_GIVEN, NUMBER_TAKEN}
 use Rattle.hall_sql.proofs.AmongLemmas.{kept_value, counted, one_passes, any_there, any_is}
@@ -54,10 +54,10 @@ module _ (db : Trees) where
   answers = values (world_of db).answers
 
   answer_kept : (row : AnswerRow) → Contains answers row → get (world_of db).answers row.key ≡ Some row
-  answer_kept = kept_value answer_total same_answer_keys (λ (row : AnswerRow). row.key) answer_of (db 9)
+  answer_kept = kept_value answer_total same_answer_keys (λ (row : AnswerRow). row.key) answer_of_row (db 9)
 
   answer_keyed : (key : AnswerKey) (row : AnswerRow) → get (world_of db).answers key ≡ Some row → row.key ≡ key
-  answer_keyed = kept_keyed answer_total same_answer_keys (λ (row : AnswerRow). row.key) answer_of (db 9)
+  answer_keyed = kept_keyed answer_total same_answer_keys (λ (row : AnswerRow). row.key) answer_of_row (db 9)
 
   -- one passes exactly where a number is taken
   module _ (entrant round : List ℕ) (number n : ℕ) where
@@ -135,12 +135,12 @@ module _ (old new : State) (has : IsHallSchema old.now.schema) (keyed : AreKeyed
   said : (u : Wording) × (old.now.schema ≡ hall_in u)
   said = worded old.now.schema has
 
-  whole : IsPermutation (flat_map (λ r. option_to_list (answer_of r)) (old.now.trees 9)) (values (world_of old.now.trees).answers)
+  whole : IsPermutation (flat_map (λ r. option_to_list (answer_of_row r)) (old.now.trees 9)) (values (world_of old.now.trees).answers)
   whole =
       let db = old.now.trees in
       answers_listed {schema = old.now.schema} (inr has) db keyed sound
 
-  to_agrees : (entrant round : List ℕ) (number : ℕ) (r : Row) (x : AnswerRow) → answer_of r ≡ Some x
+  to_agrees : (entrant round : List ℕ) (number : ℕ) (r : Row) (x : AnswerRow) → answer_of_row r ≡ Some x
       → list_all (holds ((Text entrant ∷ Text round ∷ Int (pos number) ∷ []) ∷ r ∷ [])) place_terms ≡ is_to entrant round number x
   to_agrees entrant round number r x h =
       let it = has_columns r x h in
@@ -157,7 +157,7 @@ module _ (old new : State) (has : IsHallSchema old.now.schema) (keyed : AreKeyed
       answer_columns [] _ (answers_given_is said.0).0 (answers_given_is said.0).1 (answers_given_is said.0).2 (λ db. refl) (λ r. refl)
       (is_to entrant round number) (to_agrees entrant round number) old new rows out said.1 shown is _ whole)
 
-  nth_agrees : (entrant round : List ℕ) (number n : ℕ) (r : Row) (x : AnswerRow) → answer_of r ≡ Some x
+  nth_agrees : (entrant round : List ℕ) (number n : ℕ) (r : Row) (x : AnswerRow) → answer_of_row r ≡ Some x
       → list_all (holds ((Text entrant ∷ Text round ∷ Int (pos number) ∷ Int (pos n) ∷ []) ∷ r ∷ [])) nth_terms
       ≡ is_nth entrant round number n x
   nth_agrees entrant round number n r x h =

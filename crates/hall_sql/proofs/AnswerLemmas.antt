@@ -8,7 +8,8 @@ use Rattle.sqlite.specs.Order.{Row}
 use Rattle.sqlite_value.specs.Order.{column}
 use Rattle.sqlite.specs.Term.{holds}
 use Rattle.sqlite.specs.State.{State, Shown}
-use Rattle.hall_policy.specs.Text.{is_word_byte, is_printable}
+use Rattle.hall_grid.specs.Printable.{is_printable}
+use Rattle.hall_policy.specs.Text.{is_word_byte}
 use Rattle.hall_policy.specs.World.{answer_cmp}
 use Rattle.std.specs.Ordering.{nat_cmp}
 use Rattle.std.specs.declared.cmp.Ordering.{Ordering}
@@ -41,7 +42,7 @@ use Rattle.hall_policy.proofs.Orders.{answer_total, same_answer_keys}
 use Rattle.hall_policy.specs.declared.record.AnswerKey.{AnswerKey}
 use Rattle.hall_policy.specs.declared.record.AnswerRow.{AnswerRow}
 use Rattle.hall_sql.specs.Values.{name_in, token_in, within, kind_in}
-use Rattle.hall_sql.specs.Rows.{answer_in, answer_of, world_of}
+use Rattle.hall_sql.specs.Rows.{answer_in, answer_of_row, world_of}
 use Rattle.hall_sql.proofs.AnswerTexts.{all_answers_are, key_order, key_terms, answer_columns, answer_is}
 use Rattle.hall_sql.proofs.ColumnLemmas.{kind_column, number_column, column_equals, column_is, last_equal, more_equal}
 use Rattle.hall_sql.proofs.FoundLemmas.{asked_found}
@@ -60,7 +61,7 @@ pub record HasColumns (r : Row) (row : AnswerRow) : Type 0 where
   pub token : column r 4 ≡ Text row.key.token
   pub n : column r 5 ≡ Int (pos row.n)
 
-pub has_columns : (r : Row) (row : AnswerRow) → answer_of r ≡ Some row → HasColumns r row
+pub has_columns : (r : Row) (row : AnswerRow) → answer_of_row r ≡ Some row → HasColumns r row
 has_columns r row is =
     let it = answer_parts_of (name_in (column r 1)) (name_in (column r 2)) (within 1 99 (column r 3)) (token_in (column r 4)) (within 1 50 (column r 5))
     (within 0 4102444800 (column r 6)) (kind_in 0 4000 is_printable (column r 7)) (within 0 65535 (column r 8)) row is in
@@ -76,7 +77,7 @@ abbrev pub key_params : AnswerKey → Row
 key_params key = Text key.entrant ∷ Text key.round ∷ Int (pos key.number) ∷ Text key.token ∷ []
 
 -- WHERE entrant = ?1 AND round = ?2 AND number = ?3 AND token = ?4 asks for the key
-agrees : (key : AnswerKey) (r : Row) (row : AnswerRow) → answer_of r ≡ Some row
+agrees : (key : AnswerKey) (r : Row) (row : AnswerRow) → answer_of_row r ≡ Some row
     → list_all (holds (key_params key ∷ r ∷ [])) key_terms ≡ eq_by_cmp answer_cmp row.key key
 agrees key r row is =
     let it = has_columns r row is in
@@ -96,7 +97,7 @@ answer_found key old new rows out has =
 -- ---- listings
 
 -- two rows of one key agree on the columns of the primary key
-agreeing : (r y : Row) (x z : AnswerRow) → answer_of r ≡ Some x → answer_of y ≡ Some z → x.key ≡ z.key
+agreeing : (r y : Row) (x z : AnswerRow) → answer_of_row r ≡ Some x → answer_of_row y ≡ Some z → x.key ≡ z.key
     → agree plain (1 ∷ 2 ∷ 3 ∷ 4 ∷ []) y (1 ∷ 2 ∷ 3 ∷ 4 ∷ []) r ≡ true
 unfolding first_key
 agreeing r y x z p q e =
@@ -122,10 +123,10 @@ answers_there = table_at Answers
 
 -- the table's records are the world's answers, each once
 pub answers_listed : {schema : Schema} → IsVersion schema → (db : Trees) → AreKeyed (db 9) → IsDatabase (record { schema = schema; trees = db })
-    → IsPermutation (flat_map (λ r. option_to_list (answer_of r)) (db 9)) (values (world_of db).answers)
+    → IsPermutation (flat_map (λ r. option_to_list (answer_of_row r)) (db 9)) (values (world_of db).answers)
 answers_listed {schema} version db keyed sound =
     let rule = unique_in schema Answers db version sound in
-    records_listed answer_total same_answer_keys (λ (row : AnswerRow). row.key) answer_of (1 ∷ 2 ∷ 3 ∷ 4 ∷ []) (db 9) keyed agreeing
+    records_listed answer_total same_answer_keys (λ (row : AnswerRow). row.key) answer_of_row (1 ∷ 2 ∷ 3 ∷ 4 ∷ []) (db 9) keyed agreeing
     (λ r h. all_has _ (db 9) r rule h)
 
 -- ORDER BY entrant, number, n, token
@@ -135,7 +136,7 @@ by_order params terms a b =
     output_cmp q (output q (params ∷ a ∷ [])) (output q (params ∷ b ∷ []))
 
 -- it is the order of listings
-pub same_order : (params : Row) (terms : List Term) (a b : Row) (x y : AnswerRow) → answer_of a ≡ Some x → answer_of b ≡ Some y
+pub same_order : (params : Row) (terms : List Term) (a b : Row) (x y : AnswerRow) → answer_of_row a ≡ Some x → answer_of_row b ≡ Some y
     → by_order params terms a b ≡ listing_cmp x y
 same_order params terms a b x y p q =
     let one = has_columns a x p in
@@ -159,7 +160,7 @@ same_order params terms a b x y p q =
     )
 
 -- ORDER BY entrant, round, number, token is the order of keys
-by_key : (a b : Row) (x y : AnswerRow) → answer_of a ≡ Some x → answer_of b ≡ Some y
+by_key : (a b : Row) (x y : AnswerRow) → answer_of_row a ≡ Some x → answer_of_row b ≡ Some y
     → ordered_by 9 [] answer_columns key_order [] a b ≡ answer_cmp x.key y.key
 by_key a b x y p q =
     let one = has_columns a x p in
@@ -197,7 +198,7 @@ module _ (old new : State) (has : IsHallSchema old.now.schema) (keyed : AreKeyed
   said = worded old.now.schema has
 
   listed_by : (params : Row) (terms : List Term) (test : AnswerRow → Bool)
-      → ((r : Row) (x : AnswerRow) → answer_of r ≡ Some x → list_all (holds (params ∷ r ∷ [])) terms ≡ test x)
+      → ((r : Row) (x : AnswerRow) → answer_of_row r ≡ Some x → list_all (holds (params ∷ r ∷ [])) terms ≡ test x)
       → IsSelection (plain_query 9 terms answer_columns listing_order) (old.now.trees 9) params rows → IsListing (world_of old.now.trees) test out
   listed_by params terms test agrees sel =
       let shown : map answer_in (map (columns_from 1 8) sel.found) ≡ map Some out = subst (λ l. map answer_in l ≡ map Some out) sel.shown is in
@@ -205,18 +206,18 @@ module _ (old new : State) (has : IsHallSchema old.now.schema) (keyed : AreKeyed
       let whole = answers_listed {schema = old.now.schema} (inr has) db keyed sound in
       record {
         whole = selection_of_values answer_in (columns_from 1 8) (λ r. list_all (holds (params ∷ r ∷ [])) terms) test agrees (db 9) sel.found out (values (world_of db).answers) sel.same shown whole;
-        in_order = sorted_records answer_of (by_order params terms) listing_cmp (same_order params terms) sel.found out (read_through sel.found ∙ shown) sel.sorted;
+        in_order = sorted_records answer_of_row (by_order params terms) listing_cmp (same_order params terms) sel.found out (read_through sel.found ∙ shown) sel.sorted;
       }
     where
-      read_through : (l : List Row) → map answer_of l ≡ map answer_in (map (columns_from 1 8) l)
+      read_through : (l : List Row) → map answer_of_row l ≡ map answer_in (map (columns_from 1 8) l)
       read_through [] = refl
-      read_through (r ∷ l) = ap (λ k. answer_of r ∷ k) (read_through l)
+      read_through (r ∷ l) = ap (λ k. answer_of_row r ∷ k) (read_through l)
 
-  pub in_agrees : (round : List ℕ) (r : Row) (x : AnswerRow) → answer_of r ≡ Some x
+  pub in_agrees : (round : List ℕ) (r : Row) (x : AnswerRow) → answer_of_row r ≡ Some x
       → list_all (holds ((Text round ∷ []) ∷ r ∷ [])) (equals 2 0 ∷ []) ≡ is_in round x
   in_agrees round r x h = and_true _ ∙ column_same (column r 2) x.key.round round (has_columns r x h).round
 
-  of_agrees : (entrant round : List ℕ) (r : Row) (x : AnswerRow) → answer_of r ≡ Some x
+  of_agrees : (entrant round : List ℕ) (r : Row) (x : AnswerRow) → answer_of_row r ≡ Some x
       → list_all (holds ((Text entrant ∷ Text round ∷ []) ∷ r ∷ [])) (equals 2 1 ∷ equals 1 0 ∷ []) ≡ is_of entrant round x
   of_agrees entrant round r x h =
       let it = has_columns r x h in

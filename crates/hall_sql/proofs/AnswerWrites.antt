@@ -18,7 +18,8 @@ use Rattle.sqlite.specs.Command.TheVariants.{Insert}
 use Rattle.sqlite.specs.State.{State, HasCleanDisk, Executes, Writes}
 use Rattle.sqlite.specs.Listing.{understood}
 use Rattle.sqlite.proofs.Callers.{runs_as, statement_of}
-use Rattle.hall_policy.specs.Text.{text_cmp, is_word_byte, is_printable}
+use Rattle.hall_grid.specs.Printable.{is_printable}
+use Rattle.hall_policy.specs.Text.{text_cmp, is_word_byte}
 use Rattle.hall_policy.specs.World.{puzzle_cmp, answer_cmp, protest_cmp}
 use Rattle.hall_policy.specs.Ranges.{IsAnswerRow, IsWithin}
 use Rattle.hall_policy.specs.declared.record.AnswerRow.{AnswerRow}
@@ -30,7 +31,8 @@ use Rattle.hall_sql.specs.declared.tables.HallTable.TheVariants.{Answers}
 use Rattle.hall_sql.proofs.Wordings.{Wording, added_in, adds_quiet, hall_in, table_in, worded}
 use Rattle.hall_sql.specs.declared.answers.TheConstants.{ADD_ANSWER}
 use Rattle.hall_sql.specs.Columns.{answer_params}
-use Rattle.hall_sql.specs.Rows.{kept, person_of, puzzle_row_of, round_of, place_of, answer_of, protest_of, tester_of, world_of}
+use Rattle.hall_sql.specs.Rows.{kept, person_of_row, puzzle_of_row, round_of_row, place_of_row, answer_of_row}
+use Rattle.hall_sql.specs.Rows.{protest_of_row, tester_of_row, world_of}
 use Rattle.hall_sql.specs.Spared.{may_write}
 use Rattle.hall_sql.specs.Standing.{HasAdded, IsHall, HasMade}
 use Rattle.hall_sql.specs.Fill.{AddsAnswer, WithAnswer}
@@ -49,7 +51,7 @@ pub is_within : (least most n : ℕ) → IsWithin least most n → nat_le least 
 is_within least most n h = and_from _ _ (le-leb _ _ h.0) (le-leb _ _ h.1)
 
 -- they are read as the answer, whatever its rowid is
-answer_reads : (row : AnswerRow) → IsAnswerRow row → (id : Value) → answer_of (id ∷ answer_params row) ≡ Some row
+answer_reads : (row : AnswerRow) → IsAnswerRow row → (id : Value) → answer_of_row (id ∷ answer_params row) ≡ Some row
 answer_reads row is id = rw (
   kind_holds 1 24 is_word_byte row.key.entrant is.key.entrant,
   kind_holds 1 24 is_word_byte row.key.round is.key.round,
@@ -71,17 +73,17 @@ quiet u new = adds_quiet (hall_in u) 9 (new ∷ [])
 -- where the table of answers alone was written, the answers alone are changed
 pub answers_alone : (old new : Trees) (answers : FinMap answer_cmp AnswerRow)
     → AllByRecursion (λ (t : Table). t.tree ≢ 9 → new t.tree ≡ old t.tree) hall_schema.tables
-    → kept answer_cmp (λ (row : AnswerRow). row.key) answer_of (new 9) ≡ answers
+    → kept answer_cmp (λ (row : AnswerRow). row.key) answer_of_row (new 9) ≡ answers
     → world_of new ≡ record (world_of old) { answers = answers }
 answers_alone old new answers others is =
     same_worlds (world_of new) (record (world_of old) { answers = answers })
-    (ap (kept text_cmp (λ person. person.name) person_of) (others.0 (λ same. absurd (omega (arith, same)))))
-    (ap (kept puzzle_cmp (λ row. row.key) puzzle_row_of) (others.1.0 (λ same. absurd (omega (arith, same)))))
-    (ap (kept text_cmp (λ round. round.id) round_of) (others.1.1.0 (λ same. absurd (omega (arith, same)))))
-    (ap (λ rows. from_entries (flat_map (λ row. option_to_list (place_of row)) rows)) (others.1.1.1.0 (λ same. absurd (omega (arith, same)))))
+    (ap (kept text_cmp (λ person. person.name) person_of_row) (others.0 (λ same. absurd (omega (arith, same)))))
+    (ap (kept puzzle_cmp (λ row. row.key) puzzle_of_row) (others.1.0 (λ same. absurd (omega (arith, same)))))
+    (ap (kept text_cmp (λ round. round.id) round_of_row) (others.1.1.0 (λ same. absurd (omega (arith, same)))))
+    (ap (λ rows. from_entries (flat_map (λ row. option_to_list (place_of_row row)) rows)) (others.1.1.1.0 (λ same. absurd (omega (arith, same)))))
     is
-    (ap (kept protest_cmp (λ row. row.key) protest_of) (others.1.1.1.1.1.0 (λ same. absurd (omega (arith, same)))))
-    (ap (λ rows. from_entries (flat_map (λ row. option_to_list (tester_of row)) rows)) (others.1.1.1.1.1.1.0 (λ same. absurd (omega (arith, same)))))
+    (ap (kept protest_cmp (λ row. row.key) protest_of_row) (others.1.1.1.1.1.0 (λ same. absurd (omega (arith, same)))))
+    (ap (λ rows. from_entries (flat_map (λ row. option_to_list (tester_of_row row)) rows)) (others.1.1.1.1.1.1.0 (λ same. absurd (omega (arith, same)))))
 
 -- what the INSERT of an answer adds
 module _ (row : AnswerRow) (is : IsAnswerRow row) (old new : State) (count : ℕ) (u : Wording) (has : old.now.schema ≡ hall_in u)
@@ -99,7 +101,7 @@ module _ (row : AnswerRow) (is : IsAnswerRow row) (old new : State) (count : ℕ
   with_answer fresh =
       let id = Int (next_rowid (old.now.trees 9)) in
       answers_alone old.now.trees new.now.trees (insert (world_of old.now.trees).answers row.key row) adds.others
-      (put_new answer_total same_answer_keys (λ (x : AnswerRow). x.key) answer_of row (id ∷ answer_params row) (old.now.trees 9) (new.now.trees 9) adds.put (answer_reads row is id) adds.free fresh)
+      (put_new answer_total same_answer_keys (λ (x : AnswerRow). x.key) answer_of_row row (id ∷ answer_params row) (old.now.trees 9) (new.now.trees 9) adds.put (answer_reads row is id) adds.free fresh)
 
 -- the INSERT of an answer inside a transaction
 pub answer_put : (row : AnswerRow) → IsAnswerRow row → (old new : State) (count : ℕ) → Executes ADD_ANSWER.now (answer_params row) old new (Ok count)
@@ -136,5 +138,5 @@ answer_added row is old new count hall clean fresh ran =
       world = put.1.world (fresh was);
       others = alone_spared (may_write (AddAnswer row)) 9 old.now.trees new.now.trees
           (added_spared (may_write (AddAnswer row) 9) (old.now.trees 9) (new.now.trees 9) (id ∷ params)
-          (taken_record answer_total (λ (x : AnswerRow). x.key) row.key (answer_of (id ∷ params)) row (answer_reads row is id) refl) it.free it.put) it.others;
+          (taken_record answer_total (λ (x : AnswerRow). x.key) row.key (answer_of_row (id ∷ params)) row (answer_reads row is id) refl) it.free it.put) it.others;
     }

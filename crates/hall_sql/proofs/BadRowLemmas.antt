@@ -24,7 +24,7 @@ use Rattle.hall_sql.specs.BadRows.{AreAllBad, AreBadIn, AreBadRows, AreFoundBad,
 use Rattle.hall_sql.specs.Made.{all_tables, old_tables}
 use Rattle.hall_sql.specs.Rows.{answer_in, person_in, place_in, protest_in, puzzle_row_in, round_in, tester_in}
 use Rattle.hall_sql.specs.Scan.{Serves, tree_of}
-use Rattle.hall_sql.specs.Standing.{IsOver, IsSelection, RestedAny, RestedIn}
+use Rattle.hall_sql.specs.Standing.{IsOver, IsSelection, KeptAnyTables, KeptTablesIn}
 use Rattle.hall_sql.specs.Statements.{names_of, plain_query}
 use Rattle.hall_sql.specs.Tables.{IsHallSchema, IsLike, hall_schema, old_schema}
 use Rattle.hall_sql.specs.Versions.{HasTable, IsVersion}
@@ -207,7 +207,7 @@ serves_all (table ∷ tables) s opens = opens
 
 -- of one table more
 pub told_next : (tables : List HallTable) (table : HallTable) (schema : Schema) (old mid new : State) (bad : List BadRows) (rows : BadRows)
-    → HasCleanDisk new → RestedIn schema old mid → RestedIn schema mid new → AreAllBad tables old.now.trees bad → rows.table ≡ table
+    → HasCleanDisk new → KeptTablesIn schema old mid → KeptTablesIn schema mid new → AreAllBad tables old.now.trees bad → rows.table ≡ table
     → AreFoundBad table mid new rows.rowids.items → AreToldBad (tables ++ table ∷ []) old new (bad ++ rows ∷ [])
 told_next tables table schema old mid new bad rows clean first second all is found =
     let was : HasCleanDisk mid = omega (arith, second.follows.lasts.clean, clean) in

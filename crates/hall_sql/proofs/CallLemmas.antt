@@ -19,32 +19,33 @@ use Rattle.sqlite.specs.State.{State, HasCleanDisk, IsUnchanged, Fails, IsNotRun
 use Rattle.sqlite.proofs.Callers.{IsPlain, command_of, reads_as}
 use Rattle.sqlite.specs.Schema.{Schema}
 use Rattle.hall_sql.specs.Statements.{plain_query}
-use Rattle.hall_sql.specs.Standing.{AddsNoOutcome, Lasts, IsTabled, AreKeyedIn, Rests, RestedIn, StayedIn, IsSelection}
+use Rattle.hall_sql.specs.Standing.{AddsNoOutcome, LeadsConnection, IsTabled, AreKeyedIn, KeptOrRolledBack}
+use Rattle.hall_sql.specs.Standing.{KeptTablesIn, KeptRowsIn, IsSelection}
 use Rattle.hall_sql.specs.Tables.{IsLike}
 use Rattle.hall_sql.proofs.Selections.{selected}
 
-failed : (old new : State) (U : Type 0) (e : Error) → Fails old new U e → Rests old new
+failed : (old new : State) (U : Type 0) (e : Error) → Fails old new U e → KeptOrRolledBack old new
 failed old new U e h = inr h.3
 
-not_run : (old new : State) (sql : List ℕ) (params : Row) (e : Error) → IsNotRun old new sql params e → Rests old new
+not_run : (old new : State) (sql : List ℕ) (params : Row) (e : Error) → IsNotRun old new sql params e → KeptOrRolledBack old new
 unfolding IsNotRun
 not_run old new sql params e (inl h) = inl h.1
 not_run old new sql params e (inr h) = failed old new _ e h
 
-run_refused : (old new : State) (sql : List ℕ) (c : Compiled) (params : Row) (e : Error) → RunsCommand old new sql c params (Err e) → Rests old new
+run_refused : (old new : State) (sql : List ℕ) (c : Compiled) (params : Row) (e : Error) → RunsCommand old new sql c params (Err e) → KeptOrRolledBack old new
 run_refused old new sql c params e (inl h) = inl h.1
 run_refused old new sql c params e (inr h) = failed old new _ e h
 
-show_refused : (old new : State) (sql : List ℕ) (c : Compiled) (params : Row) (e : Error) (o : _) → FailsToShow old new sql c params e o → Rests old new
+show_refused : (old new : State) (sql : List ℕ) (c : Compiled) (params : Row) (e : Error) (o : _) → FailsToShow old new sql c params e o → KeptOrRolledBack old new
 show_refused old new sql c params e None h = inl h.3
 show_refused old new sql c params e (Some what) h = run_refused old new sql c params e h
 
-pub query_refused : (old new : State) (sql : List ℕ) (params : Row) (e : Error) → FailsToQuery sql params old new e → Rests old new
+pub query_refused : (old new : State) (sql : List ℕ) (params : Row) (e : Error) → FailsToQuery sql params old new e → KeptOrRolledBack old new
 unfolding FailsToQuery
 query_refused old new sql params e (inl h) = not_run old new sql params e h
 query_refused old new sql params e (inr h) = show_refused old new sql h.0 _ e _ h.2
 
-pub execute_refused : (old new : State) (sql : List ℕ) (params : Row) (e : Error) → Executes sql params old new (Err e) → Rests old new
+pub execute_refused : (old new : State) (sql : List ℕ) (params : Row) (e : Error) → Executes sql params old new (Err e) → KeptOrRolledBack old new
 unfolding ExecutesIn
 execute_refused old new sql params e (inl h) = not_run old new sql params e h
 execute_refused old new sql params e (inr h) = elim (cases_Bool (shows_rows false h.0)) [
@@ -52,20 +53,20 @@ execute_refused old new sql params e (inr h) = elim (cases_Bool (shows_rows fals
   | inr runs ↦ run_refused old new sql h.0 _ e (rw runs at h.2)
 ]
 
-was_open : (old new : State) → Rests old new → IsTrue new.is_open → IsTrue old.is_open
+was_open : (old new : State) → KeptOrRolledBack old new → IsTrue new.is_open → IsTrue old.is_open
 was_open old new (inl h) opens = h.0.was_open
 was_open old new (inr h) opens = h.was_open opens
 
-rest_same : (old new : State) → Rests old new → old.now ≡ old.committed → IsTrue new.is_open → (new.now ≡ old.now) × (new.committed ≡ old.committed)
+rest_same : (old new : State) → KeptOrRolledBack old new → old.now ≡ old.committed → IsTrue new.is_open → (new.now ≡ old.now) × (new.committed ≡ old.committed)
 rest_same old new (inl h) settled opens = (h.0.now_is, h.0.committed_is)
 rest_same old new (inr h) settled opens = ((h.undone opens).0 ∙ sym settled, (h.undone opens).1)
 
-ends_mode : (old new : State) → Rests old new → old.in_transaction ≡ false → new.in_transaction ≡ false
+ends_mode : (old new : State) → KeptOrRolledBack old new → old.in_transaction ≡ false → new.in_transaction ≡ false
 ends_mode old new (inl h) mode = h.0.mode ∙ mode
 ends_mode old new (inr h) mode = h.autocommit
 
 -- a call that rests leaves the content as it was
-pub stayed : {schema : Schema} (old new : State) → IsTabled schema old → Lasts old new → (HasCleanDisk old → HasCleanDisk new → Rests old new) → StayedIn schema old new
+pub stayed : {schema : Schema} (old new : State) → IsTabled schema old → LeadsConnection old new → (HasCleanDisk old → HasCleanDisk new → KeptOrRolledBack old new) → KeptRowsIn schema old new
 stayed {schema} old new hall lasts h =
     let before = λ (clean : HasCleanDisk new). let was : HasCleanDisk old = omega (arith, lasts.clean, clean) in was in
     let it = λ (clean : HasCleanDisk new). h (before clean) clean in
@@ -83,8 +84,8 @@ stayed {schema} old new hall lasts h =
     }
 
 -- and adds no outcome
-pub rested : {schema : Schema} (old new : State) → IsTabled schema old → Lasts old new → (HasCleanDisk old → HasCleanDisk new → Rests old new) → AddsNoOutcome old new
-    → RestedIn schema old new
+pub rested : {schema : Schema} (old new : State) → IsTabled schema old → LeadsConnection old new → (HasCleanDisk old → HasCleanDisk new → KeptOrRolledBack old new) → AddsNoOutcome old new
+    → KeptTablesIn schema old new
 rested old new hall lasts h stops = let it = stayed old new hall lasts h in record { tabled = it.tabled; follows = it.follows; same = it.same; stops = stops }
 
 -- a query answers rows and changes nothing

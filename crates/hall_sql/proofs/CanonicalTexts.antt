@@ -13,7 +13,7 @@ use Rattle.hall_sql.specs.declared.rows.Rows.{Rows}
 use Rattle.hall_sql.specs.Columns.{puzzle_params}
 use Rattle.hall_sql.specs.Fill.{AddsAnswer, AddsHead, AddsPlace, AddsProtest, AddsPuzzle, Fills, PutsPerson}
 use Rattle.hall_sql.specs.PuzzleText.{AreCanonical, IsCanonicalRow}
-use Rattle.hall_sql.specs.Spared.{AreSpared, is_place_of}
+use Rattle.hall_sql.specs.Spared.{AreOtherRowsKept, is_place_of}
 use Rattle.hall_sql.proofs.InsertLemmas.{put_permutes}
 
 -- a puzzle's row that is added is one
@@ -26,7 +26,7 @@ puzzle_texted old row new (text, canonical, it) all =
     (all-permutation IsCanonicalRow (one ∷ old.trees 3) (put_row one (old.trees 3)) (put_permutes one (old.trees 3) it.row.free) (own, all))
 
 -- a place that is put leaves the puzzles
-places_spare : (id : List ℕ) (old new : List Row) → AreSpared (is_place_of id 3) old new → new ≡ old
+places_spare : (id : List ℕ) (old new : List Row) → AreOtherRowsKept (is_place_of id 3) old new → new ≡ old
 places_spare id old new same = sym (none_taken new) ∙ same ∙ none_taken old
   where
     none_taken : (rows : List Row) → filter (λ row. not (is_place_of id 3 row)) rows ≡ rows

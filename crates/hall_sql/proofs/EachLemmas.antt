@@ -14,10 +14,10 @@ use Rattle.hall_policy.specs.declared.record.Person.{Person}
 use Rattle.hall_store.specs.Change.{changed}
 use Rattle.hall_store.specs.declared.change.Change.TheVariants.{Import}
 use Rattle.hall_sql.specs.declared.tables.HallTable.{HallTable}
-use Rattle.hall_sql.specs.Made.{Awaits, Grows, HasGrown, schema_before}
-use Rattle.hall_sql.specs.Rows.{person_of, world_of}
-use Rattle.hall_sql.specs.Inside.{Did, Changes}
-use Rattle.hall_sql.specs.Spared.{has_key, may_write, Spares}
+use Rattle.hall_sql.specs.Made.{Awaits, MakesHallTable, HasGrown, schema_before}
+use Rattle.hall_sql.specs.Rows.{person_of_row, world_of}
+use Rattle.hall_sql.specs.Inside.{MakesInside, Changes}
+use Rattle.hall_sql.specs.Spared.{is_keyed_by, may_write, KeptOtherRows}
 use Rattle.hall_sql.specs.WriteCause.{ImportsOne, ImportsEach}
 use Rattle.hall_sql.proofs.FeedLemmas.{taken_more}
 use Rattle.hall_sql.proofs.InsideLemmas.{did_none, did_then, did_both}
@@ -28,7 +28,7 @@ pub next_item : {A : Type 0} (items : List A) (i : ℕ) (none : A) → i < lengt
 next_item items i none low = drop-cons items i none low ∙ ap (λ n. get_or items i none ∷ drop n items) (sym (add-one i))
 
 pub more_grown : (tables : List HallTable) (i : ℕ) (none : HallTable) (a b c : State) → i < length tables
-    → HasGrown tables (drop i tables) a b → Grows (get_or tables i none) b c → HasGrown tables (drop (i + 1) tables) a c
+    → HasGrown tables (drop i tables) a b → MakesHallTable (get_or tables i none) b c → HasGrown tables (drop (i + 1) tables) a c
 more_grown tables i none a b c low so more = record {
   mode = more.mode;
   made = λ it. more.made (drop (i + 1) tables) (subst (λ l. Awaits l b.now) (next_item tables i none low) (so.made it));
@@ -45,7 +45,7 @@ next_grows tables i none held low awaits =
 -- imported, one after another.
 pub record HasImported (people : List Person) (i : ℕ) (before after : Database) : Type 0 where
   pub world : changed (Import (drop i people)) (world_of after.trees) ≡ changed (Import people) (world_of before.trees)
-  pub others : Spares (may_write (Import people)) before.trees after.trees
+  pub others : KeptOtherRows (may_write (Import people)) before.trees after.trees
   pub rows : ImportsEach (take i people) before after
 
 any_item : {A : Type 0} (test : A → Bool) (items : List A) (i : ℕ) (none : A) → i < length items → test (get_or items i none) ≡ true → list_any test items ≡ true
@@ -69,7 +69,7 @@ one_more (p ∷ people) person a b c more one = (more.0, more.1, one_more people
 
 -- the rest of the list is still to be imported
 pub more_imported : (people : List Person) (i : ℕ) (person : Person) (a b c : State) → i < length people → person ≡ get_or people i person
-    → Did (HasImported people i) a b → Did (Changes (Import (person ∷ []))) b c → Did (ImportsOne person) b c → Did (HasImported people (i + 1)) a c
+    → MakesInside (HasImported people i) a b → MakesInside (Changes (Import (person ∷ []))) b c → MakesInside (ImportsOne person) b c → MakesInside (HasImported people (i + 1)) a c
 more_imported people i person a b c low is so made rows =
     did_then (HasImported people i) (λ x y. Changes (Import (person ∷ [])) x y × ImportsOne person x y) (HasImported people (i + 1)) a b c (λ one both.
     let two = both.0 in
@@ -85,7 +85,7 @@ more_imported people i person a b c low is so made rows =
   where
     among : (tree : ℕ) (r : Row) → may_write (Import (person ∷ [])) tree r ≡ true → may_write (Import people) tree r ≡ true
     among tree r taken =
-        let test = λ (x : Person). has_key text_cmp (λ (y : Person). y.name) x.name (person_of r) in
+        let test = λ (x : Person). is_keyed_by text_cmp (λ (y : Person). y.name) x.name (person_of_row r) in
         let parts = and_parts _ _ taken in
         and_from _ _ parts.0 (any_item test people i person low (subst (λ x. test x ≡ true) is (or_false _ parts.1)))
 
@@ -94,11 +94,11 @@ module _ {X : Type 0} (Adds : Database → X → Database → Type 0) where
   abbrev pub AddsAll : List X → Database → Database → Type 0
   AddsAll items a b = HasTaken Adds a items b
 
-  pub none_added : (s : State) → IsTrue s.in_transaction → Did (AddsAll []) s s
+  pub none_added : (s : State) → IsTrue s.in_transaction → MakesInside (AddsAll []) s s
   none_added s mode = did_none (AddsAll []) s mode refl
 
   pub more_added : (items : List X) (i : ℕ) (item : X) (a b c : State) → i < length items → item ≡ get_or items i item
-      → Did (AddsAll (take i items)) a b → Did (λ v w. Adds v item w) b c → Did (AddsAll (take (i + 1) items)) a c
+      → MakesInside (AddsAll (take i items)) a b → MakesInside (λ v w. Adds v item w) b c → MakesInside (AddsAll (take (i + 1) items)) a c
   more_added items i item a b c low is =
       did_then (AddsAll (take i items)) (λ v w. Adds v item w) (AddsAll (take (i + 1) items)) a b c (λ one two.
       subst (λ l. AddsAll l a.now c.now) (ap (λ x. take i items ++ x ∷ []) is ∙ sym (take_more items i item low))

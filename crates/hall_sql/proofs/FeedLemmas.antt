@@ -25,7 +25,7 @@ use Rattle.hall_sql.specs.Tables.{IsHallSchema}
 use Rattle.hall_sql.proofs.Wordings.{Wording, hall_in, worded}
 use Rattle.hall_sql.specs.Rows.{world_of}
 use Rattle.hall_sql.specs.Statements.{plain_query}
-use Rattle.hall_sql.specs.Standing.{AreAllKeyed, IsHall, Rests, Rested, IsSelection, content_of}
+use Rattle.hall_sql.specs.Standing.{AreAllKeyed, IsHall, KeptOrRolledBack, KeptTables, IsSelection, content_of}
 use Rattle.hall_sql.specs.Feed.{HasRead, AreAll, AreFirst, FedRows}
 use Rattle.hall_sql.specs.Whole.{AreRecords}
 use Rattle.hall_sql.proofs.CallLemmas.{answers_selection, shown_was_open}
@@ -34,7 +34,7 @@ use Rattle.hall_sql.proofs.Selections.{selected}
 
 -- ---- a connection that is read on
 
-pub rests_then : (a b c : State) → IsUnchanged a b → Rests b c → Rests a c
+pub rests_then : (a b c : State) → IsUnchanged a b → KeptOrRolledBack b c → KeptOrRolledBack a c
 rests_then a b c p (inl q) = inl (unchanged_then a b c p q)
 rests_then a b c p (inr q) = inr (record {
   was_open = λ opens. p.0.was_open;
@@ -173,7 +173,7 @@ module _ {S X : Type 0} (g : Ghosts S) (read : Row → Option X) (sql : List ℕ
 
   -- a sink that has taken a query's rows has taken the world's
   pub fed_rows : {K E : Type 0} (Takes : K → X → K → Type 0) (AreRows : World → List X → Type 0) (old new : State)
-      (before after : K) (result : Result (Unit {0}) E) → IsHall old → Rested old new
+      (before after : K) (result : Result (Unit {0}) E) → IsHall old → KeptTables old new
       → (IsTrue old.is_open → IsDatabase old.now) → Lists read tree terms project order params old.now AreRows
       → FedRows g read Takes sql params old new before result after
       → Fed Takes AreRows (content_of old) (content_of new) before result after

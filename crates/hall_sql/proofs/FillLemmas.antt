@@ -19,7 +19,7 @@ use Rattle.sqlite.specs.State.{State}
 use Rattle.hall_sql.specs.declared.rows.Rows.{Rows}
 use Rattle.hall_sql.specs.AllRead.{AreAllRead, StaysRead}
 use Rattle.hall_sql.specs.Fill.{AddsAnswer, AddsHead, AddsPlace, AddsProtest, AddsPuzzle, Fills, PutsPerson, WithPerson, WithPuzzle, WithRound, WithPlace, WithAnswer, WithProtest}
-use Rattle.hall_sql.specs.Inside.{Did}
+use Rattle.hall_sql.specs.Inside.{MakesInside}
 use Rattle.hall_sql.specs.Rows.{world_of}
 use Rattle.hall_sql.specs.Tables.{hall_schema}
 
@@ -143,10 +143,10 @@ fills_read rows a b fills all =
 
 -- the six tables, one after another
 pub six_added : (rows : Rows) (a b c d e f h : State)
-    → Did (λ v w. HasTaken PutsPerson v rows.people.items w) a b → Did (λ v w. HasTaken AddsPuzzle v rows.puzzles.items w) b c
-    → Did (λ v w. HasTaken AddsHead v rows.heads.items w) c d → Did (λ v w. HasTaken AddsPlace v rows.places.items w) d e
-    → Did (λ v w. HasTaken AddsAnswer v rows.answers.items w) e f → Did (λ v w. HasTaken AddsProtest v rows.protests.items w) f h
-    → Did (Fills rows) a h
+    → MakesInside (λ v w. HasTaken PutsPerson v rows.people.items w) a b → MakesInside (λ v w. HasTaken AddsPuzzle v rows.puzzles.items w) b c
+    → MakesInside (λ v w. HasTaken AddsHead v rows.heads.items w) c d → MakesInside (λ v w. HasTaken AddsPlace v rows.places.items w) d e
+    → MakesInside (λ v w. HasTaken AddsAnswer v rows.answers.items w) e f → MakesInside (λ v w. HasTaken AddsProtest v rows.protests.items w) f h
+    → MakesInside (Fills rows) a h
 six_added rows a b c d e f h people puzzles heads places answers protests = record {
   steps = record {
     mode = protests.steps.mode;

@@ -11,17 +11,17 @@ use Rattle.sqlite.specs.State.{State, HasCleanDisk, Executes, KeepsCommit, Shown
 use Rattle.sqlite.proofs.Callers.{IsPlain, command_of}
 use Rattle.hall_policy.specs.World.{World}
 use Rattle.hall_sql.specs.Rows.{world_of}
-use Rattle.hall_sql.specs.Standing.{Lasts, Rests}
-use Rattle.hall_sql.specs.Inside.{IsHallData, Carries, Steps, Did, Tells}
+use Rattle.hall_sql.specs.Standing.{LeadsConnection, KeptOrRolledBack}
+use Rattle.hall_sql.specs.Inside.{IsHallData, LeadsUncommitted, KeptTransaction, MakesInside, ToldByQuery}
 use Rattle.hall_sql.proofs.Wordings.{Wording, by_hall, hall_in}
 use Rattle.hall_sql.proofs.SoundLemmas.{IsRowWrite, ran_sound}
 use Rattle.hall_sql.proofs.LastLemmas.{last_none, last_then, quiet_none, quiet_then}
 use Rattle.hall_sql.proofs.CallLemmas.{query_refused, shown_unchanged}
 
-pub carries_none : (s : State) → Carries s s
+pub carries_none : (s : State) → LeadsUncommitted s s
 carries_none s = record { lasts = last_none s; kept = λ clean inside. record { was_open = λ h. h; committed = λ h. refl }; stops = quiet_none s }
 
-pub carries_then : (a b c : State) → Carries a b → (HasCleanDisk b → IsTrue a.in_transaction → IsTrue b.in_transaction) → Carries b c → Carries a c
+pub carries_then : (a b c : State) → LeadsUncommitted a b → (HasCleanDisk b → IsTrue a.in_transaction → IsTrue b.in_transaction) → LeadsUncommitted b c → LeadsUncommitted a c
 carries_then a b c one goes two = record {
   lasts = last_then a b c one.lasts two.lasts;
   kept = λ clean inside.
@@ -32,31 +32,31 @@ carries_then a b c one goes two = record {
   stops = quiet_then a b c one.stops two.lasts two.stops;
 }
 
-pub steps_then : (a b c : State) → Steps a b → Steps b c → Steps a c
+pub steps_then : (a b c : State) → KeptTransaction a b → KeptTransaction b c → KeptTransaction a c
 steps_then a b c one two = record { mode = two.mode; hall = λ h. two.hall (one.hall h); sound = λ h d. two.sound (one.hall h) (one.sound h d) }
 
 -- nothing was done yet
-pub did_none : (Does : Database → Database → Type 0) (s : State) → IsTrue s.in_transaction → Does s.now s.now → Did Does s s
+pub did_none : (Does : Database → Database → Type 0) (s : State) → IsTrue s.in_transaction → Does s.now s.now → MakesInside Does s s
 did_none Does s mode nothing = record { steps = record { mode = mode; hall = λ h. h; sound = λ h d. d }; does = λ h. nothing }
 
 -- one statement
 pub did : (Does : Database → Database → Type 0) (old new : State) → new.in_transaction ≡ true → (IsHallData old.now → IsDatabase old.now → IsDatabase new.now)
-    → (IsHallData old.now → IsHallData new.now × Does old.now new.now) → Did Does old new
+    → (IsHallData old.now → IsHallData new.now × Does old.now new.now) → MakesInside Does old new
 did Does old new mode sound it = record { steps = record { mode = mode; hall = λ h. (it h).0; sound = sound }; does = λ h. (it h).1 }
 
 -- which ran, and writes rows
 pub did_run : (Does : Database → Database → Type 0) (sql : List ℕ) (params : Row) (old new : State) (count : ℕ) → ((u : Wording) → IsPlain (understood (hall_in u) sql))
     → ((u : Wording) → IsRowWrite (command_of (understood (hall_in u) sql))) → new.in_transaction ≡ true → Executes sql params old new (Ok count)
-    → (IsHallData old.now → IsHallData new.now × Does old.now new.now) → Did Does old new
+    → (IsHallData old.now → IsHallData new.now × Does old.now new.now) → MakesInside Does old new
 did_run Does sql params old new count plain writes mode ran it =
     did Does old new mode (λ held d. ran_sound sql params old new count held.schema plain writes ran) it
 
 -- one call did both
-pub did_both : (One Two : Database → Database → Type 0) (a b : State) → Did One a b → Did Two a b → Did (λ x y. One x y × Two x y) a b
+pub did_both : (One Two : Database → Database → Type 0) (a b : State) → MakesInside One a b → MakesInside Two a b → MakesInside (λ x y. One x y × Two x y) a b
 did_both One Two a b one two = record { steps = one.steps; does = λ h. (one.does h, two.does h) }
 
 -- one call after another
-pub did_then : (First Then Both : Database → Database → Type 0) (a b c : State) → (First a.now b.now → Then b.now c.now → Both a.now c.now) → Did First a b → Did Then b c → Did Both a c
+pub did_then : (First Then Both : Database → Database → Type 0) (a b c : State) → (First a.now b.now → Then b.now c.now → Both a.now c.now) → MakesInside First a b → MakesInside Then b c → MakesInside Both a c
 did_then First Then Both a b c joins one two = record {
   steps = steps_then a b c one.steps two.steps;
   does = λ h. joins (one.does h) (two.does (one.steps.hall h));
@@ -64,10 +64,10 @@ did_then First Then Both a b c joins one two = record {
 
 -- and so do two calls, the latter of which may be refused
 pub two_did : {A E : Type 0} (First Then Both : Database → Database → Type 0) (result : Result A E) (a b c : State)
-    → (First a.now b.now → Then b.now c.now → Both a.now c.now) → Lasts b c
-    → (HasCleanDisk b → IsTrue a.in_transaction → Did First a b)
-    → (HasCleanDisk c → IsTrue b.in_transaction → OnOk result (Did Then b c))
-    → HasCleanDisk c → IsTrue a.in_transaction → OnOk result (Did Both a c)
+    → (First a.now b.now → Then b.now c.now → Both a.now c.now) → LeadsConnection b c
+    → (HasCleanDisk b → IsTrue a.in_transaction → MakesInside First a b)
+    → (HasCleanDisk c → IsTrue b.in_transaction → OnOk result (MakesInside Then b c))
+    → HasCleanDisk c → IsTrue a.in_transaction → OnOk result (MakesInside Both a c)
 two_did First Then Both result a b c joins to_c one two clean inside =
     let before : HasCleanDisk b = omega (arith, to_c.clean, clean) in
     let first = one before inside in
@@ -75,11 +75,11 @@ two_did First Then Both result a b c joins to_c one two clean inside =
 
 -- and three
 pub three_did : {A E : Type 0} (First Second Third All : Database → Database → Type 0) (result : Result A E) (a b c d : State)
-    → ((m : Database) → First a.now m → Second m c.now → Third c.now d.now → All a.now d.now) → Lasts b c → Lasts c d
-    → (HasCleanDisk b → IsTrue a.in_transaction → Did First a b)
-    → (HasCleanDisk c → IsTrue b.in_transaction → Did Second b c)
-    → (HasCleanDisk d → IsTrue c.in_transaction → OnOk result (Did Third c d))
-    → HasCleanDisk d → IsTrue a.in_transaction → OnOk result (Did All a d)
+    → ((m : Database) → First a.now m → Second m c.now → Third c.now d.now → All a.now d.now) → LeadsConnection b c → LeadsConnection c d
+    → (HasCleanDisk b → IsTrue a.in_transaction → MakesInside First a b)
+    → (HasCleanDisk c → IsTrue b.in_transaction → MakesInside Second b c)
+    → (HasCleanDisk d → IsTrue c.in_transaction → OnOk result (MakesInside Third c d))
+    → HasCleanDisk d → IsTrue a.in_transaction → OnOk result (MakesInside All a d)
 three_did First Second Third All result a b c d joins to_c to_d first second third =
     two_did (λ x y. (m : Database) × First x m × Second m y) Third All result a c d (λ it. joins it.0 it.1 it.2) to_d
     (λ clean inside.
@@ -87,7 +87,7 @@ three_did First Second Third All result a b c d joins to_c to_d first second thi
     let one = first before inside in
     did_then First Second (λ x y. (m : Database) × First x m × Second m y) a b c (λ p q. (b.now, p, q)) one (second clean one.steps.mode)) third
 
-rests_keep : (old new : State) → Rests old new → KeepsCommit old new
+rests_keep : (old new : State) → KeptOrRolledBack old new → KeepsCommit old new
 rests_keep old new (inl h) = record { was_open = λ opens. h.0.was_open; committed = λ opens. h.0.committed_is }
 rests_keep old new (inr h) = record { was_open = h.was_open; committed = λ opens. (h.undone opens).1 }
 
@@ -119,9 +119,9 @@ unshown_keeps sql params old new e (inr h) = rests_keep old new (inl h.5)
 
 -- a query that writes nothing leaves the tables and the transaction, and tells of them
 pub shown_did : (Means : World → Type 0) (sql : List ℕ) (params : Row) (old new : State) (rows : List Row) → IsTrue old.in_transaction → ((u : Wording) → IsPlain (understood (hall_in u) sql))
-    → Shown sql params old new rows → (IsHallData old.now → Means (world_of old.now.trees)) → Did (Tells Means) old new
+    → Shown sql params old new rows → (IsHallData old.now → Means (world_of old.now.trees)) → MakesInside (ToldByQuery Means) old new
 shown_did Means sql params old new rows inside plain h means =
     let left = λ (it : IsHallData old.now). shown_unchanged sql params old new rows (by_hall (λ s. IsPlain (understood s sql)) plain old.now.schema it.schema) h in
-    did (Tells Means) old new (shown_mode sql params old new rows inside h) (λ it. subst IsDatabase (sym (left it).0.now_is)) (λ it.
+    did (ToldByQuery Means) old new (shown_mode sql params old new rows inside h) (λ it. subst IsDatabase (sym (left it).0.now_is)) (λ it.
     let same = (left it).0.now_is in
     (subst IsHallData (sym same) it, record { same = same; means = means it }))

@@ -9,7 +9,8 @@ use Rattle.sqlite.specs.State.{State, HasCleanDisk, Survives, CommitsShowing}
 use Rattle.hall_sql.specs.Asked.{HasNoReturning, ReturnsNothing}
 use Rattle.hall_store.specs.Store.{Leads, MoreFaults}
 use Rattle.hall_store.proofs.Knowing.{lasts_then}
-use Rattle.hall_sql.specs.Standing.{AddsNoOutcome, AddsOutcomes, Lasts, Follows, without_limit, content_of}
+use Rattle.hall_sql.specs.Standing.{AddsNoOutcome, AddsOutcomes, LeadsConnection, LeadsWithoutReopening, without_limit}
+use Rattle.hall_sql.specs.Standing.{content_of}
 
 pub more_faults : (a b : ℕ) → min (a + 1) (2 ^ 64 - 1) ≤ b → MoreFaults a b
 more_faults a b more = elim (cases_lt a b) [
@@ -18,7 +19,7 @@ more_faults a b more = elim (cases_lt a b) [
 ]
 
 -- what the crate `sqlite` says that a call leaves
-pub survived : (old new : State) (Commits : Trees → Type 0) → Survives old new Commits → Lasts old new
+pub survived : (old new : State) (Commits : Trees → Type 0) → Survives old new Commits → LeadsConnection old new
 survived old new Commits it = record {
   clean = it.clean;
   counts = it.counts;
@@ -42,7 +43,7 @@ quiet_query sql params old new nothing it clean db may = elim (it.crash clean db
 ]
 
 -- nor do two calls, one after the other
-pub quiet_then : (a b c : State) → AddsNoOutcome a b → Lasts b c → AddsNoOutcome b c → AddsNoOutcome a c
+pub quiet_then : (a b c : State) → AddsNoOutcome a b → LeadsConnection b c → AddsNoOutcome b c → AddsNoOutcome a c
 quiet_then a b c first lasts second clean db may =
     let mid : HasCleanDisk b = omega (arith, lasts.clean, clean) in
     first mid db (second clean db may)
@@ -52,22 +53,22 @@ pub quiet_none : (s : State) → AddsNoOutcome s s
 quiet_none s clean db may = may
 
 -- what may be left after a call that added no outcome is what was added by the one before
-pub outcomes_then : (Among : Trees → Type 0) (a b c : State) → AddsOutcomes Among a b → Lasts b c → AddsNoOutcome b c → AddsOutcomes Among a c
+pub outcomes_then : (Among : Trees → Type 0) (a b c : State) → AddsOutcomes Among a b → LeadsConnection b c → AddsNoOutcome b c → AddsOutcomes Among a c
 outcomes_then Among a b c first lasts second clean db may =
     let mid : HasCleanDisk b = omega (arith, lasts.clean, clean) in
     first mid db (second clean db may)
 
 -- and what may be left before it
-pub outcomes_after : (Among : Trees → Type 0) (a b c : State) → AddsNoOutcome a b → Lasts b c → AddsOutcomes Among b c → AddsOutcomes Among a c
+pub outcomes_after : (Among : Trees → Type 0) (a b c : State) → AddsNoOutcome a b → LeadsConnection b c → AddsOutcomes Among b c → AddsOutcomes Among a c
 outcomes_after Among a b c first lasts second clean db may = elim (second clean db may) [
   | inl earlier ↦ inl (let mid : HasCleanDisk b = omega (arith, lasts.clean, clean) in first mid db earlier)
   | inr made ↦ inr made
 ]
 
-pub last_none : (s : State) → Lasts s s
+pub last_none : (s : State) → LeadsConnection s s
 last_none s = record { clean = omega arith; counts = omega arith; closes = λ clean opens. inl opens; limit = refl }
 
-pub last_then : (a b c : State) → Lasts a b → Lasts b c → Lasts a c
+pub last_then : (a b c : State) → LeadsConnection a b → LeadsConnection b c → LeadsConnection a c
 last_then a b c first second = record {
   clean = omega (arith, first.clean, second.clean);
   counts = omega (arith, first.counts, second.counts);
@@ -78,15 +79,15 @@ last_then a b c first second = record {
 }
 
 -- a transaction that begins leaves what a connection shows, but for its mode
-pub last_begun : {S : Type 0} (g : Ghosts S) (held : Held S) (mid : State) → Lasts (state g (record held { in_transaction = true })) mid → Lasts (state g held) mid
+pub last_begun : {S : Type 0} (g : Ghosts S) (held : Held S) (mid : State) → LeadsConnection (state g (record held { in_transaction = true })) mid → LeadsConnection (state g held) mid
 last_begun g held mid it = record { clean = it.clean; counts = it.counts; closes = it.closes; limit = it.limit }
 
 -- so does one whose limit is lifted
-pub last_lifted : (old new : State) → Lasts old new → Lasts (without_limit old) (without_limit new)
+pub last_lifted : (old new : State) → LeadsConnection old new → LeadsConnection (without_limit old) (without_limit new)
 last_lifted old new it = record { clean = it.clean; counts = it.counts; closes = it.closes; limit = refl }
 
 -- what follows leads on
-pub follows_leads : (old new : State) → Follows old new → Leads (content_of old) (content_of new)
+pub follows_leads : (old new : State) → LeadsWithoutReopening old new → Leads (content_of old) (content_of new)
 follows_leads old new follows = record {
   honest = λ clean. let was : HasCleanDisk old = omega (arith, follows.lasts.clean, clean) in was;
   serves = follows.opened;

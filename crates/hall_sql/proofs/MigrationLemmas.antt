@@ -16,10 +16,12 @@ use Rattle.hall_sql.specs.declared.migration.Migrated.TheVariants.{Done, Occupie
 use Rattle.hall_sql.specs.declared.rows.Rows.{Rows}
 use Rattle.hall_sql.specs.AllRead.{AreAllRead, IsRead}
 use Rattle.hall_sql.specs.Fill.{AreFilled, Fills}
-use Rattle.hall_sql.specs.Migrate.{TookWorld, HoldsOther, Leaves, Migrates, StandsForOld, StopsAtWorld, Takes, WasBefore, old_content_of}
+use Rattle.hall_sql.specs.Migrate.{TookWorld, HoldsOther, Leaves, Migrates, StandsForOld, StopsAtWorld, TargetTakes}
+use Rattle.hall_sql.specs.Migrate.{WasBefore, old_content_of}
 use Rattle.hall_sql.specs.Rows.{tester_in, world_of}
 use Rattle.hall_sql.specs.Stands.{HoldsHall, ListsLike}
-use Rattle.hall_sql.specs.Standing.{AddsOutcomes, IsBareLike, IsHall, IsTabled, Rested, RestedAny, RestedIn, content_of}
+use Rattle.hall_sql.specs.Standing.{AddsOutcomes, IsBareLike, IsHall, IsTabled, KeptTables, KeptAnyTables, KeptTablesIn}
+use Rattle.hall_sql.specs.Standing.{content_of}
 use Rattle.hall_sql.specs.declared.testers.TheConstants.{ALL_TESTERS}
 use Rattle.hall_sql.specs.Tables.{hall_schema, old_schema}
 use Rattle.hall_sql.specs.Versions.{IsAnyHall}
@@ -55,7 +57,7 @@ module _ (held : World) (found : Rows) (are : AreRowsOf held found) where
     pub are_others : ¬ (AreSameRows found rows) → held ≢ world
     are_others apart is = apart (one_rows held world found rows are own (ap without_testers is))
 
-module _ (mid new : State) (held : Rows) (rested : Rested mid new) (read : HasCleanDisk mid → IsTrue mid.is_open × AreRowsOf (world_of mid.now.trees) held)
+module _ (mid new : State) (held : Rows) (rested : KeptTables mid new) (read : HasCleanDisk mid → IsTrue mid.is_open × AreRowsOf (world_of mid.now.trees) held)
     (has : Bool) (told : HasCleanDisk new → IsTrue new.is_open × ((has ≡ false) ↔ ((world_of new.now.trees).testers ≡ empty))) where
   -- the rows that were read are those of the tables after the look for testers
   still : HasCleanDisk new → AreRowsOf (world_of new.now.trees) held
@@ -85,8 +87,8 @@ all_seven : (trees : Trees) → AreAllRead old_schema trees → IsRead trees 14 
 all_seven trees six testers = (six.0, (six.1.0, (six.1.1.0, (six.1.1.1.0, (six.1.1.1.1.0, (six.1.1.1.1.1.0, (testers, tt)))))))
 
 -- the rows were read, and then the testers
-pub compared : (old mid new : State) → IsHall old → RestedAny old mid → (HasCleanDisk mid → IsTrue mid.is_open)
-    → (HasCleanDisk mid → AreAllRead old_schema old.now.trees) → Rested mid new
+pub compared : (old mid new : State) → IsHall old → KeptAnyTables old mid → (HasCleanDisk mid → IsTrue mid.is_open)
+    → (HasCleanDisk mid → AreAllRead old_schema old.now.trees) → KeptTables mid new
     → (HasCleanDisk new → AreRecords tester_in ALL_TESTERS.now [] mid new) → HasCleanDisk new → AreAllRead hall_schema old.now.trees
 compared old mid new hall rested serves six after testers clean =
     let was : HasCleanDisk mid = omega (arith, after.follows.lasts.clean, clean) in
@@ -98,7 +100,7 @@ compared old mid new hall rested serves six after testers clean =
 -- ---- what a target took
 
 -- tables that hold nothing, of which each row is a record, have no row
-pub found_bare : (old new : State) → Rested old new → (HasCleanDisk new → IsTrue new.is_open × (world_of new.now.trees ≡ empty_world))
+pub found_bare : (old new : State) → KeptTables old new → (HasCleanDisk new → IsTrue new.is_open × (world_of new.now.trees ≡ empty_world))
     → (HasCleanDisk new → AreAllRead hall_schema old.now.trees) → IsEmptyIn new
 found_bare old new rested told read clean opens =
     all_bare new.now (rested.tabled.settled clean opens).1 (told clean).1
@@ -136,11 +138,11 @@ filled_stops old new world rows are bare empties leads outcomes opens clean left
 ]
 
 -- what a stop leaves of tables that rest
-pub rested_stops : (old new : State) (world : World) → Rested old new → StopsAtWorld world old new
+pub rested_stops : (old new : State) (world : World) → KeptTables old new → StopsAtWorld world old new
 rested_stops old new world rested clean left it = inl (it.0, rested.stops clean it.0 it.1, it.2)
 
 -- and of those that rested before they were filled
-pub stops_after : (old mid new : State) (world : World) → Rested old mid → (HasCleanDisk mid → IsTrue mid.is_open) → Leads (content_of mid) (content_of new)
+pub stops_after : (old mid new : State) (world : World) → KeptTables old mid → (HasCleanDisk mid → IsTrue mid.is_open) → Leads (content_of mid) (content_of new)
     → (IsTrue mid.is_open → StopsAtWorld world mid new) → StopsAtWorld world old new
 stops_after old mid new world rested serves leads stops clean left it =
     let was = leads.honest clean in
@@ -157,20 +159,20 @@ leaves_leads old new (Ok Occupied) leaves = follows_leads old new leaves.follows
 leaves_leads old new (Err fault) leaves = follows_leads old new leaves.follows
 
 -- a target that took after it rested
-pub leaves_after : (old mid new : State) (result : Result Migrated StoreFault) → Rested old mid → Leaves mid new result → Leaves old new result
+pub leaves_after : (old mid new : State) (result : Result Migrated StoreFault) → KeptTables old mid → Leaves mid new result → Leaves old new result
 leaves_after old mid new (Ok (Done count)) rested leaves =
     leads_then (content_of old) (content_of mid) (content_of new) (follows_leads old mid rested.follows) leaves
 leaves_after old mid new (Ok Occupied) rested leaves = rests_on old mid new rested leaves
 leaves_after old mid new (Err fault) rested leaves = stays_on old mid new rested leaves
 
-was_after : (old mid new : State) (world : World) (count : ℕ) → Rested old mid → HasCleanDisk mid → IsTrue mid.is_open
+was_after : (old mid new : State) (world : World) (count : ℕ) → KeptTables old mid → HasCleanDisk mid → IsTrue mid.is_open
     → WasBefore world count mid new → WasBefore world count old new
 was_after old mid new world count rested clean opens (inl bare) = inl (subst (IsBareLike hall_schema) (rested.same clean opens) bare.0, bare.1, bare.2)
 was_after old mid new world count rested clean opens (inr held) =
     inr (subst (λ (d : Database). world_of d.trees ≡ world) (rested.same clean opens) held.0, held.1, rests_on old mid new rested held.2)
 
-pub takes_after : (old mid new : State) (world : World) (result : Result Migrated StoreFault) → Rested old mid → (HasCleanDisk mid → IsTrue mid.is_open)
-    → Leaves mid new result → Takes world mid new result → Takes world old new result
+pub takes_after : (old mid new : State) (world : World) (result : Result Migrated StoreFault) → KeptTables old mid → (HasCleanDisk mid → IsTrue mid.is_open)
+    → Leaves mid new result → TargetTakes world mid new result → TargetTakes world old new result
 takes_after old mid new world (Ok (Done count)) rested serves leaves takes = λ clean.
     let it = takes clean in
     let was : HasCleanDisk mid = leaves.honest clean in
@@ -187,7 +189,7 @@ takes_after old mid new world (Ok Occupied) rested serves leaves takes = λ clea
 takes_after old mid new world (Err fault) rested serves leaves takes = tt
 
 -- it held the world already
-pub had_taken : (old new : State) (world : World) → Rested old new
+pub had_taken : (old new : State) (world : World) → KeptTables old new
     → (HasCleanDisk new → IsTrue new.is_open × (world_of new.now.trees ≡ world)) → (HasCleanDisk new → AreAllRead hall_schema old.now.trees)
     → HasCleanDisk new → TookWorld world 0 old new
 had_taken old new world rested has read clean =
@@ -201,7 +203,7 @@ had_taken old new world rested has read clean =
     }
 
 -- it holds another
-pub is_left : (old new : State) (world : World) → Rested old new
+pub is_left : (old new : State) (world : World) → KeptTables old new
     → (HasCleanDisk new → IsTrue new.is_open × ((world_of new.now.trees ≢ empty_world) × (world_of new.now.trees ≢ world)))
     → (HasCleanDisk new → AreAllRead hall_schema old.now.trees) → HasCleanDisk new → HoldsOther world old
 is_left old new world rested has read clean =
@@ -221,7 +223,7 @@ source_told s (Ok rows) told = λ clean. let it = told clean in (it.0, bare_rows
 source_told s (Err fault) told = tt
 
 -- a stop leaves it as it could be left before
-source_stops : (was now : State) → RestedIn old_schema was now → LeavesNoOther (old_content_of was) (old_content_of now)
+source_stops : (was now : State) → KeptTablesIn old_schema was now → LeavesNoOther (old_content_of was) (old_content_of now)
 source_stops was now rested clean left it = (it.0, rested.stops clean it.0 it.1, it.2)
 
 -- and at rest, while it serves, as it is
@@ -237,12 +239,12 @@ source_settled g law held tabled live clean opens left it =
 -- ---- both
 
 -- what the target did with the rows that were read
-pub migrated : (was now before after : State) (rows : Rows) (result : Result Migrated StoreFault) → RestedIn old_schema was now
+pub migrated : (was now before after : State) (rows : Rows) (result : Result Migrated StoreFault) → KeptTablesIn old_schema was now
     → (HasCleanDisk now → IsTrue now.is_open × AreRowsOf (without_testers (world_of now.now.trees)) rows)
     → (HasCleanDisk now → AreAllRead old_schema was.now.trees)
     → Leaves before after result
     → ((world : World) → AreRowsOf world rows → world.testers ≡ empty → StopsAtWorld world before after)
-    → ((world : World) → AreRowsOf world rows → world.testers ≡ empty → Takes world before after result)
+    → ((world : World) → AreRowsOf world rows → world.testers ≡ empty → TargetTakes world before after result)
     → Migrates was now before after result
 migrated was now before after rows result rested told read leaves stops takes = record {
   source = rested;
@@ -255,13 +257,13 @@ migrated was now before after rows result rested told read leaves stops takes = 
       (stops (without_testers (world_of now.now.trees)) it.1 refl);
   taken = λ clean.
       let it = told clean in
-      subst (λ (d : Database). Takes (without_testers (world_of d.trees)) before after result) (rested.same clean it.0)
+      subst (λ (d : Database). TargetTakes (without_testers (world_of d.trees)) before after result) (rested.same clean it.0)
       (takes (without_testers (world_of now.now.trees)) it.1 refl);
 }
 
 -- where the source could not be read, the target was not asked
 pub unmigrated : (was now before : State) (fault : StoreFault) (result : Result Migrated StoreFault) → IsErrAnd result (λ e. e ≡ fault)
-    → RestedIn old_schema was now → IsHall before → Migrates was now before before result
+    → KeptTablesIn old_schema was now → IsHall before → Migrates was now before before result
 unmigrated was now before fault (Ok done) is rested hall = absurd is
 unmigrated was now before fault (Err e) is rested hall = record {
   source = rested;

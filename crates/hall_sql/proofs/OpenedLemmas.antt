@@ -22,9 +22,9 @@ use Rattle.hall_sql.specs.Tables.{IsHallSchema, no_schema, hall_schema}
 use Rattle.hall_sql.specs.Migrate.{StandsForOld, old_content_of}
 use Rattle.hall_sql.specs.Stands.{ListsLike, StandsFor}
 use Rattle.hall_sql.specs.Rows.{world_of}
-use Rattle.hall_sql.specs.Standing.{IsBare, StoodOrEmpty, HasAdopted, HasAdoptedOld, MakesAtMost, content_of}
+use Rattle.hall_sql.specs.Standing.{IsBareDatabase, StoodOrEmpty, HasAdopted, HasAdoptedOld, MakesAtMost, content_of}
 use Rattle.hall_sql.specs.WholeRows.{without_testers}
-use Rattle.hall_sql.specs.Opened.{FindsAs, IsFound, MemoryServes, OneWorldIsFound, Starts}
+use Rattle.hall_sql.specs.Opened.{FindsAs, IsImageFound, MemoryServes, OneWorldIsFound, Starts}
 use Rattle.hall_sql.specs.Opened.{StartsOld}
 use Rattle.hall_sql.proofs.AdoptLemmas.{bare_world}
 use Rattle.hall_sql.proofs.StoreLemmas.{opens_hall}
@@ -59,7 +59,7 @@ found_as Stands image s world has stands = record {
   reads = (s.committed.trees, has.reads, stands);
 }
 
-pub starts : (image : Image) (old new : State) → IsFound image old → HasAdopted old new → Starts image (content_of new)
+pub starts : (image : Image) (old new : State) → IsImageFound image old → HasAdopted old new → Starts image (content_of new)
 starts image old new file adopted clean =
     let was : HasCleanDisk old = omega (arith, adopted.follows.lasts.clean, clean) in
     let is = file.opened was in
@@ -74,7 +74,7 @@ starts image old new file adopted clean =
       },
     )
 
-pub starts_old : (image : Image) (old new : State) → IsFound image old → HasAdoptedOld old new
+pub starts_old : (image : Image) (old new : State) → IsImageFound image old → HasAdoptedOld old new
     → StartsOld image (old_content_of new)
 starts_old image old new file adopted clean =
     let was : HasCleanDisk old = omega (arith, adopted.follows.lasts.clean, clean) in
@@ -140,12 +140,12 @@ pub empty_in_memory : (conn store : Held MemStore) → IsEmpty (state over_memor
 empty_in_memory conn store empty adopted =
     from_empty (state over_memory conn) (state over_memory store) empty.2 (adopted.stood (memory_serves store).0)
 
-made_bare : (old new : State) → old.now.schema ≡ no_schema → StoodOrEmpty old new → IsBare hall_schema new.now
+made_bare : (old new : State) → old.now.schema ≡ no_schema → StoodOrEmpty old new → IsBareDatabase hall_schema new.now
 made_bare old new none (inl same) = absurd (hall_is_some old.now.schema none same.0)
 made_bare old new none (inr made) = made.1
 
 pub bare_in_memory : (conn store : Held MemStore) → IsEmpty (state over_memory conn)
-    → HasAdopted (state over_memory conn) (state over_memory store) → IsBare hall_schema (state over_memory store).now
+    → HasAdopted (state over_memory conn) (state over_memory store) → IsBareDatabase hall_schema (state over_memory store).now
 bare_in_memory conn store empty adopted =
     made_bare (state over_memory conn) (state over_memory store) empty.2 (adopted.stood (memory_serves store).0)
 

@@ -22,7 +22,7 @@ use Rattle.hall_policy.proofs.Texts.{text_decides}
 use Rattle.hall_store.specs.Caller.{IsKeyHolder, with_key}
 use Rattle.hall_sql.specs.Tables.{IsHallSchema}
 use Rattle.hall_sql.proofs.Wordings.{worded}
-use Rattle.hall_sql.specs.Rows.{person_in, person_of, world_of}
+use Rattle.hall_sql.specs.Rows.{person_in, person_of_row, world_of}
 use Rattle.hall_sql.specs.Standing.{AreKeyed, AreKeyedIn}
 use Rattle.hall_sql.specs.declared.people.TheConstants.{PERSON_BY_KEY, ALL_PEOPLE}
 use Rattle.hall_sql.proofs.AmongLemmas.{kept_value, is_among, only_found, only_one}
@@ -40,21 +40,21 @@ use Rattle.sqlite_value.proofs.OrderLemmas.{then-Equal, value_cmp-Text}
 use Rattle.hall_policy.specs.Text.{text_cmp}
 
 -- two rows of one name agree on the column of the primary key
-agreeing : (r y : Row) (x z : Person) → person_of r ≡ Some x → person_of y ≡ Some z → x.name ≡ z.name
+agreeing : (r y : Row) (x z : Person) → person_of_row r ≡ Some x → person_of_row y ≡ Some z → x.name ≡ z.name
     → agree plain (1 ∷ []) y (1 ∷ []) r ≡ true
 unfolding first_key
 agreeing r y x z p q e = rw (name_column r x p, name_column y z q, equal_texts z.name x.name (sym e))
 
 -- the table's records are the world's people, each once
 people_listed : {schema : Schema} → IsVersion schema → (db : Trees) → AreKeyed (db 0) → IsDatabase (record { schema = schema; trees = db })
-    → IsPermutation (flat_map (λ r. option_to_list (person_of r)) (db 0)) (values (world_of db).people)
+    → IsPermutation (flat_map (λ r. option_to_list (person_of_row r)) (db 0)) (values (world_of db).people)
 people_listed {schema} version db keyed sound =
     let rule = unique_in schema People db version sound in
-    records_listed text_total same_texts (λ (p : Person). p.name) person_of (1 ∷ []) (db 0) keyed agreeing
+    records_listed text_total same_texts (λ (p : Person). p.name) person_of_row (1 ∷ []) (db 0) keyed agreeing
     (λ r h. all_has _ (db 0) r rule h)
 
 -- WHERE pass = ?1 asks for the key
-keyed_so : (key : List ℕ) (r : Row) (p : Person) → person_of r ≡ Some p
+keyed_so : (key : List ℕ) (r : Row) (p : Person) → person_of_row r ≡ Some p
     → list_all (holds ((Text key ∷ []) ∷ r ∷ [])) (equals 2 0 ∷ []) ≡ same_text p.key key
 keyed_so key r p h = and_true _ ∙ column_same (column r 2) p.key key (key_column r p h)
 
@@ -72,13 +72,13 @@ holder db key out same short =
       alone = λ name other kept own.
           only_one out other short (is_among has people out same other (value_of_get (world_of db).people name other kept)
           ((text_decides other.key key).1 own));
-      own = λ name other kept own. kept_keyed text_total same_texts (λ (p : Person). p.name) person_of (db 0) name other kept;
+      own = λ name other kept own. kept_keyed text_total same_texts (λ (p : Person). p.name) person_of_row (db 0) name other kept;
     }
   where
     there : (o : Option Person) → o ≡ with_key (world_of db) key → IfSome o (λ p. get (world_of db).people p.name ≡ Some p)
     there None is = tt
     there (Some p) is =
-        kept_value text_total same_texts (λ (p : Person). p.name) person_of (db 0) p
+        kept_value text_total same_texts (λ (p : Person). p.name) person_of_row (db 0) p
         (find-Contains (λ (p : Person). same_text p.key key) (values (world_of db).people) p (sym is)).0
 
 pub key_holder : (old new : State) → IsHallSchema old.now.schema → AreKeyed (old.now.trees 0) → IsDatabase old.now
@@ -94,7 +94,7 @@ key_holder old new has keyed sound rows out is short key shown =
     out words shown is (values (world_of db).people) whole) short
 
 -- ORDER BY name is the order of names
-same_order : (a b : Row) (x y : Person) → person_of a ≡ Some x → person_of b ≡ Some y
+same_order : (a b : Row) (x y : Person) → person_of_row a ≡ Some x → person_of_row b ≡ Some y
     → by_order 0 [] person_columns name_order [] a b ≡ text_cmp x.name y.name
 same_order a b x y p q =
     rw (name_column a x p, name_column b y q, value_cmp-Text x.name y.name, then-Equal (text_cmp x.name y.name))

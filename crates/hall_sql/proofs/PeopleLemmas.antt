@@ -14,7 +14,7 @@ use Rattle.hall_sql.specs.Tables.{IsHallSchema}
 use Rattle.hall_sql.proofs.Wordings.{worded}
 use Rattle.hall_sql.specs.declared.people.TheConstants.{PERSON}
 use Rattle.hall_sql.specs.Values.{name_in, key_in, roles_in}
-use Rattle.hall_sql.specs.Rows.{person_in, person_of, world_of}
+use Rattle.hall_sql.specs.Rows.{person_in, person_of_row, world_of}
 use Rattle.hall_sql.proofs.PeopleTexts.{person_columns, person_is}
 use Rattle.hall_sql.specs.Statements.{equals}
 use Rattle.hall_sql.proofs.ColumnLemmas.{kind_column, column_equals, last_equal}
@@ -22,14 +22,14 @@ use Rattle.hall_policy.proofs.Orders.{text_total, same_texts}
 use Rattle.hall_sql.proofs.FoundLemmas.{asked_found}
 use Rattle.hall_sql.proofs.RecordParts.{person_parts_of}
 
-pub name_column : (r : Row) (p : Person) → person_of r ≡ Some p → column r 1 ≡ Text p.name
+pub name_column : (r : Row) (p : Person) → person_of_row r ≡ Some p → column r 1 ≡ Text p.name
 name_column r p is = kind_column 1 24 is_word_byte (column r 1) p.name (person_parts_of (name_in (column r 1)) (key_in (column r 2)) (roles_in (column r 3)) p is).name
 
-pub key_column : (r : Row) (p : Person) → person_of r ≡ Some p → column r 2 ≡ Text p.key
+pub key_column : (r : Row) (p : Person) → person_of_row r ≡ Some p → column r 2 ≡ Text p.key
 key_column r p is = kind_column 8 64 is_key_byte (column r 2) p.key (person_parts_of (name_in (column r 1)) (key_in (column r 2)) (roles_in (column r 3)) p is).key
 
 -- WHERE name = ?1 asks for the name
-named : (name : List ℕ) (r : Row) (p : Person) → person_of r ≡ Some p
+named : (name : List ℕ) (r : Row) (p : Person) → person_of_row r ≡ Some p
     → list_all (holds ((Text name ∷ []) ∷ r ∷ [])) (equals 1 0 ∷ []) ≡ eq_by_cmp text_cmp p.name name
 named name r p is = last_equal _ _ (column_equals (column r 1) p.name name (name_column r p is))
 

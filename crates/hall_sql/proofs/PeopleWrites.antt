@@ -29,7 +29,8 @@ use Rattle.hall_sql.specs.declared.tables.HallTable.TheVariants.{People}
 use Rattle.hall_sql.specs.declared.people.TheConstants.{ADD_PERSON}
 use Rattle.hall_sql.specs.Values.{roles_in}
 use Rattle.hall_sql.specs.Columns.{person_params, roles_code}
-use Rattle.hall_sql.specs.Rows.{kept, person_of, puzzle_row_of, round_of, place_of, answer_of, protest_of, tester_of, world_of}
+use Rattle.hall_sql.specs.Rows.{kept, person_of_row, puzzle_of_row, round_of_row, place_of_row, answer_of_row}
+use Rattle.hall_sql.specs.Rows.{protest_of_row, tester_of_row, world_of}
 use Rattle.hall_sql.specs.Inside.{IsHallData, AddsPerson}
 use Rattle.hall_sql.specs.Spared.{may_write}
 use Rattle.hall_store.specs.declared.change.Change.TheVariants.{Import}
@@ -67,7 +68,7 @@ roles_read roles some = of roles.director roles.author roles.referee roles.entra
     of true true true true some = refl
 
 -- the columns are read as the person, whatever the rowid is
-person_reads : (person : Person) → IsPerson person → (id : Value) → person_of (id ∷ person_params person) ≡ Some person
+person_reads : (person : Person) → IsPerson person → (id : Value) → person_of_row (id ∷ person_params person) ≡ Some person
 person_reads person is id = rw (
   kind_holds 1 24 is_word_byte person.name is.name,
   kind_holds 8 64 is_key_byte person.key is.key,
@@ -87,17 +88,17 @@ quiet u new = adds_quiet (hall_in u) 0 (new ∷ [])
 -- where the table of people alone was written, the people alone are changed
 people_alone : (old new : Trees) (people : FinMap text_cmp Person)
     → AllByRecursion (λ (t : Table). t.tree ≢ 0 → new t.tree ≡ old t.tree) hall_schema.tables
-    → kept text_cmp (λ (person : Person). person.name) person_of (new 0) ≡ people
+    → kept text_cmp (λ (person : Person). person.name) person_of_row (new 0) ≡ people
     → world_of new ≡ record (world_of old) { people = people }
 people_alone old new people others is =
     same_worlds (world_of new) (record (world_of old) { people = people })
     is
-    (ap (kept puzzle_cmp (λ row. row.key) puzzle_row_of) (others.1.0 (λ same. absurd (omega (arith, same)))))
-    (ap (kept text_cmp (λ round. round.id) round_of) (others.1.1.0 (λ same. absurd (omega (arith, same)))))
-    (ap (λ rows. from_entries (flat_map (λ row. option_to_list (place_of row)) rows)) (others.1.1.1.0 (λ same. absurd (omega (arith, same)))))
-    (ap (kept answer_cmp (λ row. row.key) answer_of) (others.1.1.1.1.0 (λ same. absurd (omega (arith, same)))))
-    (ap (kept protest_cmp (λ row. row.key) protest_of) (others.1.1.1.1.1.0 (λ same. absurd (omega (arith, same)))))
-    (ap (λ rows. from_entries (flat_map (λ row. option_to_list (tester_of row)) rows)) (others.1.1.1.1.1.1.0 (λ same. absurd (omega (arith, same)))))
+    (ap (kept puzzle_cmp (λ row. row.key) puzzle_of_row) (others.1.0 (λ same. absurd (omega (arith, same)))))
+    (ap (kept text_cmp (λ round. round.id) round_of_row) (others.1.1.0 (λ same. absurd (omega (arith, same)))))
+    (ap (λ rows. from_entries (flat_map (λ row. option_to_list (place_of_row row)) rows)) (others.1.1.1.0 (λ same. absurd (omega (arith, same)))))
+    (ap (kept answer_cmp (λ row. row.key) answer_of_row) (others.1.1.1.1.0 (λ same. absurd (omega (arith, same)))))
+    (ap (kept protest_cmp (λ row. row.key) protest_of_row) (others.1.1.1.1.1.0 (λ same. absurd (omega (arith, same)))))
+    (ap (λ rows. from_entries (flat_map (λ row. option_to_list (tester_of_row row)) rows)) (others.1.1.1.1.1.1.0 (λ same. absurd (omega (arith, same)))))
 
 -- the INSERT of a person adds the person, where the name is unknown
 pub person_added : (person : Person) → IsPerson person → (old new : State) (count : ℕ) → Executes ADD_PERSON.now (person_params person) old new (Ok count)
@@ -110,12 +111,12 @@ person_added person is old new count ran it =
     (inserts (hall_in u) 0 (table_in u People) refl refl added_terms 4 params (Null ∷ params) params refl refl (person_casts person) (quiet u) old new _ count words w) in
     let id = next_rowid (old.now.trees 0) in
     let after = added_keyed id params (old.now.trees 0) (new.now.trees 0) put.put put.free it.keyed.0 in
-    let own = taken_record text_total (λ (x : Person). x.name) person.name (person_of (Int id ∷ params)) person (person_reads person is (Int id)) refl in (
+    let own = taken_record text_total (λ (x : Person). x.name) person.name (person_of_row (Int id ∷ params)) person (person_reads person is (Int id)) refl in (
       record { schema = subst IsHallSchema (sym put.same) it.schema; keyed = keyed_after 0 old.now.trees new.now.trees hall_schema.tables after put.others it.keyed },
       record {
         row = put;
         world = λ unknown. people_alone old.now.trees new.now.trees (insert (world_of old.now.trees).people person.name person) put.others
-            (put_new text_total same_texts (λ (x : Person). x.name) person_of person (Int id ∷ params) (old.now.trees 0) (new.now.trees 0) put.put (person_reads person is (Int id)) put.free unknown);
+            (put_new text_total same_texts (λ (x : Person). x.name) person_of_row person (Int id ∷ params) (old.now.trees 0) (new.now.trees 0) put.put (person_reads person is (Int id)) put.free unknown);
         others = alone_spared (may_write (Import (person ∷ []))) 0 old.now.trees new.now.trees
             (added_spared (may_write (Import (person ∷ [])) 0) (old.now.trees 0) (new.now.trees 0) (Int id ∷ params) (ap (λ b. b || false) own) put.free put.put) put.others;
         read = added_read 0 params old.now new.now put (ap is_some (person_reads person is (Int id))) (λ all. all.0);

@@ -20,7 +20,7 @@ use Rattle.sqlite_value.specs.Keys.{plain, first_key}
 use Rattle.sqlite_value.specs.Order.{column}
 use Rattle.sqlite_value.proofs.OrderLemmas.{then-Equal, value_cmp-Int, value_cmp-Text}
 use Rattle.hall_policy.specs.Text.{is_word_byte, text_cmp}
-use Rattle.hall_policy.specs.Rules.{Lists}
+use Rattle.hall_policy.specs.Rules.{ListsEntry}
 use Rattle.hall_policy.specs.World.{World, place_cmp, same_text}
 use Rattle.hall_policy.specs.declared.record.Entry.{Entry}
 use Rattle.hall_policy.specs.declared.record.PlaceKey.{PlaceKey}
@@ -32,7 +32,7 @@ use Rattle.hall_store.proofs.Tests.{puzzle_decides}
 use Rattle.hall_sql.specs.Tables.{IsHallSchema}
 use Rattle.hall_sql.proofs.Wordings.{Wording, hall_in, worded}
 use Rattle.hall_sql.specs.Values.{name_in, within}
-use Rattle.hall_sql.specs.Rows.{kept, place_in, place_of, world_of}
+use Rattle.hall_sql.specs.Rows.{kept, place_in, place_of_row, world_of}
 use Rattle.hall_sql.specs.Places.{has_puzzle, is_in_round, number_cmp, round_cmp, ArePlaces, ArePlacesWith, AreListed}
 use Rattle.hall_sql.specs.Standing.{AreKeyed, AreKeyedIn}
 use Rattle.hall_sql.specs.declared.rounds.TheConstants.{PLACES_WITH, PLACES_OF, ALL_PLACES}
@@ -62,7 +62,7 @@ pub record HasColumns (r : Row) (place : Place) : Type 0 where
   pub author : column r 3 ≡ Text place.1.puzzle.author
   pub label : column r 4 ≡ Text place.1.puzzle.label
 
-pub has_columns : (r : Row) (place : Place) → place_of r ≡ Some place → HasColumns r place
+pub has_columns : (r : Row) (place : Place) → place_of_row r ≡ Some place → HasColumns r place
 has_columns r place is =
     let it = place_parts_of (name_in (column r 1)) (within 1 99 (column r 2)) (name_in (column r 3)) (name_in (column r 4))
     (within 1 1000 (column r 5)) place is in
@@ -74,7 +74,7 @@ has_columns r place is =
     }
 
 -- two rows of one place agree on the columns of the primary key
-agreeing : (r y : Row) (x z : Place) → place_of r ≡ Some x → place_of y ≡ Some z → key_of x ≡ key_of z
+agreeing : (r y : Row) (x z : Place) → place_of_row r ≡ Some x → place_of_row y ≡ Some z → key_of x ≡ key_of z
     → agree plain (1 ∷ 2 ∷ []) y (1 ∷ 2 ∷ []) r ≡ true
 unfolding first_key
 agreeing r y x z p q e =
@@ -91,20 +91,20 @@ agreeing r y x z p q e =
 
 -- the places of the rows, each with its puzzle
 abbrev pub placed : List Row → FinMap place_cmp Place
-placed rows = kept place_cmp key_of place_of rows
+placed rows = kept place_cmp key_of place_of_row rows
 
 -- the table's records are these, each once
 pub places_listed : {schema : Schema} → IsVersion schema → (db : Trees) → AreKeyed (db 7) → IsDatabase (record { schema = schema; trees = db })
-    → IsPermutation (flat_map (λ r. option_to_list (place_of r)) (db 7)) (values (placed (db 7)))
+    → IsPermutation (flat_map (λ r. option_to_list (place_of_row r)) (db 7)) (values (placed (db 7)))
 places_listed {schema} version db keyed sound =
     let rule = unique_in schema Places db version sound in
-    records_listed place_total same_place_keys key_of place_of (1 ∷ 2 ∷ []) (db 7) keyed agreeing
+    records_listed place_total same_place_keys key_of place_of_row (1 ∷ 2 ∷ []) (db 7) keyed agreeing
     (λ r h. all_has _ (db 7) r rule h)
 
 -- those that pass, in some order, are the places that pass
 pub are_places : (db : Trees) (test : Place → Bool) (out : List Place) → IsPermutation (filter test (values (placed (db 7)))) out
     → ArePlaces (world_of db) test out
-are_places db test out same = are_entries place_total same_place_keys place_of (db 7) test out same
+are_places db test out same = are_entries place_total same_place_keys place_of_row (db 7) test out same
 
 -- ---- places of one round, in the order of their numbers
 
@@ -117,7 +117,7 @@ by_number id a b p q =
 numbers_rise : (db : Trees) (id : List ℕ) (out : List Place) → IsPermutation (filter (is_in_round id) (values (placed (db 7)))) out
     → IsSorted number_cmp out → IsStrictlySortedBy number_cmp out
 numbers_rise db id out same sorted =
-    rise_strictly place_total same_place_keys place_of (db 7) (is_in_round id) out same number_cmp
+    rise_strictly place_total same_place_keys place_of_row (db 7) (is_in_round id) out same number_cmp
     (λ a b p q. by_number id a b ((text_decides a.0.round id).0 p) ((text_decides b.0.round id).0 q)) sorted
 
 -- what a query gives of the places
@@ -126,12 +126,12 @@ module _ (old new : State) (has : IsHallSchema old.now.schema) (keyed : AreKeyed
   said : (u : Wording) × (old.now.schema ≡ hall_in u)
   said = worded old.now.schema has
 
-  whole : IsPermutation (flat_map (λ r. option_to_list (place_of r)) (old.now.trees 7)) (values (placed (old.now.trees 7)))
+  whole : IsPermutation (flat_map (λ r. option_to_list (place_of_row r)) (old.now.trees 7)) (values (placed (old.now.trees 7)))
   whole =
       let db = old.now.trees in
       places_listed {schema = old.now.schema} (inr has) db keyed sound
 
-  with_agrees : (key : PuzzleKey) (r : Row) (x : Place) → place_of r ≡ Some x
+  with_agrees : (key : PuzzleKey) (r : Row) (x : Place) → place_of_row r ≡ Some x
       → list_all (holds ((Text key.author ∷ Text key.label ∷ []) ∷ r ∷ [])) puzzle_terms ≡ has_puzzle key x
   with_agrees key r x h =
       let it = has_columns r x h in
@@ -139,7 +139,7 @@ module _ (old new : State) (has : IsHallSchema old.now.schema) (keyed : AreKeyed
       (and_true _ ∙ column_same (column r 4) x.1.puzzle.label key.label it.label)
 
   -- ORDER BY round is the order of rounds
-  same_rounds : (key : PuzzleKey) (a b : Row) (x y : Place) → place_of a ≡ Some x → place_of b ≡ Some y
+  same_rounds : (key : PuzzleKey) (a b : Row) (x y : Place) → place_of_row a ≡ Some x → place_of_row b ≡ Some y
       → by_order 7 puzzle_terms place_columns round_order (Text key.author ∷ Text key.label ∷ []) a b ≡ round_cmp x y
   same_rounds key a b x y p q =
       rw (
@@ -162,12 +162,12 @@ module _ (old new : State) (has : IsHallSchema old.now.schema) (keyed : AreKeyed
         (with_agrees key) old new rows out said.1 shown is round_cmp (same_rounds key);
   }
 
-  in_agrees : (id : List ℕ) (r : Row) (x : Place) → place_of r ≡ Some x
+  in_agrees : (id : List ℕ) (r : Row) (x : Place) → place_of_row r ≡ Some x
       → list_all (holds ((Text id ∷ []) ∷ r ∷ [])) first_terms ≡ is_in_round id x
   in_agrees id r x h = and_true _ ∙ column_same (column r 1) x.0.round id (has_columns r x h).round
 
   -- ORDER BY number is the order of numbers
-  same_order : (id : List ℕ) (a b : Row) (x y : Place) → place_of a ≡ Some x → place_of b ≡ Some y
+  same_order : (id : List ℕ) (a b : Row) (x y : Place) → place_of_row a ≡ Some x → place_of_row b ≡ Some y
       → by_order 7 first_terms place_columns number_order (Text id ∷ []) a b ≡ number_cmp x y
   same_order id a b x y p q =
       rw (
@@ -194,7 +194,7 @@ module _ (old new : State) (has : IsHallSchema old.now.schema) (keyed : AreKeyed
 -- ---- all places
 
 -- ORDER BY round, number is the order of places
-by_place : (a b : Row) (x y : Place) → place_of a ≡ Some x → place_of b ≡ Some y
+by_place : (a b : Row) (x y : Place) → place_of_row a ≡ Some x → place_of_row b ≡ Some y
     → by_order 7 [] place_columns place_order [] a b ≡ place_cmp x.0 y.0
 by_place a b x y p q =
     let one = has_columns a x p in
@@ -218,7 +218,7 @@ all_places_listed schema version old new has keyed sound rows out is shown =
     let whole = places_listed version db (keyed_in schema Places db version keyed) (subst (λ s. IsDatabase (record { schema = s; trees = db })) has sound) in
     all_listed (all_places_are schema version) place_total same_place_keys key_of place_in 5 (λ db. refl) (λ r. refl)
     by_place old new has whole rows out is shown
-    ∙ entries_kept place_total same_place_keys place_of (db 7)
+    ∙ entries_kept place_total same_place_keys place_of_row (db 7)
 
 -- ---- the rounds of places
 
@@ -237,7 +237,7 @@ module _ (world : World) (key : PuzzleKey) (places : List Place) (are : ArePlace
   abbrev rounds : List (List ℕ)
   rounds = map (λ (place : Place). place.0.round) places
 
-  there : (id : List ℕ) → Contains rounds id → (entry : Entry) × Lists world id entry × (entry.puzzle ≡ key)
+  there : (id : List ℕ) → Contains rounds id → (entry : Entry) × ListsEntry world id entry × (entry.puzzle ≡ key)
   there id among =
       let it = mapped_from (λ (place : Place). place.0.round) places id among in
       let place : Place = it.0 in
@@ -249,7 +249,7 @@ module _ (world : World) (key : PuzzleKey) (places : List Place) (are : ArePlace
         (puzzle_decides place.1.puzzle key).0 fact.1,
       )
 
-  back : (id : List ℕ) → (entry : Entry) × Lists world id entry × (entry.puzzle ≡ key) → Contains rounds id
+  back : (id : List ℕ) → (entry : Entry) × ListsEntry world id entry × (entry.puzzle ≡ key) → Contains rounds id
   back id h =
       let place : Place = (record { round = id; number = h.1.0 }, h.0) in
       mapped (λ (place : Place). place.0.round) places place ((are.whole place).1 (h.1.1, (puzzle_decides h.0.puzzle key).1 h.2))

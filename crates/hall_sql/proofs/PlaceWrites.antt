@@ -37,10 +37,11 @@ use Rattle.hall_sql.proofs.Wordings.{Wording, added_in, adds_quiet, hall_in, tab
 use Rattle.hall_sql.specs.declared.round_writes.TheConstants.{DROP_PLACES, ADD_PLACE}
 use Rattle.hall_sql.specs.Values.{name_in, within}
 use Rattle.hall_sql.specs.RoundColumns.{place_params, is_under}
-use Rattle.hall_sql.specs.Rows.{kept, person_of, puzzle_row_of, round_of, place_of, answer_of, protest_of, tester_of, world_of}
+use Rattle.hall_sql.specs.Rows.{kept, person_of_row, puzzle_of_row, round_of_row, place_of_row, answer_of_row}
+use Rattle.hall_sql.specs.Rows.{protest_of_row, tester_of_row, world_of}
 use Rattle.hall_sql.specs.Spared.{is_place_of}
 use Rattle.hall_sql.specs.Standing.{AreKeyed}
-use Rattle.hall_sql.specs.Inside.{IsHallData, Did}
+use Rattle.hall_sql.specs.Inside.{IsHallData, MakesInside}
 use Rattle.hall_sql.specs.RoundPuts.{DropsPlaces, place_key, with_place, with_places, PutsPlace, HasNoPlaces, PutsPlaces, PutsList}
 use Rattle.hall_sql.proofs.AnswerWrites.{is_within}
 use Rattle.hall_sql.proofs.ColumnLemmas.{kind_column, column_same, and_true}
@@ -59,7 +60,7 @@ use Rattle.hall_sql.proofs.RecordParts.{place_parts_of}
 -- ---- what a row of the table says
 
 -- WHERE round = ?1 asks for the round
-agrees : (id : List ℕ) (r : Row) (place : PlaceKey × Entry) → place_of r ≡ Some place → is_under id r ≡ same_text place.0.round id
+agrees : (id : List ℕ) (r : Row) (place : PlaceKey × Entry) → place_of_row r ≡ Some place → is_under id r ≡ same_text place.0.round id
 agrees id r place is =
     let round = kind_column 1 24 is_word_byte (column r 1) place.0.round
     (place_parts_of (name_in (column r 1)) (within 1 99 (column r 2)) (name_in (column r 3)) (name_in (column r 4)) (within 1 1000 (column r 5)) place is).round in
@@ -72,17 +73,17 @@ same_itself id = sym (is_eq-slice_cmp id id) ∙ own_key text_total id
 -- where the table of places alone was written, the places alone are changed
 places_alone : (old new : Trees) (places : FinMap place_cmp Entry)
     → AllByRecursion (λ (t : Table). t.tree ≢ 7 → new t.tree ≡ old t.tree) hall_schema.tables
-    → from_entries (flat_map (λ row. option_to_list (place_of row)) (new 7)) ≡ places
+    → from_entries (flat_map (λ row. option_to_list (place_of_row row)) (new 7)) ≡ places
     → world_of new ≡ record (world_of old) { places = places }
 places_alone old new places others is =
     same_worlds (world_of new) (record (world_of old) { places = places })
-    (ap (kept text_cmp (λ person. person.name) person_of) (others.0 (λ same. absurd (omega (arith, same)))))
-    (ap (kept puzzle_cmp (λ row. row.key) puzzle_row_of) (others.1.0 (λ same. absurd (omega (arith, same)))))
-    (ap (kept text_cmp (λ round. round.id) round_of) (others.1.1.0 (λ same. absurd (omega (arith, same)))))
+    (ap (kept text_cmp (λ person. person.name) person_of_row) (others.0 (λ same. absurd (omega (arith, same)))))
+    (ap (kept puzzle_cmp (λ row. row.key) puzzle_of_row) (others.1.0 (λ same. absurd (omega (arith, same)))))
+    (ap (kept text_cmp (λ round. round.id) round_of_row) (others.1.1.0 (λ same. absurd (omega (arith, same)))))
     is
-    (ap (kept answer_cmp (λ row. row.key) answer_of) (others.1.1.1.1.0 (λ same. absurd (omega (arith, same)))))
-    (ap (kept protest_cmp (λ row. row.key) protest_of) (others.1.1.1.1.1.0 (λ same. absurd (omega (arith, same)))))
-    (ap (λ rows. from_entries (flat_map (λ row. option_to_list (tester_of row)) rows)) (others.1.1.1.1.1.1.0 (λ same. absurd (omega (arith, same)))))
+    (ap (kept answer_cmp (λ row. row.key) answer_of_row) (others.1.1.1.1.0 (λ same. absurd (omega (arith, same)))))
+    (ap (kept protest_cmp (λ row. row.key) protest_of_row) (others.1.1.1.1.1.0 (λ same. absurd (omega (arith, same)))))
+    (ap (λ rows. from_entries (flat_map (λ row. option_to_list (tester_of_row row)) rows)) (others.1.1.1.1.1.1.0 (λ same. absurd (omega (arith, same)))))
 
 quiet : (u : Wording) (new : Row) → works (hall_in u) Enforced 0 7 [] (new ∷ []) ≡ []
 quiet u new = adds_quiet (hall_in u) 7 (new ∷ [])
@@ -105,8 +106,8 @@ module _ (id : List ℕ) (old new : State) (count : ℕ) (held : IsHallData old.
         record { schema = subst IsHallSchema (sym it.0) held.schema; keyed = keyed_after 7 old.now.trees new.now.trees hall_schema.tables after it.2 held.keyed },
         record {
           world = places_alone old.now.trees new.now.trees (without_list (world_of old.now.trees).places id) it.2
-              (ap (λ l. from_entries (flat_map (λ row. option_to_list (place_of row)) l)) left
-              ∙ cut_entries place_total same_place_keys place_of (λ k. same_text k.round id) (is_under id) (agrees id) rows);
+              (ap (λ l. from_entries (flat_map (λ row. option_to_list (place_of_row row)) l)) left
+              ∙ cut_entries place_total same_place_keys place_of_row (λ k. same_text k.round id) (is_under id) (agrees id) rows);
           rows = left;
           others = alone_spared (is_place_of id) 7 old.now.trees new.now.trees (dropped_spared (is_place_of id 7) rows (new.now.trees 7) left) it.2;
         },
@@ -124,7 +125,7 @@ module _ (id : List ℕ) (old new : State) (count : ℕ) (held : IsHallData old.
       (inserts (hall_in u) 3 (table_in u Places) refl refl added_terms 6 given (Null ∷ given) given refl refl casts (quiet u) old new _ count words w) in
       let at = next_rowid (old.now.trees 7) in
       let after = added_keyed at given (old.now.trees 7) (new.now.trees 7) it.put it.free held.keyed.1.1.1.0 in
-      let reads : place_of (Int at ∷ given) ≡ Some (place_key id number, entry) = rw (
+      let reads : place_of_row (Int at ∷ given) ≡ Some (place_key id number, entry) = rw (
         kind_holds 1 24 is_word_byte id is_id,
         is_within 1 99 number is_number,
         kind_holds 1 24 is_word_byte entry.puzzle.author is.puzzle.author,
@@ -135,7 +136,7 @@ module _ (id : List ℕ) (old new : State) (count : ℕ) (held : IsHallData old.
         record { schema = subst IsHallSchema (sym it.same) held.schema; keyed = keyed_after 7 old.now.trees new.now.trees hall_schema.tables after it.others held.keyed },
         record {
           world = λ none. places_alone old.now.trees new.now.trees (insert (world_of old.now.trees).places (place_key id number) entry) it.others
-              (put_entry place_total same_place_keys place_of (place_key id number) entry (Int at ∷ given) (old.now.trees 7) (new.now.trees 7) none reads it.free it.put);
+              (put_entry place_total same_place_keys place_of_row (place_key id number) entry (Int at ∷ given) (old.now.trees 7) (new.now.trees 7) none reads it.free it.put);
           rows = it.put;
           others = alone_spared (is_place_of id) 7 old.now.trees new.now.trees
               (added_spared (is_place_of id 7) (old.now.trees 7) (new.now.trees 7) (Int at ∷ given) own it.free it.put) it.others;
@@ -224,11 +225,11 @@ list_put id entries a b c dropped put =
 
 -- ---- the same inside a transaction
 
-pub no_places_did : (id : List ℕ) (s : State) → IsTrue s.in_transaction → Did (PutsPlaces id []) s s
+pub no_places_did : (id : List ℕ) (s : State) → IsTrue s.in_transaction → MakesInside (PutsPlaces id []) s s
 no_places_did id s mode = did_none (PutsPlaces id []) s mode (record { world = λ free. refl; rows = refl; others = same_spared (is_place_of id) s.now.trees })
 
 pub more_did : (id : List ℕ) (entries : List Entry) (i number : ℕ) (entry : Entry) (a b c : State) → number ≡ i → i < length entries → entry ≡ get_or entries i entry
-    → Did (PutsPlaces id (take i entries)) a b → Did (PutsPlace id (number + 1) entry) b c → Did (PutsPlaces id (take (i + 1) entries)) a c
+    → MakesInside (PutsPlaces id (take i entries)) a b → MakesInside (PutsPlace id (number + 1) entry) b c → MakesInside (PutsPlaces id (take (i + 1) entries)) a c
 more_did id entries i number entry a b c at low is so it =
     did_then (PutsPlaces id (take i entries)) (PutsPlace id (number + 1) entry) (PutsPlaces id (take (i + 1) entries)) a b c
     (λ one two. more_places id entries i entry a.now b.now c.now low is one (subst (λ n. PutsPlace id (n + 1) entry b.now c.now) at two)) so it

@@ -16,7 +16,8 @@ use Rattle.sqlite_rules.proofs.ListLemmas.{all_has}
 use Rattle.sqlite_value.specs.Keys.{plain, first_key}
 use Rattle.sqlite_value.specs.Order.{column}
 use Rattle.sqlite_value.proofs.OrderLemmas.{then-Equal, value_cmp-Text}
-use Rattle.hall_policy.specs.Text.{text_cmp, is_word_byte, is_printable}
+use Rattle.hall_grid.specs.Printable.{is_printable}
+use Rattle.hall_policy.specs.Text.{text_cmp, is_word_byte}
 use Rattle.hall_policy.specs.World.{protest_cmp}
 use Rattle.hall_policy.specs.declared.record.ProtestKey.{ProtestKey}
 use Rattle.hall_policy.specs.declared.record.ProtestRow.{ProtestRow}
@@ -25,7 +26,7 @@ use Rattle.hall_store.specs.Store.{protests_in, protests_of, is_protest_in, is_p
 use Rattle.hall_sql.specs.Tables.{IsHallSchema}
 use Rattle.hall_sql.proofs.Wordings.{Wording, hall_in, worded}
 use Rattle.hall_sql.specs.Values.{name_in, token_in, within, kind_in, ruling_in}
-use Rattle.hall_sql.specs.Rows.{protest_in, protest_of, world_of}
+use Rattle.hall_sql.specs.Rows.{protest_in, protest_of_row, world_of}
 use Rattle.hall_sql.specs.Columns.{IsAlone}
 use Rattle.hall_sql.specs.Standing.{AreKeyed, AreKeyedIn}
 use Rattle.hall_sql.specs.declared.protests.TheConstants.{ALL_PROTESTS, PROTEST, PROTESTS_OF, PROTESTS_IN}
@@ -50,7 +51,7 @@ pub record HasColumns (r : Row) (row : ProtestRow) : Type 0 where
   pub text : column r 5 ≡ Text row.text
   pub ruling : ruling_in (column r 6) (column r 7) ≡ Some row.ruling
 
-pub has_columns : (r : Row) (row : ProtestRow) → protest_of r ≡ Some row → HasColumns r row
+pub has_columns : (r : Row) (row : ProtestRow) → protest_of_row r ≡ Some row → HasColumns r row
 has_columns r row is =
     let it = protest_parts_of (name_in (column r 1)) (name_in (column r 2)) (token_in (column r 3)) (within 1 99 (column r 4))
     (kind_in 1 200 is_printable (column r 5)) (ruling_in (column r 6) (column r 7)) row is in
@@ -67,7 +68,7 @@ abbrev pub key_params : ProtestKey → Row
 key_params key = Text key.entrant ∷ Text key.round ∷ Text key.token ∷ []
 
 -- WHERE entrant = ?1 AND round = ?2 AND token = ?3 asks for the key
-pub agrees : (key : ProtestKey) (r : Row) (row : ProtestRow) → protest_of r ≡ Some row
+pub agrees : (key : ProtestKey) (r : Row) (row : ProtestRow) → protest_of_row r ≡ Some row
     → list_all (holds (key_params key ∷ r ∷ [])) key_terms ≡ eq_by_cmp protest_cmp row.key key
 agrees key r row is =
     let it = has_columns r row is in
@@ -100,7 +101,7 @@ protest_alone key old new rows out has shown is short =
 -- ---- listings
 
 -- two rows of one key agree on the columns of the primary key
-agreeing : (r y : Row) (x z : ProtestRow) → protest_of r ≡ Some x → protest_of y ≡ Some z → x.key ≡ z.key
+agreeing : (r y : Row) (x z : ProtestRow) → protest_of_row r ≡ Some x → protest_of_row y ≡ Some z → x.key ≡ z.key
     → agree plain (1 ∷ 2 ∷ 3 ∷ []) y (1 ∷ 2 ∷ 3 ∷ []) r ≡ true
 unfolding first_key
 agreeing r y x z p q e =
@@ -120,15 +121,15 @@ agreeing r y x z p q e =
 
 -- the table's records are the world's protests, each once
 pub protests_listed : {schema : Schema} → IsVersion schema → (db : Trees) → AreKeyed (db 12) → IsDatabase (record { schema = schema; trees = db })
-    → IsPermutation (flat_map (λ r. option_to_list (protest_of r)) (db 12)) (values (world_of db).protests)
+    → IsPermutation (flat_map (λ r. option_to_list (protest_of_row r)) (db 12)) (values (world_of db).protests)
 protests_listed {schema} version db keyed sound =
     let rule = unique_in schema Protests db version sound in
-    records_listed protest_total same_protest_keys (λ (row : ProtestRow). row.key) protest_of (1 ∷ 2 ∷ 3 ∷ []) (db 12)
+    records_listed protest_total same_protest_keys (λ (row : ProtestRow). row.key) protest_of_row (1 ∷ 2 ∷ 3 ∷ []) (db 12)
     keyed agreeing
     (λ r h. all_has _ (db 12) r rule h)
 
 -- ORDER BY entrant, round, token is the order of keys
-pub same_order : (params : Row) (terms : List Term) (a b : Row) (x y : ProtestRow) → protest_of a ≡ Some x → protest_of b ≡ Some y
+pub same_order : (params : Row) (terms : List Term) (a b : Row) (x y : ProtestRow) → protest_of_row a ≡ Some x → protest_of_row b ≡ Some y
     → by_order 12 terms protest_columns key_order params a b ≡ protest_cmp x.key y.key
 same_order params terms a b x y p q =
     let one = has_columns a x p in
@@ -161,17 +162,17 @@ module _ (old new : State) (has : IsHallSchema old.now.schema) (keyed : AreKeyed
   said : (u : Wording) × (old.now.schema ≡ hall_in u)
   said = worded old.now.schema has
 
-  pub whole : IsPermutation (flat_map (λ r. option_to_list (protest_of r)) (old.now.trees 12))
+  pub whole : IsPermutation (flat_map (λ r. option_to_list (protest_of_row r)) (old.now.trees 12))
       (values (world_of old.now.trees).protests)
   whole =
       let db = old.now.trees in
       protests_listed {schema = old.now.schema} (inr has) db keyed sound
 
-  pub in_agrees : (round : List ℕ) (r : Row) (x : ProtestRow) → protest_of r ≡ Some x
+  pub in_agrees : (round : List ℕ) (r : Row) (x : ProtestRow) → protest_of_row r ≡ Some x
       → list_all (holds ((Text round ∷ []) ∷ r ∷ [])) (equals 2 0 ∷ []) ≡ is_protest_in round x
   in_agrees round r x h = and_true _ ∙ column_same (column r 2) x.key.round round (has_columns r x h).round
 
-  of_agrees : (entrant round : List ℕ) (r : Row) (x : ProtestRow) → protest_of r ≡ Some x
+  of_agrees : (entrant round : List ℕ) (r : Row) (x : ProtestRow) → protest_of_row r ≡ Some x
       → list_all (holds ((Text entrant ∷ Text round ∷ []) ∷ r ∷ [])) (equals 2 1 ∷ equals 1 0 ∷ [])
       ≡ is_protest_of entrant round x
   of_agrees entrant round r x h =

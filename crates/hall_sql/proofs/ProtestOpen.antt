@@ -14,7 +14,7 @@ use Rattle.hall_policy.proofs.Orders.{protest_total, same_protest_keys}
 use Rattle.hall_store.proofs.Tests.{Contains-filter, filter-Contains, and_both, and_turned}
 use Rattle.hall_policy.proofs.Texts.{text_decides, and_first, and_second}
 use Rattle.hall_store.specs.Store.{IsProtestOpen, protests_of, protests_in, is_protest_of, is_protest_in}
-use Rattle.hall_sql.specs.Rows.{protest_of, world_of}
+use Rattle.hall_sql.specs.Rows.{protest_of_row, world_of}
 use Rattle.hall_sql.proofs.AmongLemmas.{kept_value}
 use Rattle.hall_sql.proofs.UniqueLemmas.{kept_keyed}
 
@@ -48,14 +48,14 @@ module _ (db : Trees) (round : List ℕ) where
     row.key,
     row,
     (text_decides row.key.round round).0 (and_first _ _ passes),
-    kept_value protest_total same_protest_keys (λ (row : ProtestRow). row.key) protest_of (db 12) row among,
+    kept_value protest_total same_protest_keys (λ (row : ProtestRow). row.key) protest_of_row (db 12) row among,
     none_is row.ruling (and_second (same_text row.key.round round) _ passes),
   )
 
   open_passes : (found : IsProtestOpen (world_of db) round) → Contains protests found.1 × (is_open_in round found.1 ≡ true)
   open_passes found =
       let row = found.1 in
-      let key = kept_keyed protest_total same_protest_keys (λ (row : ProtestRow). row.key) protest_of (db 12)
+      let key = kept_keyed protest_total same_protest_keys (λ (row : ProtestRow). row.key) protest_of_row (db 12)
       found.0 row found.3 in (
         value_of_get (world_of db).protests found.0 row found.3,
         and_both _ _ ((text_decides row.key.round round).1 (ap (λ (k : ProtestKey). k.round) key ∙ found.2)) (ap is_none found.4),

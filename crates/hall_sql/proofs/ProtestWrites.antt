@@ -23,7 +23,8 @@ use Rattle.sqlite.specs.Command.TheVariants.{Insert, Update}
 use Rattle.sqlite.specs.State.{State, HasCleanDisk, Executes, Writes}
 use Rattle.sqlite.specs.Listing.{understood}
 use Rattle.sqlite.proofs.Callers.{runs_as, statement_of}
-use Rattle.hall_policy.specs.Text.{text_cmp, is_word_byte, is_printable}
+use Rattle.hall_grid.specs.Printable.{is_printable}
+use Rattle.hall_policy.specs.Text.{text_cmp, is_word_byte}
 use Rattle.hall_policy.specs.World.{puzzle_cmp, answer_cmp, protest_cmp, ruling_points}
 use Rattle.hall_policy.specs.Ranges.{IsProtestRow, IsRuling}
 use Rattle.hall_policy.specs.declared.record.ProtestKey.{ProtestKey}
@@ -40,7 +41,8 @@ use Rattle.hall_sql.proofs.Wordings.{Wording, added_in, adds_quiet, hall_in, kee
 use Rattle.hall_sql.specs.declared.protests.TheConstants.{ADD_PROTEST, RULE_PROTEST}
 use Rattle.hall_sql.specs.Values.{ruling_in}
 use Rattle.hall_sql.specs.Columns.{protest_params, ruling_params, ruling_code, is_protest_under, IsAlone}
-use Rattle.hall_sql.specs.Rows.{kept, person_of, puzzle_row_of, round_of, place_of, answer_of, protest_of, tester_of, world_of}
+use Rattle.hall_sql.specs.Rows.{kept, person_of_row, puzzle_of_row, round_of_row, place_of_row, answer_of_row}
+use Rattle.hall_sql.specs.Rows.{protest_of_row, tester_of_row, world_of}
 use Rattle.hall_sql.specs.Spared.{may_write}
 use Rattle.hall_sql.specs.Standing.{HasAdded, IsHall, HasMade}
 use Rattle.hall_sql.specs.Fill.{AddsProtest, WithProtest}
@@ -68,7 +70,7 @@ ruling_reads (Some (Upheld (negsuc n))) is = let most : nat_le n 999 ≡ true = 
 ruling_reads (Some Rejected) is = refl
 
 -- they are read as the protest, whatever its rowid is
-protest_reads : (row : ProtestRow) → IsProtestRow row → (id : Value) → protest_of (id ∷ protest_params row) ≡ Some row
+protest_reads : (row : ProtestRow) → IsProtestRow row → (id : Value) → protest_of_row (id ∷ protest_params row) ≡ Some row
 protest_reads row is id = rw (
   kind_holds 1 24 is_word_byte row.key.entrant is.key.entrant,
   kind_holds 1 24 is_word_byte row.key.round is.key.round,
@@ -88,17 +90,17 @@ quiet u new = adds_quiet (hall_in u) 12 (new ∷ [])
 -- where the table of protests alone was written, the protests alone are changed
 protests_alone : (old new : Trees) (protests : FinMap protest_cmp ProtestRow)
     → AllByRecursion (λ (t : Table). t.tree ≢ 12 → new t.tree ≡ old t.tree) hall_schema.tables
-    → kept protest_cmp (λ (row : ProtestRow). row.key) protest_of (new 12) ≡ protests
+    → kept protest_cmp (λ (row : ProtestRow). row.key) protest_of_row (new 12) ≡ protests
     → world_of new ≡ record (world_of old) { protests = protests }
 protests_alone old new protests others is =
     same_worlds (world_of new) (record (world_of old) { protests = protests })
-    (ap (kept text_cmp (λ person. person.name) person_of) (others.0 (λ same. absurd (omega (arith, same)))))
-    (ap (kept puzzle_cmp (λ row. row.key) puzzle_row_of) (others.1.0 (λ same. absurd (omega (arith, same)))))
-    (ap (kept text_cmp (λ round. round.id) round_of) (others.1.1.0 (λ same. absurd (omega (arith, same)))))
-    (ap (λ rows. from_entries (flat_map (λ row. option_to_list (place_of row)) rows)) (others.1.1.1.0 (λ same. absurd (omega (arith, same)))))
-    (ap (kept answer_cmp (λ row. row.key) answer_of) (others.1.1.1.1.0 (λ same. absurd (omega (arith, same)))))
+    (ap (kept text_cmp (λ person. person.name) person_of_row) (others.0 (λ same. absurd (omega (arith, same)))))
+    (ap (kept puzzle_cmp (λ row. row.key) puzzle_of_row) (others.1.0 (λ same. absurd (omega (arith, same)))))
+    (ap (kept text_cmp (λ round. round.id) round_of_row) (others.1.1.0 (λ same. absurd (omega (arith, same)))))
+    (ap (λ rows. from_entries (flat_map (λ row. option_to_list (place_of_row row)) rows)) (others.1.1.1.0 (λ same. absurd (omega (arith, same)))))
+    (ap (kept answer_cmp (λ row. row.key) answer_of_row) (others.1.1.1.1.0 (λ same. absurd (omega (arith, same)))))
     is
-    (ap (λ rows. from_entries (flat_map (λ row. option_to_list (tester_of row)) rows)) (others.1.1.1.1.1.1.0 (λ same. absurd (omega (arith, same)))))
+    (ap (λ rows. from_entries (flat_map (λ row. option_to_list (tester_of_row row)) rows)) (others.1.1.1.1.1.1.0 (λ same. absurd (omega (arith, same)))))
 
 -- what the INSERT of a protest adds
 module _ (row : ProtestRow) (is : IsProtestRow row) (old new : State) (count : ℕ) (u : Wording) (has : old.now.schema ≡ hall_in u)
@@ -116,7 +118,7 @@ module _ (row : ProtestRow) (is : IsProtestRow row) (old new : State) (count : �
   with_protest fresh =
       let id = Int (next_rowid (old.now.trees 12)) in
       protests_alone old.now.trees new.now.trees (insert (world_of old.now.trees).protests row.key row) adds.others
-      (put_new protest_total same_protest_keys (λ (x : ProtestRow). x.key) protest_of row (id ∷ protest_params row) (old.now.trees 12) (new.now.trees 12) adds.put (protest_reads row is id) adds.free fresh)
+      (put_new protest_total same_protest_keys (λ (x : ProtestRow). x.key) protest_of_row row (id ∷ protest_params row) (old.now.trees 12) (new.now.trees 12) adds.put (protest_reads row is id) adds.free fresh)
 
 -- the INSERT of a protest inside a transaction
 pub protest_put : (row : ProtestRow) → IsProtestRow row → (old new : State) (count : ℕ) → Executes ADD_PROTEST.now (protest_params row) old new (Ok count)
@@ -153,7 +155,7 @@ protest_added row is old new count hall clean fresh ran =
       world = put.1.world (fresh was);
       others = alone_spared (may_write (AddProtest row)) 12 old.now.trees new.now.trees
           (added_spared (may_write (AddProtest row) 12) (old.now.trees 12) (new.now.trees 12) (id ∷ params)
-          (taken_record protest_total (λ (x : ProtestRow). x.key) row.key (protest_of (id ∷ params)) row (protest_reads row is id) refl) it.free it.put) it.others;
+          (taken_record protest_total (λ (x : ProtestRow). x.key) row.key (protest_of_row (id ∷ params)) row (protest_reads row is id) refl) it.free it.put) it.others;
     }
 
 -- ---- the ruling of the protest that stands alone under a key
@@ -178,7 +180,7 @@ module _ (key : ProtestKey) (row : ProtestRow) (ruling : Ruling) (in_row : IsPro
       (tt, ((λ a. refl, tt), (tt, ((λ a. refl, (λ a. refl, tt)), ((λ a. refl, (λ a. refl, tt)), ((λ a. refl, (λ a. refl, tt)), ((λ a. refl, (λ a. refl, tt)), tt)))))))
 
   -- the row that is made is read as the protest with its ruling
-  ruled_reads : (r : Row) → protest_of r ≡ Some row → protest_of (made r) ≡ Some ruled
+  ruled_reads : (r : Row) → protest_of_row r ≡ Some row → protest_of_row (made r) ≡ Some ruled
   ruled_reads r reads =
       let columns = has_columns r row reads in
       rw (
@@ -202,7 +204,7 @@ module _ (key : ProtestKey) (row : ProtestRow) (ruling : Ruling) (in_row : IsPro
     -- the protest under the key
     ruled_there : IsAlone key old row → get (world_of old.now.trees).protests key ≡ Some row
     ruled_there alone =
-        sym (one_found protest_total same_protest_keys (λ (x : ProtestRow). x.key) protest_of key (is_protest_under key) (agrees key) (old.now.trees 12) (alone.one ∷ []) (row ∷ [])
+        sym (one_found protest_total same_protest_keys (λ (x : ProtestRow). x.key) protest_of_row key (is_protest_under key) (agrees key) (old.now.trees 12) (alone.one ∷ []) (row ∷ [])
         (subst (λ l. IsPermutation l (alone.one ∷ [])) (sym alone.found) (IsPermutation-refl _)) (ap (λ o. o ∷ []) alone.reads) (omega arith))
 
     pub protest_ruled : IsAlone key old row → Executes RULE_PROTEST.now params old new (Ok count) → HasMade (RuleProtest key ruling) old new
@@ -215,21 +217,21 @@ module _ (key : ProtestKey) (row : ProtestRow) (ruling : Ruling) (in_row : IsPro
         let w = runs_as RULE_PROTEST.now params old new (hall_in u) words (Update 5 (update (hall_in u) (table_in u Protests) key_terms ruled_terms apart)) (rule_protest_is u).0 (rule_protest_is u).1 count ran in
         let it = updates (hall_in u) (table_in u Protests) key_terms ruled_terms apart 5 refl params (ruled_quiet u) old new _ count words keyed.1.1.1.1.1.0 w (ap length alone.found) in
         let there = ruled_there alone in
-        let own : row.key ≡ key = kept_keyed protest_total same_protest_keys (λ (x : ProtestRow). x.key) protest_of (old.now.trees 12) key row there in
+        let own : row.key ≡ key = kept_keyed protest_total same_protest_keys (λ (x : ProtestRow). x.key) protest_of_row (old.now.trees 12) key row there in
         let one : alone.one ≡ it.rows.one = head_is (sym alone.found ∙ it.rows.found) in
-        let reads : protest_of it.rows.one ≡ Some row = subst (λ r. protest_of r ≡ Some row) one alone.reads in
+        let reads : protest_of_row it.rows.one ≡ Some row = subst (λ r. protest_of_row r ≡ Some row) one alone.reads in
         record {
           hall = writes_hall old new _ _ _ count mode w (subst IsHallSchema (sym it.same) has) (keyed_after 12 old.now.trees new.now.trees hall_schema.tables it.keyed it.others keyed);
           was_open = was;
           serves = w.shown.is_open;
           world = protests_alone old.now.trees new.now.trees (insert (world_of old.now.trees).protests key ruled) it.others
-              (replaced_one protest_total same_protest_keys (λ (x : ProtestRow). x.key) protest_of key has_key (agrees key) made (old.now.trees 12) (new.now.trees 12) ruled keyed.1.1.1.1.1.0 it.rows own
+              (replaced_one protest_total same_protest_keys (λ (x : ProtestRow). x.key) protest_of_row key has_key (agrees key) made (old.now.trees 12) (new.now.trees 12) ruled keyed.1.1.1.1.1.0 it.rows own
               (ruled_reads it.rows.one reads))
               ∙ ap (with_ruling (world_of old.now.trees) key ruling) (sym there);
           others = alone_spared (may_write (RuleProtest key ruling)) 12 old.now.trees new.now.trees
               (replaced_spared (may_write (RuleProtest key ruling) 12) has_key made (old.now.trees 12) (new.now.trees 12) keyed.1.1.1.1.1.0 it.rows
-              (taken_record protest_total (λ (x : ProtestRow). x.key) key (protest_of it.rows.one) row reads own)
-              (taken_record protest_total (λ (x : ProtestRow). x.key) key (protest_of (made it.rows.one)) ruled (ruled_reads it.rows.one reads) own)) it.others;
+              (taken_record protest_total (λ (x : ProtestRow). x.key) key (protest_of_row it.rows.one) row reads own)
+              (taken_record protest_total (λ (x : ProtestRow). x.key) key (protest_of_row (made it.rows.one)) ruled (ruled_reads it.rows.one reads) own)) it.others;
         }
       where
         head_is : {x y : Row} → ◌≡◌ {A = List Row} (x ∷ []) (y ∷ []) → x ≡ y

@@ -17,13 +17,13 @@ use Rattle.hall_sql.specs.Tables.{IsHallSchema}
 use Rattle.hall_sql.proofs.Wordings.{worded}
 use Rattle.hall_sql.specs.declared.puzzles.TheConstants.{PUZZLE}
 use Rattle.hall_sql.specs.Values.{name_in, puzzle_in, state_in}
-use Rattle.hall_sql.specs.Rows.{puzzle_row_in, puzzle_row_of, world_of}
+use Rattle.hall_sql.specs.Rows.{puzzle_row_in, puzzle_of_row, world_of}
 use Rattle.hall_sql.proofs.PuzzleTexts.{key_terms, puzzle_columns, puzzle_is}
 use Rattle.hall_sql.proofs.ColumnLemmas.{kind_column, column_equals, last_equal, more_equal}
 use Rattle.hall_sql.proofs.FoundLemmas.{asked_found}
 use Rattle.hall_sql.proofs.RecordParts.{puzzle_parts_of}
 
-pub key_columns : (r : Row) (row : PuzzleRow) → puzzle_row_of r ≡ Some row
+pub key_columns : (r : Row) (row : PuzzleRow) → puzzle_of_row r ≡ Some row
     → (column r 1 ≡ Text row.key.author) × (column r 2 ≡ Text row.key.label)
 key_columns r row is =
     let parts = puzzle_parts_of (name_in (column r 1)) (name_in (column r 2)) (puzzle_in (column r 3)) (state_in (column r 4) (column r 5)) row is in
@@ -33,7 +33,7 @@ abbrev pub key_params : PuzzleKey → Row
 key_params key = Text key.author ∷ Text key.label ∷ []
 
 -- WHERE author = ?1 AND label = ?2 asks for the key
-agrees : (key : PuzzleKey) (r : Row) (row : PuzzleRow) → puzzle_row_of r ≡ Some row
+agrees : (key : PuzzleKey) (r : Row) (row : PuzzleRow) → puzzle_of_row r ≡ Some row
     → list_all (holds (key_params key ∷ r ∷ [])) key_terms ≡ eq_by_cmp puzzle_cmp row.key key
 agrees key r row is =
     let columns = key_columns r row is in

@@ -25,7 +25,7 @@ use Rattle.hall_store.specs.Store.{puzzles_of}
 use Rattle.std.proofs.lemmas.List.Sums.{length-filter}
 use Rattle.hall_sql.specs.Tables.{IsHallSchema}
 use Rattle.hall_sql.proofs.Wordings.{Wording, hall_in, worded}
-use Rattle.hall_sql.specs.Rows.{puzzle_row_in, puzzle_row_of, world_of}
+use Rattle.hall_sql.specs.Rows.{puzzle_row_in, puzzle_of_row, world_of}
 use Rattle.hall_sql.specs.Standing.{AreKeyed, AreKeyedIn}
 use Rattle.hall_sql.specs.declared.puzzles.TheConstants.{ALL_PUZZLES, PUZZLES_OF}
 use Rattle.hall_sql.proofs.ColumnLemmas.{and_true, column_same}
@@ -40,7 +40,7 @@ use Rattle.hall_sql.specs.declared.tables.HallTable.TheVariants.{Puzzles}
 use Rattle.hall_sql.proofs.Versions.{all_listed, keyed_in, unique_in}
 
 -- two rows of one key agree on the columns of the primary key
-agreeing : (r y : Row) (x z : PuzzleRow) → puzzle_row_of r ≡ Some x → puzzle_row_of y ≡ Some z → x.key ≡ z.key
+agreeing : (r y : Row) (x z : PuzzleRow) → puzzle_of_row r ≡ Some x → puzzle_of_row y ≡ Some z → x.key ≡ z.key
     → agree plain (1 ∷ 2 ∷ []) y (1 ∷ 2 ∷ []) r ≡ true
 unfolding first_key
 agreeing r y x z p q e =
@@ -57,15 +57,15 @@ agreeing r y x z p q e =
 
 -- the table's records are the world's puzzles, each once
 puzzles_listed : {schema : Schema} → IsVersion schema → (db : Trees) → AreKeyed (db 3) → IsDatabase (record { schema = schema; trees = db })
-    → IsPermutation (flat_map (λ r. option_to_list (puzzle_row_of r)) (db 3)) (values (world_of db).puzzles)
+    → IsPermutation (flat_map (λ r. option_to_list (puzzle_of_row r)) (db 3)) (values (world_of db).puzzles)
 puzzles_listed {schema} version db keyed sound =
     let rule = unique_in schema Puzzles db version sound in
-    records_listed puzzle_total same_puzzle_keys (λ (row : PuzzleRow). row.key) puzzle_row_of (1 ∷ 2 ∷ []) (db 3) keyed agreeing
+    records_listed puzzle_total same_puzzle_keys (λ (row : PuzzleRow). row.key) puzzle_of_row (1 ∷ 2 ∷ []) (db 3) keyed agreeing
     (λ r h. all_has _ (db 3) r rule h)
 
 -- ORDER BY author, label is the order of keys
-same_order : (params : Row) (terms : List Term) (a b : Row) (x y : PuzzleRow) → puzzle_row_of a ≡ Some x
-    → puzzle_row_of b ≡ Some y
+same_order : (params : Row) (terms : List Term) (a b : Row) (x y : PuzzleRow) → puzzle_of_row a ≡ Some x
+    → puzzle_of_row b ≡ Some y
     → by_order 3 terms puzzle_columns key_order params a b ≡ puzzle_cmp x.key y.key
 same_order params terms a b x y p q =
     let one = key_columns a x p in
@@ -100,13 +100,13 @@ module _ (old new : State) (has : IsHallSchema old.now.schema) (keyed : AreKeyed
   said : (u : Wording) × (old.now.schema ≡ hall_in u)
   said = worded old.now.schema has
 
-  whole : IsPermutation (flat_map (λ r. option_to_list (puzzle_row_of r)) (old.now.trees 3))
+  whole : IsPermutation (flat_map (λ r. option_to_list (puzzle_of_row r)) (old.now.trees 3))
       (values (world_of old.now.trees).puzzles)
   whole =
       let db = old.now.trees in
       puzzles_listed {schema = old.now.schema} (inr has) db keyed sound
 
-  by_author : (author : List ℕ) (r : Row) (x : PuzzleRow) → puzzle_row_of r ≡ Some x
+  by_author : (author : List ℕ) (r : Row) (x : PuzzleRow) → puzzle_of_row r ≡ Some x
       → list_all (holds ((Text author ∷ []) ∷ r ∷ [])) (equals 1 0 ∷ []) ≡ same_text x.key.author author
   by_author author r x h = and_true _ ∙ column_same (column r 1) x.key.author author (key_columns r x h).0
 

@@ -31,7 +31,8 @@ use Rattle.sqlite.specs.State.{State, HasCleanDisk, Executes, Shown, Writes}
 use Rattle.sqlite.specs.Listing.{understood}
 use Rattle.sqlite.proofs.Callers.{runs_as, statement_of}
 use Rattle.hall_grid.specs.Text.{SpellsText}
-use Rattle.hall_policy.specs.Text.{text_cmp, is_word_byte, is_printable}
+use Rattle.hall_grid.specs.Printable.{is_printable}
+use Rattle.hall_policy.specs.Text.{text_cmp, is_word_byte}
 use Rattle.hall_policy.specs.World.{puzzle_cmp, answer_cmp, protest_cmp}
 use Rattle.hall_policy.specs.Ranges.{IsPuzzleKey, IsState}
 use Rattle.hall_policy.specs.declared.record.PuzzleKey.{PuzzleKey}
@@ -49,7 +50,8 @@ use Rattle.hall_sql.proofs.Wordings.{Wording, added_in, adds_quiet, hall_in, kee
 use Rattle.hall_sql.specs.declared.puzzles.TheConstants.{LOOK_PUZZLE, ADD_PUZZLE, REPLACE_PUZZLE}
 use Rattle.hall_sql.specs.Values.{state_in}
 use Rattle.hall_sql.specs.Columns.{puzzle_params, HasSoMany, state_code, solution_of}
-use Rattle.hall_sql.specs.Rows.{kept, person_of, puzzle_row_of, round_of, place_of, answer_of, protest_of, tester_of, world_of}
+use Rattle.hall_sql.specs.Rows.{kept, person_of_row, puzzle_of_row, round_of_row, place_of_row, answer_of_row}
+use Rattle.hall_sql.specs.Rows.{protest_of_row, tester_of_row, world_of}
 use Rattle.hall_sql.specs.Spared.{may_write}
 use Rattle.hall_sql.specs.Standing.{HasAdded, IsHall, HasMade}
 use Rattle.hall_sql.specs.Fill.{AddsRow, WithPuzzle}
@@ -93,17 +95,17 @@ text_is (Blob b) t h = absurd cc
 -- where the table of puzzles alone was written, the puzzles alone are changed
 puzzles_alone : (old new : Trees) (puzzles : FinMap puzzle_cmp PuzzleRow)
     → AllByRecursion (λ (t : Table). t.tree ≢ 3 → new t.tree ≡ old t.tree) hall_schema.tables
-    → kept puzzle_cmp (λ (row : PuzzleRow). row.key) puzzle_row_of (new 3) ≡ puzzles
+    → kept puzzle_cmp (λ (row : PuzzleRow). row.key) puzzle_of_row (new 3) ≡ puzzles
     → world_of new ≡ record (world_of old) { puzzles = puzzles }
 puzzles_alone old new puzzles others is =
     same_worlds (world_of new) (record (world_of old) { puzzles = puzzles })
-    (ap (kept text_cmp (λ person. person.name) person_of) (others.0 (λ same. absurd (omega (arith, same)))))
+    (ap (kept text_cmp (λ person. person.name) person_of_row) (others.0 (λ same. absurd (omega (arith, same)))))
     is
-    (ap (kept text_cmp (λ round. round.id) round_of) (others.1.1.0 (λ same. absurd (omega (arith, same)))))
-    (ap (λ rows. from_entries (flat_map (λ row. option_to_list (place_of row)) rows)) (others.1.1.1.0 (λ same. absurd (omega (arith, same)))))
-    (ap (kept answer_cmp (λ row. row.key) answer_of) (others.1.1.1.1.0 (λ same. absurd (omega (arith, same)))))
-    (ap (kept protest_cmp (λ row. row.key) protest_of) (others.1.1.1.1.1.0 (λ same. absurd (omega (arith, same)))))
-    (ap (λ rows. from_entries (flat_map (λ row. option_to_list (tester_of row)) rows)) (others.1.1.1.1.1.1.0 (λ same. absurd (omega (arith, same)))))
+    (ap (kept text_cmp (λ round. round.id) round_of_row) (others.1.1.0 (λ same. absurd (omega (arith, same)))))
+    (ap (λ rows. from_entries (flat_map (λ row. option_to_list (place_of_row row)) rows)) (others.1.1.1.0 (λ same. absurd (omega (arith, same)))))
+    (ap (kept answer_cmp (λ row. row.key) answer_of_row) (others.1.1.1.1.0 (λ same. absurd (omega (arith, same)))))
+    (ap (kept protest_cmp (λ row. row.key) protest_of_row) (others.1.1.1.1.1.0 (λ same. absurd (omega (arith, same)))))
+    (ap (λ rows. from_entries (flat_map (λ row. option_to_list (tester_of_row row)) rows)) (others.1.1.1.1.1.1.0 (λ same. absurd (omega (arith, same)))))
 
 pub no_rows : {A : Type 0} (xs : List A) → length xs ≡ 0 → xs ≡ []
 no_rows [] e = refl
@@ -123,7 +125,7 @@ module _ (text : List ℕ) (row : PuzzleRow) (spells : SpellsText text row.puzzl
   params = puzzle_params text row
 
   -- the columns are read as the puzzle, whatever its rowid is
-  puzzle_reads : (id : Value) → puzzle_row_of (id ∷ params) ≡ Some row
+  puzzle_reads : (id : Value) → puzzle_of_row (id ∷ params) ≡ Some row
   puzzle_reads id = rw (
     kind_holds 1 24 is_word_byte row.key.author in_key.author,
     kind_holds 1 24 is_word_byte row.key.label in_key.label,
@@ -141,14 +143,14 @@ module _ (text : List ℕ) (row : PuzzleRow) (spells : SpellsText text row.puzzl
   made = made_with hall_schema puzzles_there key_terms replaced_terms apart params
 
   -- WHERE author = ?1 AND label = ?2 asks for the key
-  agrees : (r : Row) (x : PuzzleRow) → puzzle_row_of r ≡ Some x → has_key r ≡ eq_by_cmp puzzle_cmp x.key row.key
+  agrees : (r : Row) (x : PuzzleRow) → puzzle_of_row r ≡ Some x → has_key r ≡ eq_by_cmp puzzle_cmp x.key row.key
   agrees r x is =
       let columns = key_columns r x is in
       more_equal _ _ _ _ (column_equals (column r 1) x.key.author row.key.author columns.0)
       (last_equal _ _ (column_equals (column r 2) x.key.label row.key.label columns.1))
 
   -- the row that is the puzzle stands under its key
-  own_row : (r : Row) → puzzle_row_of r ≡ Some row → has_key r ≡ true
+  own_row : (r : Row) → puzzle_of_row r ≡ Some row → has_key r ≡ true
   own_row r is = agrees r row is ∙ own_key puzzle_total row.key
 
   quiet : (u : Wording) (new : Row) → works (hall_in u) Enforced 0 3 [] (new ∷ []) ≡ []
@@ -161,7 +163,7 @@ module _ (text : List ℕ) (row : PuzzleRow) (spells : SpellsText text row.puzzl
     label_is : column r 2 ≡ Text row.key.label
     label_is = text_is (column r 2) row.key.label (and_parts _ _ (and_parts _ _ taken).1).0
 
-    made_reads : puzzle_row_of (made r) ≡ Some row
+    made_reads : puzzle_of_row (made r) ≡ Some row
     made_reads = rw (
       author_is,
       label_is,
@@ -197,7 +199,7 @@ module _ (text : List ℕ) (row : PuzzleRow) (spells : SpellsText text row.puzzl
     with_puzzle fresh =
         let id = Int (next_rowid (old.now.trees 3)) in
         puzzles_alone old.now.trees new.now.trees (insert (world_of old.now.trees).puzzles row.key row) adds.others
-        (put_new puzzle_total same_puzzle_keys (λ (x : PuzzleRow). x.key) puzzle_row_of row (id ∷ params) (old.now.trees 3) (new.now.trees 3) adds.put (puzzle_reads id) adds.free fresh)
+        (put_new puzzle_total same_puzzle_keys (λ (x : PuzzleRow). x.key) puzzle_of_row row (id ∷ params) (old.now.trees 3) (new.now.trees 3) adds.put (puzzle_reads id) adds.free fresh)
 
   -- the INSERT of a puzzle inside a transaction
   pub puzzle_put : (old new : State) (count : ℕ) → Executes ADD_PUZZLE.now params old new (Ok count)
@@ -230,7 +232,7 @@ module _ (text : List ℕ) (row : PuzzleRow) (spells : SpellsText text row.puzzl
           was_open = was;
           serves = w.shown.is_open;
           world = puzzles_alone old.now.trees new.now.trees (insert (world_of old.now.trees).puzzles row.key row) it.others
-              (added_one puzzle_total same_puzzle_keys (λ (x : PuzzleRow). x.key) puzzle_row_of row.key has_key agrees (old.now.trees 3) (new.now.trees 3) (Int id ∷ params) row (no_rows _ (nobody was)) it.free it.put refl (puzzle_reads (Int id)));
+              (added_one puzzle_total same_puzzle_keys (λ (x : PuzzleRow). x.key) puzzle_of_row row.key has_key agrees (old.now.trees 3) (new.now.trees 3) (Int id ∷ params) row (no_rows _ (nobody was)) it.free it.put refl (puzzle_reads (Int id)));
           others = alone_spared (may_write (PutPuzzle row)) 3 old.now.trees new.now.trees
               (added_spared (may_write (PutPuzzle row) 3) (old.now.trees 3) (new.now.trees 3) (Int id ∷ params) (own_row (Int id ∷ params) (puzzle_reads (Int id))) it.free it.put) it.others;
         }
@@ -252,7 +254,7 @@ module _ (text : List ℕ) (row : PuzzleRow) (spells : SpellsText text row.puzzl
           was_open = was;
           serves = w.shown.is_open;
           world = puzzles_alone old.now.trees new.now.trees (insert (world_of old.now.trees).puzzles row.key row) it.others
-              (replaced_one puzzle_total same_puzzle_keys (λ (x : PuzzleRow). x.key) puzzle_row_of row.key has_key agrees made (old.now.trees 3) (new.now.trees 3) row keyed.1.0 it.rows refl (made_reads one there.1));
+              (replaced_one puzzle_total same_puzzle_keys (λ (x : PuzzleRow). x.key) puzzle_of_row row.key has_key agrees made (old.now.trees 3) (new.now.trees 3) row keyed.1.0 it.rows refl (made_reads one there.1));
           others = alone_spared (may_write (PutPuzzle row)) 3 old.now.trees new.now.trees
               (replaced_spared (may_write (PutPuzzle row) 3) has_key made (old.now.trees 3) (new.now.trees 3) keyed.1.0 it.rows there.1 (own_row (made one) (made_reads one there.1))) it.others;
         }
@@ -295,7 +297,7 @@ pub put_sets : (key : PuzzleKey) (state : PuzzleState) (trees : Trees) (row : Pu
     → (changed (PutPuzzle (record row { state = state })) (world_of trees) ≡ changed (SetState key state) (world_of trees))
     × (may_write (PutPuzzle (record row { state = state })) ≡ may_write (SetState key state))
 put_sets key state trees row found =
-    let own : row.key ≡ key = kept_keyed puzzle_total same_puzzle_keys (λ (x : PuzzleRow). x.key) puzzle_row_of (trees 3) key row (sym found) in (
+    let own : row.key ≡ key = kept_keyed puzzle_total same_puzzle_keys (λ (x : PuzzleRow). x.key) puzzle_of_row (trees 3) key row (sym found) in (
       subst (λ k. record (world_of trees) { puzzles = insert (world_of trees).puzzles k (record row { state = state }) } ≡ changed (SetState key state) (world_of trees)) (sym own)
           (subst (λ o. with_state (world_of trees) key state (Some row) ≡ with_state (world_of trees) key state o) found refl),
       ap (λ k. may_write (SetState k state)) own,

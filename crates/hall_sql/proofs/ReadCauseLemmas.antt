@@ -11,7 +11,7 @@ use Rattle.hall_policy.specs.Sink.{HasTaken}
 use Rattle.hall_sql.specs.Asked.{IsAsked}
 use Rattle.hall_sql.specs.Cause.{FeedFails, ReadFails}
 use Rattle.hall_sql.specs.Feed.{HasRead, StepFails}
-use Rattle.hall_sql.specs.Standing.{IsHall, Lasts}
+use Rattle.hall_sql.specs.Standing.{IsHall, LeadsConnection}
 use Rattle.hall_sql.specs.Tables.{IsHallSchema}
 use Rattle.hall_sql.proofs.AskedLemmas.{open_cause}
 use Rattle.hall_sql.proofs.CallLemmas.{shown_unchanged}
@@ -47,8 +47,8 @@ begins_at sql params a b rows same h = (
 
 -- a row that is not given, after those that the sink has taken
 pub feed_cause : {S K X : Type 0} (g : Ghosts S) (read : Row → Option X) (Takes : K → X → K → Type 0) (Refuses : K → X → Type 0) (sql : List ℕ)
-    (params : Row) → IsAsked sql params → (old : State) → IsHall old → (h next : Held S) (before sink : K) → Lasts old (state g h)
-    → HasCleanDisk (state g h) → Lasts (state g h) (state g next) → (taken : List X) → HasTaken Takes before taken sink
+    (params : Row) → IsAsked sql params → (old : State) → IsHall old → (h next : Held S) (before sink : K) → LeadsConnection old (state g h)
+    → HasCleanDisk (state g h) → LeadsConnection (state g h) (state g next) → (taken : List X) → HasTaken Takes before taken sink
     → HasRead g read sql params old h taken → StepFails g read Refuses h next sink
     → FeedFails read Takes Refuses sql params old (state g next) before sink
 feed_cause g read Takes Refuses sql params asks old hall h next before sink lasts clean more taken took so (inl it) =

@@ -10,7 +10,7 @@ use Rattle.hall_store.specs.declared.change.Change.TheVariants.{PutRound}
 use Rattle.hall_sql.specs.Inside.{Changes}
 use Rattle.hall_sql.specs.RoundColumns.{is_under}
 use Rattle.hall_sql.specs.RoundPuts.{PutsHead, PutsList, PutsTesterList, PutsRows, with_places, with_tester_rows, without_rows}
-use Rattle.hall_sql.specs.Spared.{is_head_of, is_place_of, is_tester_of, may_write, Spares}
+use Rattle.hall_sql.specs.Spared.{is_head_of, is_place_of, is_tester_of, may_write, KeptOtherRows}
 use Rattle.hall_sql.proofs.SparedLemmas.{then_spared, wider_spared}
 
 either_first : (a b : Bool) → a ≡ true → a || b ≡ true
@@ -33,8 +33,8 @@ module _ (row : RoundRow) (a b c d : Database) (head : PutsHead row.round a b) (
   abbrev id : List ℕ
   id = row.round.id
 
-  wider : (takes : ℕ → Row → Bool) → ((tree : ℕ) (r : Row) → takes tree r ≡ true → may_write (PutRound row) tree r ≡ true) → (old new : Trees) → Spares takes old new
-      → Spares (may_write (PutRound row)) old new
+  wider : (takes : ℕ → Row → Bool) → ((tree : ℕ) (r : Row) → takes tree r ≡ true → may_write (PutRound row) tree r ≡ true) → (old new : Trees) → KeptOtherRows takes old new
+      → KeptOtherRows (may_write (PutRound row)) old new
   wider takes more old new it = wider_spared takes (may_write (PutRound row)) more old new it
 
   pub round_put : Changes (PutRound row) a d

@@ -27,7 +27,8 @@ use Rattle.sqlite.specs.Command.TheVariants.{Insert, Update}
 use Rattle.sqlite.specs.State.{State, HasCleanDisk, Executes, Shown}
 use Rattle.sqlite.specs.Listing.{understood}
 use Rattle.sqlite.proofs.Callers.{IsPlain, runs_as}
-use Rattle.hall_policy.specs.Text.{text_cmp, is_word_byte, is_printable}
+use Rattle.hall_grid.specs.Printable.{is_printable}
+use Rattle.hall_policy.specs.Text.{text_cmp, is_word_byte}
 use Rattle.hall_policy.specs.World.{puzzle_cmp, answer_cmp, protest_cmp}
 use Rattle.hall_policy.specs.Ranges.{IsRound}
 use Rattle.hall_policy.specs.declared.record.Mode as mode
@@ -45,12 +46,13 @@ use Rattle.hall_sql.proofs.Wordings.{Wording, added_in, adds_quiet, by_hall, hal
 use Rattle.hall_sql.specs.declared.rounds.TheConstants.{HEAD}
 use Rattle.hall_sql.specs.declared.round_writes.TheConstants.{LOOK_HEAD, ADD_HEAD, REPLACE_HEAD}
 use Rattle.hall_sql.specs.Values.{mode_in, flag_in}
-use Rattle.hall_sql.specs.Inside.{IsHallData, Did}
+use Rattle.hall_sql.specs.Inside.{IsHallData, MakesInside}
 use Rattle.hall_sql.specs.Fill.{AddsHead}
 use Rattle.hall_sql.specs.RoundPuts.{CountsHeads, PutsHead, PutsHeadOver}
 use Rattle.hall_sql.specs.RoundColumns.{mode_code, flag_code, head_params, is_under, HasSoManyHeads, IsHead}
-use Rattle.hall_sql.specs.Rows.{kept, person_of, puzzle_row_of, round_in, round_of, place_of, answer_of, protest_of, tester_of, world_of}
-use Rattle.hall_sql.specs.Spared.{is_head_of, Spares}
+use Rattle.hall_sql.specs.Rows.{kept, person_of_row, puzzle_of_row, round_in, round_of_row, place_of_row, answer_of_row}
+use Rattle.hall_sql.specs.Rows.{protest_of_row, tester_of_row, world_of}
+use Rattle.hall_sql.specs.Spared.{is_head_of, KeptOtherRows}
 use Rattle.hall_sql.specs.Standing.{HasAdded, IsHall, HasMade}
 use Rattle.hall_sql.proofs.AnswerWrites.{is_within}
 use Rattle.hall_sql.proofs.HeadTexts.{id_terms, rounds_there, head_is, look_head_is, added_terms, add_head_is, replaced_terms, apart, replace_head_is}
@@ -75,7 +77,7 @@ use Rattle.hall_sql.proofs.WriteLemmas.{writes_hall, same_worlds, cast_null, cas
 -- ---- the head of an id
 
 -- WHERE id = ?1 asks for the id
-agrees : (id : List ℕ) (r : Row) (round : Round) → round_of r ≡ Some round → is_under id r ≡ eq_by_cmp text_cmp round.id id
+agrees : (id : List ℕ) (r : Row) (round : Round) → round_of_row r ≡ Some round → is_under id r ≡ eq_by_cmp text_cmp round.id id
 agrees id r round is = last_equal _ _ (column_equals (column r 1) round.id id (id_column r round is))
 
 pub head_found : (id : List ℕ) (old new : State) (rows : List Row) (out : List Round) → IsHallSchema old.now.schema
@@ -136,17 +138,17 @@ flag_reads false = refl
 -- where the table of rounds alone was written, the rounds alone are changed
 pub rounds_alone : (old new : Trees) (rounds : FinMap text_cmp Round)
     → AllByRecursion (λ (t : Table). t.tree ≢ 5 → new t.tree ≡ old t.tree) hall_schema.tables
-    → kept text_cmp (λ (round : Round). round.id) round_of (new 5) ≡ rounds
+    → kept text_cmp (λ (round : Round). round.id) round_of_row (new 5) ≡ rounds
     → world_of new ≡ record (world_of old) { rounds = rounds }
 rounds_alone old new rounds others is =
     same_worlds (world_of new) (record (world_of old) { rounds = rounds })
-    (ap (kept text_cmp (λ person. person.name) person_of) (others.0 (λ same. absurd (omega (arith, same)))))
-    (ap (kept puzzle_cmp (λ row. row.key) puzzle_row_of) (others.1.0 (λ same. absurd (omega (arith, same)))))
+    (ap (kept text_cmp (λ person. person.name) person_of_row) (others.0 (λ same. absurd (omega (arith, same)))))
+    (ap (kept puzzle_cmp (λ row. row.key) puzzle_of_row) (others.1.0 (λ same. absurd (omega (arith, same)))))
     is
-    (ap (λ rows. from_entries (flat_map (λ row. option_to_list (place_of row)) rows)) (others.1.1.1.0 (λ same. absurd (omega (arith, same)))))
-    (ap (kept answer_cmp (λ row. row.key) answer_of) (others.1.1.1.1.0 (λ same. absurd (omega (arith, same)))))
-    (ap (kept protest_cmp (λ row. row.key) protest_of) (others.1.1.1.1.1.0 (λ same. absurd (omega (arith, same)))))
-    (ap (λ rows. from_entries (flat_map (λ row. option_to_list (tester_of row)) rows)) (others.1.1.1.1.1.1.0 (λ same. absurd (omega (arith, same)))))
+    (ap (λ rows. from_entries (flat_map (λ row. option_to_list (place_of_row row)) rows)) (others.1.1.1.0 (λ same. absurd (omega (arith, same)))))
+    (ap (kept answer_cmp (λ row. row.key) answer_of_row) (others.1.1.1.1.0 (λ same. absurd (omega (arith, same)))))
+    (ap (kept protest_cmp (λ row. row.key) protest_of_row) (others.1.1.1.1.1.0 (λ same. absurd (omega (arith, same)))))
+    (ap (λ rows. from_entries (flat_map (λ row. option_to_list (tester_of_row row)) rows)) (others.1.1.1.1.1.1.0 (λ same. absurd (omega (arith, same)))))
 
 module _ (round : Round) (is : IsRound round) where
   abbrev params : Row
@@ -156,7 +158,7 @@ module _ (round : Round) (is : IsRound round) where
   made = made_with hall_schema rounds_there id_terms replaced_terms apart params
 
   -- the columns are read as the round, whatever its rowid is
-  head_reads : (id : Value) → round_of (id ∷ params) ≡ Some round
+  head_reads : (id : Value) → round_of_row (id ∷ params) ≡ Some round
   head_reads id = rw (
     kind_holds 1 24 is_word_byte round.id is.id,
     kind_holds 1 60 is_printable round.title is.title,
@@ -184,7 +186,7 @@ module _ (round : Round) (is : IsRound round) where
   )
 
   -- the row that is the round stands under its id
-  own_row : (r : Row) → round_of r ≡ Some round → is_under round.id r ≡ true
+  own_row : (r : Row) → round_of_row r ≡ Some round → is_under round.id r ≡ true
   own_row r is = agrees round.id r round is ∙ own_key text_total round.id
 
   quiet : (u : Wording) (new : Row) → works (hall_in u) Enforced 0 5 [] (new ∷ []) ≡ []
@@ -208,8 +210,8 @@ module _ (round : Round) (is : IsRound round) where
       cast_int (flag_code round.published),
     ) refl
 
-    made_reads : round_of (made r) ≡ Some round
-    made_reads = ap round_of made_is ∙ head_reads (column (made r) 0)
+    made_reads : round_of_row (made r) ≡ Some round
+    made_reads = ap round_of_row made_is ∙ head_reads (column (made r) 0)
 
     -- the id stays, so no foreign key acts
     made_quiet : (u : Wording) → works (hall_in u) Enforced 0 5 (r ∷ []) (made r ∷ []) ≡ []
@@ -232,7 +234,7 @@ module _ (round : Round) (is : IsRound round) where
           record { schema = subst IsHallSchema (sym it.same) held.schema; keyed = keyed_after 5 old.now.trees new.now.trees hall_schema.tables it.keyed it.others keyed },
           record {
             world = rounds_alone old.now.trees new.now.trees (insert (world_of old.now.trees).rounds round.id round) it.others
-                (replaced_one text_total same_texts (λ (x : Round). x.id) round_of round.id (is_under round.id) (agrees round.id) made (old.now.trees 5) (new.now.trees 5) round keyed.1.1.0 it.rows refl (made_reads one there.1));
+                (replaced_one text_total same_texts (λ (x : Round). x.id) round_of_row round.id (is_under round.id) (agrees round.id) made (old.now.trees 5) (new.now.trees 5) round keyed.1.1.0 it.rows refl (made_reads one there.1));
             row = record {
               rowid = column (made one) 0;
               alone = replaced_alone (is_under round.id) made (old.now.trees 5) (new.now.trees 5) keyed.1.1.0 it.rows (own_row (made one) (made_reads one there.1)) ∙ ap (λ r. r ∷ []) (made_is one there.1);
@@ -259,7 +261,7 @@ module _ (round : Round) (is : IsRound round) where
           record {
             row = it;
             world = λ fresh. rounds_alone old.now.trees new.now.trees (insert (world_of old.now.trees).rounds round.id round) it.others
-                (put_new text_total same_texts (λ (x : Round). x.id) round_of round (id ∷ params) (old.now.trees 5) (new.now.trees 5) it.put (head_reads id) it.free fresh);
+                (put_new text_total same_texts (λ (x : Round). x.id) round_of_row round (id ∷ params) (old.now.trees 5) (new.now.trees 5) it.put (head_reads id) it.free fresh);
             read = added_read 5 params old.now new.now it (ap is_some (head_reads id)) (λ all. all.1.1.0);
           },
         )
@@ -272,7 +274,7 @@ module _ (round : Round) (is : IsRound round) where
           data_added 5 params old.now new.now it held held.keyed.1.1.0,
           record {
             world = rounds_alone old.now.trees new.now.trees (insert (world_of old.now.trees).rounds round.id round) it.others
-                (added_one text_total same_texts (λ (x : Round). x.id) round_of round.id (is_under round.id) (agrees round.id) (old.now.trees 5) (new.now.trees 5) (Int id ∷ params) round (no_rows _ nobody) it.free it.put refl (head_reads (Int id)));
+                (added_one text_total same_texts (λ (x : Round). x.id) round_of_row round.id (is_under round.id) (agrees round.id) (old.now.trees 5) (new.now.trees 5) (Int id ∷ params) round (no_rows _ nobody) it.free it.put refl (head_reads (Int id)));
             row = record {
               rowid = Int id;
               alone = put_alone (is_under round.id) (old.now.trees 5) (new.now.trees 5) (Int id ∷ params) (own_row (Int id ∷ params) (head_reads (Int id))) (no_rows _ nobody) it.free it.put;
@@ -290,7 +292,7 @@ flagged_id Published round = refl
 
 -- a head that is found stands under its own id
 pub head_own : (id : List ℕ) (s : State) (round : Round) → IsHead id s round → round.id ≡ id
-head_own id s round it = kept_keyed text_total same_texts (λ (x : Round). x.id) round_of (s.now.trees 5) id round it.kept
+head_own id s round it = kept_keyed text_total same_texts (λ (x : Round). x.id) round_of_row (s.now.trees 5) id round it.kept
 
 pub head_under : (id : List ℕ) (s : State) (round : Round) → IsHead id s round → IsHead round.id s round
 head_under id s round it = subst (λ own. IsHead own s round) (sym (head_own id s round it)) it
@@ -320,14 +322,14 @@ head_flagged flag round is old new count hall clean head ran =
       serves = w.shown.is_open;
       world = it.1.world ∙ ap (λ id. record world { rounds = insert world.rounds id put }) own
           ∙ subst (λ o. record world { rounds = insert world.rounds round.id put } ≡ with_flag world round.id flag o) (sym head.kept) refl;
-      others = subst (λ id. Spares (is_head_of id) old.now.trees new.now.trees) own it.1.others;
+      others = subst (λ id. KeptOtherRows (is_head_of id) old.now.trees new.now.trees) own it.1.others;
     }
 
 -- ---- inside a transaction
 
 -- a look tells how many rows stand under the id
 pub head_counted : (id : List ℕ) (old new : State) (rows : List Row) → IsTrue old.in_transaction → Shown LOOK_HEAD.now (Text id ∷ []) old new rows
-    → Did (CountsHeads id (length rows)) old new
+    → MakesInside (CountsHeads id (length rows)) old new
 head_counted id old new rows inside shown =
     let left = λ (it : IsHallData old.now). shown_unchanged LOOK_HEAD.now (Text id ∷ []) old new rows (by_hall (λ s. IsPlain (understood s LOOK_HEAD.now)) (λ u. (look_head_is u).2) old.now.schema it.schema) shown in
     did (CountsHeads id (length rows)) old new (shown_mode LOOK_HEAD.now (Text id ∷ []) old new rows inside shown) (λ it. subst IsDatabase (sym (left it).0.now_is)) (λ it.
@@ -335,7 +337,7 @@ head_counted id old new rows inside shown =
     (subst IsHallData (sym same) it, record { same = same; many = head_looked id old new rows it.schema shown }))
 
 -- after a look, the head is put
-pub head_put : (count : ℕ) (round : Round) (a b c : State) → Did (CountsHeads round.id count) a b → PutsHeadOver count round b c → Did (PutsHead round) a c
+pub head_put : (count : ℕ) (round : Round) (a b c : State) → MakesInside (CountsHeads round.id count) a b → PutsHeadOver count round b c → MakesInside (PutsHead round) a c
 head_put count round a b c looked put =
     did (PutsHead round) a c put.mode (λ it sound. put.sound (looked.steps.hall it)) (λ it.
     let same = (looked.does it).same in

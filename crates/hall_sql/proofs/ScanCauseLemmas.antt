@@ -34,7 +34,7 @@ use Rattle.sqlite.specs.Values.{IsInt}
 use Rattle.sqlite.proofs.Callers.{EndsIn, begins_shown, command_of, given_begin}
 use Rattle.hall_sql.specs.AdoptCause.{IsUnfit, NextFails, ScanFails}
 use Rattle.hall_sql.specs.Scan.{tree_of, Rises, IsAbove, HasScanned, IsTableKeyed, AreScanned}
-use Rattle.hall_sql.specs.Standing.{Apart, AreKeyed, Lasts}
+use Rattle.hall_sql.specs.Standing.{Apart, AreKeyed, LeadsConnection}
 use Rattle.hall_sql.specs.Statements.{rowids_text}
 use Rattle.hall_sql.specs.declared.tables.HallTable.{HallTable}
 use Rattle.hall_sql.specs.Versions.{HasTable}
@@ -155,7 +155,7 @@ unkeyed g table h next last shown has so same moves unfit keyed =
 -- ---- the causes
 
 -- the query fails after a call that left the connection
-pub asks_cause : (table : HallTable) (old mid new : State) (e : Error) → Lasts old mid → HasCleanDisk mid → Lasts mid new → HasTable mid.now.schema table
+pub asks_cause : (table : HallTable) (old mid new : State) (e : Error) → LeadsConnection old mid → HasCleanDisk mid → LeadsConnection mid new → HasTable mid.now.schema table
     → e ≢ SqliteFailure code.OutOfMemory → FailsToQuery (rowids_text table) [] mid new e → ScanFails (table ∷ []) old new
 asks_cause table old mid new e before clean after has other fails = go old.step_limit refl
   where
@@ -164,8 +164,8 @@ asks_cause table old mid new e before clean after has other fails = go old.step_
     go None is =
         inl (cause_over old mid new before clean after (open_cause (rowids_text table) [] mid new e (asked_all (rowids_are mid.now.schema table has)) (before.limit ∙ is) other refl fails))
 
-pub next_cause : {S : Type 0} (g : Ghosts S) (table : HallTable) (old : State) (h next : Held S) (last : Option ℤ) → Lasts old (state g h)
-    → HasCleanDisk (state g h) → Lasts (state g h) (state g next) → IsUnchanged old (state g h) → HasTable h.schema table
+pub next_cause : {S : Type 0} (g : Ghosts S) (table : HallTable) (old : State) (h next : Held S) (last : Option ℤ) → LeadsConnection old (state g h)
+    → HasCleanDisk (state g h) → LeadsConnection (state g h) (state g next) → IsUnchanged old (state g h) → HasTable h.schema table
     → HasScanned g (rowids_text table) h last → NextFails g h next last → ScanFails (table ∷ []) old (state g next)
 next_cause g table old h next last before clean after same has so (inl it) =
     asks_cause table old (state g h) (state g next) it.0 before clean after has it.1 (it.2 (rowids_text table) [] so.given so.has)
@@ -174,8 +174,8 @@ next_cause g table old h next last before clean after same has so (inr it) =
     (subst (λ (d : Database). AreKeyed (d.trees (tree_of table))) (sym same.0.now_is) all.0)))
 
 -- one table after others
-pub scan_cause : (tables done : List HallTable) (i : ℕ) (none : HallTable) (old mid new : State) → i < length tables → Lasts old mid → HasCleanDisk mid
-    → Lasts mid new → AreScanned done old mid → ScanFails (get_or tables i none ∷ []) mid new → ScanFails tables old new
+pub scan_cause : (tables done : List HallTable) (i : ℕ) (none : HallTable) (old mid new : State) → i < length tables → LeadsConnection old mid → HasCleanDisk mid
+    → LeadsConnection mid new → AreScanned done old mid → ScanFails (get_or tables i none ∷ []) mid new → ScanFails tables old new
 scan_cause tables done i none old mid new low before clean after some (inl cause) = inl (cause_over old mid new before clean after cause)
 scan_cause tables done i none old mid new low before clean after some (inr (inl limit)) = go old.step_limit refl
   where

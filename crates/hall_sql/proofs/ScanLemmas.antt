@@ -36,7 +36,7 @@ use Rattle.hall_sql.proofs.Versions.{AsksAll, by_version}
 use Rattle.hall_sql.proofs.Wordings.{by_hall, like_itself}
 use Rattle.hall_sql.specs.declared.tables.HallTable.{HallTable}
 use Rattle.hall_sql.specs.declared.tables.HallTable.TheVariants.{People, Puzzles, Rounds, Places, Answers, Protests, Testers}
-use Rattle.hall_sql.specs.Standing.{Apart, AreKeyed, Rests}
+use Rattle.hall_sql.specs.Standing.{Apart, AreKeyed, KeptOrRolledBack}
 use Rattle.sqlite.specs.Program.{overlay}
 use Rattle.sqlite.specs.Tree.{Trees}
 use Rattle.sqlite.specs.Effect.{Database}
@@ -204,7 +204,7 @@ unchanged_left a b (shows, counts, marks) = record {
 }
 
 -- what rests after the scan of some tables rests
-pub scanned_rests : (tables : List HallTable) (a b c : State) → AreScanned tables a b → Rests b c → Rests a c
+pub scanned_rests : (tables : List HallTable) (a b c : State) → AreScanned tables a b → KeptOrRolledBack b c → KeptOrRolledBack a c
 scanned_rests tables a b c some (inl same) = inl (left_unchanged a b c some.left same)
 scanned_rests tables a b c some (inr back) = inr (record {
   was_open = λ opens. sym some.left.is_open ∙ back.was_open opens;

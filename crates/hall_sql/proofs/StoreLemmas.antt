@@ -14,7 +14,8 @@ use Rattle.hall_sql.specs.Rows.{world_of}
 use Rattle.hall_sql.specs.Cause.{AreRead}
 use Rattle.hall_sql.specs.Whole.{AreRecords}
 use Rattle.hall_sql.specs.Stands.{HoldsHall, ListsLike, OpensTo, StandsFor}
-use Rattle.hall_sql.specs.Standing.{AreKeyedIn, IsHall, IsOver, IsTabled, Rested, RestedAny, RestedIn, StayedIn, content_of}
+use Rattle.hall_sql.specs.Standing.{AreKeyedIn, IsHall, IsOver, IsTabled, KeptTables, KeptAnyTables, KeptTablesIn}
+use Rattle.hall_sql.specs.Standing.{KeptRowsIn, content_of}
 use Rattle.hall_sql.proofs.LastLemmas.{follows_leads, last_then, quiet_then}
 
 -- the hall's tables are tables of a schema
@@ -22,11 +23,11 @@ pub over_hall : {Fits : Schema → Type 0} {s : State} → IsHall s → ((schema
 over_hall hall fits = record { schema = hall_schema; tabled = hall; fits = fits }
 
 -- and rest where any do
-pub rested_hall : {old new : State} → IsHall old → RestedAny old new → Rested old new
+pub rested_hall : {old new : State} → IsHall old → KeptAnyTables old new → KeptTables old new
 rested_hall hall rested = rested hall_schema hall
 
 -- what a query over tables of a schema tells has its meaning in the world that stays
-pub told_so : {schema : Schema} (old new : State) (Means : World → Type 0) → IsTabled schema old → RestedIn schema old new
+pub told_so : {schema : Schema} (old new : State) (Means : World → Type 0) → IsTabled schema old → KeptTablesIn schema old new
     → (HasCleanDisk new → IsTrue new.is_open)
     → (HasCleanDisk new → IsTrue old.is_open → IsLike schema old.now.schema → AreKeyedIn schema old.now.trees → Means (world_of old.now.trees))
     → HasCleanDisk new → IsTrue new.is_open × Means (world_of new.now.trees)
@@ -37,7 +38,7 @@ told_so old new Means hall rested serves means clean =
     (opens, subst (λ (d : Database). Means (world_of d.trees)) (sym (rested.same clean opens)) (means clean opened (hall.settled was opened).1 (hall.keyed was opened)))
 
 -- and so does what a read hands over, which holds in a store that serves alone
-pub told : {schema : Schema} {R E : Type 0} (old new : State) (result : Result R E) (P : R → Type 0) (Means : World → R → Type 0) → IsTabled schema old → RestedIn schema old new
+pub told : {schema : Schema} {R E : Type 0} (old new : State) (result : Result R E) (P : R → Type 0) (Means : World → R → Type 0) → IsTabled schema old → KeptTablesIn schema old new
     → (HasCleanDisk new → IfOk result P) → ((x : R) → P x → IsTrue new.is_open)
     → ((x : R) → P x → HasCleanDisk new → IsTrue old.is_open → IsLike schema old.now.schema → AreKeyedIn schema old.now.trees → Means (world_of old.now.trees) x)
     → Served (content_of new) result Means
@@ -52,7 +53,7 @@ served_so new (Ok x) Means serves means = λ clean. (serves clean, means clean)
 served_so new (Err e) Means serves means = tt
 
 -- what rests is kept
-pub rested_kept : {schema : Schema} (old new : State) → RestedIn schema old new → Kept (content_of old) (content_of new)
+pub rested_kept : {schema : Schema} (old new : State) → KeptTablesIn schema old new → Kept (content_of old) (content_of new)
 rested_kept old new rested =
     let leads = follows_leads old new rested.follows in
     record {
@@ -66,7 +67,7 @@ rested_kept old new rested =
     }
 
 -- a call that rests after one that did
-pub rests_on : {schema : Schema} (old mid new : State) → RestedIn schema old mid → RestedIn schema mid new → RestedIn schema old new
+pub rests_on : {schema : Schema} (old mid new : State) → KeptTablesIn schema old mid → KeptTablesIn schema mid new → KeptTablesIn schema old new
 rests_on old mid new first second =
     let before = λ (clean : HasCleanDisk new). let was : HasCleanDisk mid = omega (arith, second.follows.lasts.clean, clean) in was in
     record {
@@ -80,11 +81,11 @@ rests_on old mid new first second =
     }
 
 -- where no outcome was added, the tables stayed
-pub rested_stayed : {schema : Schema} {old new : State} → RestedIn schema old new → StayedIn schema old new
+pub rested_stayed : {schema : Schema} {old new : State} → KeptTablesIn schema old new → KeptRowsIn schema old new
 rested_stayed rested = record { tabled = rested.tabled; follows = rested.follows; same = rested.same }
 
 -- and stayed over a call that rests before one after which they stayed
-pub stays_on : {schema : Schema} (old mid new : State) → RestedIn schema old mid → StayedIn schema mid new → StayedIn schema old new
+pub stays_on : {schema : Schema} (old mid new : State) → KeptTablesIn schema old mid → KeptRowsIn schema mid new → KeptRowsIn schema old new
 stays_on old mid new first second =
     let before = λ (clean : HasCleanDisk new). let was : HasCleanDisk mid = omega (arith, second.follows.lasts.clean, clean) in was in
     record {

@@ -32,7 +32,7 @@ use Rattle.hall_store.specs.Store.{AreTestersOf}
 use Rattle.hall_sql.specs.Tables.{IsHallSchema}
 use Rattle.hall_sql.proofs.Wordings.{Wording, hall_in, worded}
 use Rattle.hall_sql.specs.Values.{name_in}
-use Rattle.hall_sql.specs.Rows.{kept, tester_in, tester_of, world_of}
+use Rattle.hall_sql.specs.Rows.{kept, tester_in, tester_of_row, world_of}
 use Rattle.hall_sql.specs.RoundPuts.{tester_key}
 use Rattle.hall_sql.specs.Testers.{tests_round, name_cmp, AreNamed}
 use Rattle.hall_sql.specs.Standing.{AreKeyed}
@@ -61,7 +61,7 @@ pub record HasColumns (r : Row) (tester : Tester) : Type 0 where
   pub round : column r 1 ≡ Text tester.0.round
   pub name : column r 2 ≡ Text tester.0.name
 
-pub has_columns : (r : Row) (tester : Tester) → tester_of r ≡ Some tester → HasColumns r tester
+pub has_columns : (r : Row) (tester : Tester) → tester_of_row r ≡ Some tester → HasColumns r tester
 has_columns r tester is =
     let it = tester_parts_of (name_in (column r 1)) (name_in (column r 2)) tester is in
     record {
@@ -70,7 +70,7 @@ has_columns r tester is =
     }
 
 -- two rows of one tester agree on the columns of the primary key
-agreeing : (r y : Row) (x z : Tester) → tester_of r ≡ Some x → tester_of y ≡ Some z → key_of x ≡ key_of z
+agreeing : (r y : Row) (x z : Tester) → tester_of_row r ≡ Some x → tester_of_row y ≡ Some z → key_of x ≡ key_of z
     → agree plain (1 ∷ 2 ∷ []) y (1 ∷ 2 ∷ []) r ≡ true
 unfolding first_key
 agreeing r y x z p q e =
@@ -87,14 +87,14 @@ agreeing r y x z p q e =
 
 -- the testers of the rows
 abbrev pub tested : List Row → FinMap tester_cmp Tester
-tested rows = kept tester_cmp key_of tester_of rows
+tested rows = kept tester_cmp key_of tester_of_row rows
 
 -- the table's records are these, each once
 pub testers_listed : {schema : Schema} → IsHallSchema schema → (db : Trees) → AreKeyed (db 14) → IsDatabase (record { schema = schema; trees = db })
-    → IsPermutation (flat_map (λ r. option_to_list (tester_of r)) (db 14)) (values (tested (db 14)))
+    → IsPermutation (flat_map (λ r. option_to_list (tester_of_row r)) (db 14)) (values (tested (db 14)))
 testers_listed {schema} has db keyed sound =
     let rule = unique_in schema Testers db has sound in
-    records_listed tester_total same_tester_keys key_of tester_of (1 ∷ 2 ∷ []) (db 14) keyed agreeing
+    records_listed tester_total same_tester_keys key_of tester_of_row (1 ∷ 2 ∷ []) (db 14) keyed agreeing
     (λ r h. all_has _ (db 14) r rule h)
 
 -- ---- the testers of one round, in the order of their names
@@ -110,16 +110,16 @@ module _ (old new : State) (has : IsHallSchema old.now.schema) (keyed : AreKeyed
   said : (u : Wording) × (old.now.schema ≡ hall_in u)
   said = worded old.now.schema has
 
-  whole : IsPermutation (flat_map (λ r. option_to_list (tester_of r)) (old.now.trees 14)) (values (tested (old.now.trees 14)))
+  whole : IsPermutation (flat_map (λ r. option_to_list (tester_of_row r)) (old.now.trees 14)) (values (tested (old.now.trees 14)))
   whole =
       let db = old.now.trees in
       testers_listed {schema = old.now.schema} has db keyed sound
 
-  in_agrees : (r : Row) (x : Tester) → tester_of r ≡ Some x → list_all (holds ((Text id ∷ []) ∷ r ∷ [])) round_terms ≡ tests_round id x
+  in_agrees : (r : Row) (x : Tester) → tester_of_row r ≡ Some x → list_all (holds ((Text id ∷ []) ∷ r ∷ [])) round_terms ≡ tests_round id x
   in_agrees r x h = and_true _ ∙ column_same (column r 1) x.0.round id (has_columns r x h).round
 
   -- ORDER BY name is the order of names
-  same_order : (a b : Row) (x y : Tester) → tester_of a ≡ Some x → tester_of b ≡ Some y
+  same_order : (a b : Row) (x y : Tester) → tester_of_row a ≡ Some x → tester_of_row b ≡ Some y
       → by_order 14 round_terms tester_columns name_order (Text id ∷ []) a b ≡ name_cmp x y
   same_order a b x y p q =
       rw (
@@ -138,15 +138,15 @@ module _ (old new : State) (has : IsHallSchema old.now.schema) (keyed : AreKeyed
       (testers_of_is said.0).1 (testers_of_is said.0).2 (λ db. refl) (λ r. refl) (tests_round id) in_agrees old new rows out said.1 shown
       is name_cmp same_order in
       record {
-        whole = are_entries tester_total same_tester_keys tester_of (old.now.trees 14) (tests_round id) out same;
-        in_order = rise_strictly tester_total same_tester_keys tester_of (old.now.trees 14) (tests_round id) out same name_cmp
+        whole = are_entries tester_total same_tester_keys tester_of_row (old.now.trees 14) (tests_round id) out same;
+        in_order = rise_strictly tester_total same_tester_keys tester_of_row (old.now.trees 14) (tests_round id) out same name_cmp
             (λ a b p q. by_name id a b ((text_decides a.0.round id).0 p) ((text_decides b.0.round id).0 q)) sorted;
       }
 
 -- ---- all testers, in the order of their keys
 
 -- ORDER BY round, name is the order of keys
-by_tester : (a b : Row) (x y : Tester) → tester_of a ≡ Some x → tester_of b ≡ Some y
+by_tester : (a b : Row) (x y : Tester) → tester_of_row a ≡ Some x → tester_of_row b ≡ Some y
     → by_order 14 [] tester_columns tester_order [] a b ≡ tester_cmp x.0 y.0
 by_tester a b x y p q =
     let one = has_columns a x p in
@@ -169,7 +169,7 @@ all_testers_listed old new has keyed sound rows out is shown =
     let whole = testers_listed {schema = old.now.schema} has db keyed sound in
     all_listed (all_testers_are old.now.schema has) tester_total same_tester_keys key_of tester_in 2 (λ db. refl) (λ r. refl) by_tester old new refl whole
     rows out is shown
-    ∙ entries_kept tester_total same_tester_keys tester_of (db 14)
+    ∙ entries_kept tester_total same_tester_keys tester_of_row (db 14)
 
 -- a map is empty where it has no entry
 pub empty_entries : {K X : Type 0} {R : K → K → Ordering} (m : FinMap R X) → entries m ≡ [] → m ≡ empty

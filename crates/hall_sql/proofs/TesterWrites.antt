@@ -29,7 +29,7 @@ use Rattle.hall_policy.proofs.Lists.{any_contained, clash_found}
 use Rattle.hall_policy.proofs.Maps.{get-insert_other}
 use Rattle.hall_policy.proofs.Orders.{tester_total, same_tester_keys}
 use Rattle.hall_policy.proofs.Reading.{kind_holds}
-use Rattle.hall_store.specs.Change.{without_testers, with_testers}
+use Rattle.hall_store.specs.Change.{without_testers_of, with_testers}
 use Rattle.hall_store.proofs.Tests.{contained, later}
 use Rattle.hall_sql.specs.Tables.{IsHallSchema, hall_schema}
 use Rattle.hall_sql.specs.declared.tables.HallTable.TheVariants.{Testers}
@@ -37,10 +37,11 @@ use Rattle.hall_sql.proofs.Wordings.{Wording, added_in, adds_quiet, hall_in, tab
 use Rattle.hall_sql.specs.declared.testers.TheConstants.{DROP_TESTERS, ADD_TESTER}
 use Rattle.hall_sql.specs.Values.{name_in}
 use Rattle.hall_sql.specs.RoundColumns.{tester_params, is_under}
-use Rattle.hall_sql.specs.Rows.{kept, person_of, puzzle_row_of, round_of, place_of, answer_of, protest_of, tester_of, world_of}
+use Rattle.hall_sql.specs.Rows.{kept, person_of_row, puzzle_of_row, round_of_row, place_of_row, answer_of_row}
+use Rattle.hall_sql.specs.Rows.{protest_of_row, tester_of_row, world_of}
 use Rattle.hall_sql.specs.Spared.{is_tester_of}
 use Rattle.hall_sql.specs.Standing.{AreKeyed}
-use Rattle.hall_sql.specs.Inside.{IsHallData, Did}
+use Rattle.hall_sql.specs.Inside.{IsHallData, MakesInside}
 use Rattle.hall_sql.specs.RoundPuts.{DropsTesters, tester_key, with_tester_row, with_tester_rows, PutsTester, HasNoTesters, PutsTesters, PutsTesterList, without_rows}
 use Rattle.hall_sql.proofs.ColumnLemmas.{kind_column, column_same, and_true}
 use Rattle.hall_sql.proofs.DeleteLemmas.{deletes}
@@ -58,7 +59,7 @@ use Rattle.hall_sql.proofs.RecordParts.{tester_parts_of}
 -- ---- what a row of the table says
 
 -- WHERE round = ?1 asks for the round
-agrees : (id : List ℕ) (r : Row) (tester : TesterKey × Unit {0}) → tester_of r ≡ Some tester → is_under id r ≡ same_text tester.0.round id
+agrees : (id : List ℕ) (r : Row) (tester : TesterKey × Unit {0}) → tester_of_row r ≡ Some tester → is_under id r ≡ same_text tester.0.round id
 agrees id r tester is =
     let round = kind_column 1 24 is_word_byte (column r 1) tester.0.round (tester_parts_of (name_in (column r 1)) (name_in (column r 2)) tester is).round in
     and_true _ ∙ column_same (column r 1) tester.0.round id round
@@ -66,16 +67,16 @@ agrees id r tester is =
 -- where the table of testers alone was written, the testers alone are changed
 testers_alone : (old new : Trees) (testers : FinMap tester_cmp (Unit {0}))
     → AllByRecursion (λ (t : Table). t.tree ≢ 14 → new t.tree ≡ old t.tree) hall_schema.tables
-    → from_entries (flat_map (λ row. option_to_list (tester_of row)) (new 14)) ≡ testers
+    → from_entries (flat_map (λ row. option_to_list (tester_of_row row)) (new 14)) ≡ testers
     → world_of new ≡ record (world_of old) { testers = testers }
 testers_alone old new testers others is =
     same_worlds (world_of new) (record (world_of old) { testers = testers })
-    (ap (kept text_cmp (λ person. person.name) person_of) (others.0 (λ same. absurd (omega (arith, same)))))
-    (ap (kept puzzle_cmp (λ row. row.key) puzzle_row_of) (others.1.0 (λ same. absurd (omega (arith, same)))))
-    (ap (kept text_cmp (λ round. round.id) round_of) (others.1.1.0 (λ same. absurd (omega (arith, same)))))
-    (ap (λ rows. from_entries (flat_map (λ row. option_to_list (place_of row)) rows)) (others.1.1.1.0 (λ same. absurd (omega (arith, same)))))
-    (ap (kept answer_cmp (λ row. row.key) answer_of) (others.1.1.1.1.0 (λ same. absurd (omega (arith, same)))))
-    (ap (kept protest_cmp (λ row. row.key) protest_of) (others.1.1.1.1.1.0 (λ same. absurd (omega (arith, same)))))
+    (ap (kept text_cmp (λ person. person.name) person_of_row) (others.0 (λ same. absurd (omega (arith, same)))))
+    (ap (kept puzzle_cmp (λ row. row.key) puzzle_of_row) (others.1.0 (λ same. absurd (omega (arith, same)))))
+    (ap (kept text_cmp (λ round. round.id) round_of_row) (others.1.1.0 (λ same. absurd (omega (arith, same)))))
+    (ap (λ rows. from_entries (flat_map (λ row. option_to_list (place_of_row row)) rows)) (others.1.1.1.0 (λ same. absurd (omega (arith, same)))))
+    (ap (kept answer_cmp (λ row. row.key) answer_of_row) (others.1.1.1.1.0 (λ same. absurd (omega (arith, same)))))
+    (ap (kept protest_cmp (λ row. row.key) protest_of_row) (others.1.1.1.1.1.0 (λ same. absurd (omega (arith, same)))))
     is
 
 quiet : (u : Wording) (new : Row) → works (hall_in u) Enforced 0 14 [] (new ∷ []) ≡ []
@@ -98,9 +99,9 @@ module _ (id : List ℕ) (old new : State) (count : ℕ) (held : IsHallData old.
       let after = subst AreKeyed (sym left) (keyed_filter (λ r. not (is_under id r)) rows keyed) in (
         record { schema = subst IsHallSchema (sym it.0) held.schema; keyed = keyed_after 14 old.now.trees new.now.trees hall_schema.tables after it.2 held.keyed },
         record {
-          world = testers_alone old.now.trees new.now.trees (without_testers (world_of old.now.trees).testers id) it.2
-              (ap (λ l. from_entries (flat_map (λ row. option_to_list (tester_of row)) l)) left
-              ∙ cut_entries tester_total same_tester_keys tester_of (λ k. same_text k.round id) (is_under id) (agrees id) rows);
+          world = testers_alone old.now.trees new.now.trees (without_testers_of (world_of old.now.trees).testers id) it.2
+              (ap (λ l. from_entries (flat_map (λ row. option_to_list (tester_of_row row)) l)) left
+              ∙ cut_entries tester_total same_tester_keys tester_of_row (λ k. same_text k.round id) (is_under id) (agrees id) rows);
           rows = left;
           others = alone_spared (is_tester_of id) 14 old.now.trees new.now.trees (dropped_spared (is_tester_of id 14) rows (new.now.trees 14) left) it.2;
         },
@@ -118,12 +119,12 @@ module _ (id : List ℕ) (old new : State) (count : ℕ) (held : IsHallData old.
       (inserts (hall_in u) 6 (table_in u Testers) refl refl added_terms 3 given (Null ∷ given) given refl refl casts (quiet u) old new _ count words w) in
       let at = next_rowid (old.now.trees 14) in
       let after = added_keyed at given (old.now.trees 14) (new.now.trees 14) it.put it.free held.keyed.1.1.1.1.1.1.0 in
-      let reads : tester_of (Int at ∷ given) ≡ Some (tester_key id name, tt) = rw (kind_holds 1 24 is_word_byte id is_id, kind_holds 1 24 is_word_byte name is_name) in
+      let reads : tester_of_row (Int at ∷ given) ≡ Some (tester_key id name, tt) = rw (kind_holds 1 24 is_word_byte id is_id, kind_holds 1 24 is_word_byte name is_name) in
       let own : is_under id (Int at ∷ given) ≡ true = agrees id (Int at ∷ given) (tester_key id name, tt) reads ∙ same_itself id in (
         record { schema = subst IsHallSchema (sym it.same) held.schema; keyed = keyed_after 14 old.now.trees new.now.trees hall_schema.tables after it.others held.keyed },
         record {
           world = λ none. testers_alone old.now.trees new.now.trees (insert (world_of old.now.trees).testers (tester_key id name) tt) it.others
-              (put_entry tester_total same_tester_keys tester_of (tester_key id name) tt (Int at ∷ given) (old.now.trees 14) (new.now.trees 14) none reads it.free it.put);
+              (put_entry tester_total same_tester_keys tester_of_row (tester_key id name) tt (Int at ∷ given) (old.now.trees 14) (new.now.trees 14) none reads it.free it.put);
           rows = it.put;
           others = alone_spared (is_tester_of id) 14 old.now.trees new.now.trees
               (added_spared (is_tester_of id 14) (old.now.trees 14) (new.now.trees 14) (Int at ∷ given) own it.free it.put) it.others;
@@ -181,7 +182,7 @@ more_testers id names i name a b c differ low is so it =
     before = take i names
 
 -- a round whose testers are taken out has none
-freed : (id : List ℕ) (testers : FinMap tester_cmp (Unit {0})) → HasNoTesters id (without_testers testers id)
+freed : (id : List ℕ) (testers : FinMap tester_cmp (Unit {0})) → HasNoTesters id (without_testers_of testers id)
 freed id testers name =
     get-retain_keys testers (λ k. not (same_text k.round id)) (tester_key id name) (λ x tied. ap (λ (k : TesterKey). not (same_text k.round id)) (sym (same_tester_keys (tester_key id name) x tied)))
     ∙ ap (λ b. cond (not b) (get testers (tester_key id name)) None) (same_itself id)
@@ -198,11 +199,11 @@ tester_list_put id names a b c dropped put =
 
 -- ---- the same inside a transaction
 
-pub no_testers_did : (id : List ℕ) (s : State) → IsTrue s.in_transaction → Did (PutsTesters id []) s s
+pub no_testers_did : (id : List ℕ) (s : State) → IsTrue s.in_transaction → MakesInside (PutsTesters id []) s s
 no_testers_did id s mode = did_none (PutsTesters id []) s mode (record { world = λ free. refl; rows = refl; others = same_spared (is_tester_of id) s.now.trees })
 
 pub more_did : (id : List ℕ) (names : List (List ℕ)) (i : ℕ) (name : List ℕ) (a b c : State) → AllPairs (λ x y. ¬ (x ≡ y)) names → i < length names → name ≡ get_or names i name
-    → Did (PutsTesters id (take i names)) a b → Did (PutsTester id name) b c → Did (PutsTesters id (take (i + 1) names)) a c
+    → MakesInside (PutsTesters id (take i names)) a b → MakesInside (PutsTester id name) b c → MakesInside (PutsTesters id (take (i + 1) names)) a c
 more_did id names i name a b c differ low is so it =
     did_then (PutsTesters id (take i names)) (PutsTester id name) (PutsTesters id (take (i + 1) names)) a b c
     (λ one two. more_testers id names i name a.now b.now c.now differ low is one two) so it

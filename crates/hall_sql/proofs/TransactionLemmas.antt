@@ -12,20 +12,21 @@ use Rattle.hall_store.specs.Store.{Leads}
 use Rattle.hall_store.specs.Change.{changed}
 use Rattle.hall_store.specs.declared.change.Change.{Change}
 use Rattle.hall_sql.specs.Rows.{world_of}
-use Rattle.hall_sql.specs.Spared.{may_write, Spares}
+use Rattle.hall_sql.specs.Spared.{may_write, KeptOtherRows}
 use Rattle.hall_sql.specs.Stands.{HoldsHall, ListsLike}
 use Rattle.hall_sql.specs.Tables.{IsHallSchema, hall_schema}
-use Rattle.hall_sql.specs.Standing.{AddsNoOutcome, AddsOutcomes, Lasts, AreAllKeyed, IsHall, IsTabled, Rested, RestedIn, Stayed, Wrote, content_of, without_limit}
-use Rattle.hall_sql.specs.Inside.{IsHallData, Carries, Did, Changes}
+use Rattle.hall_sql.specs.Standing.{AddsNoOutcome, AddsOutcomes, LeadsConnection, AreAllKeyed, IsHall, IsTabled}
+use Rattle.hall_sql.specs.Standing.{KeptTables, KeptTablesIn, KeptRows, MakesInTables, content_of, without_limit}
+use Rattle.hall_sql.specs.Inside.{IsHallData, LeadsUncommitted, MakesInside, Changes}
 use Rattle.hall_sql.proofs.LastLemmas.{last_none, last_then, last_begun, quiet, quiet_none, quiet_then, survived}
 use Rattle.hall_sql.proofs.WriteLemmas.{StopsAt, made_wrote, rested_wrote, stayed_wrote}
 
 -- what changes nothing rests
-pub rests_itself : {schema : Schema} (s : State) → IsTabled schema s → RestedIn schema s s
+pub rests_itself : {schema : Schema} (s : State) → IsTabled schema s → KeptTablesIn schema s s
 rests_itself s hall = record { tabled = hall; follows = record { lasts = last_none s; opened = λ clean opens. opens }; same = λ clean opens. refl; stops = quiet_none s }
 
 -- and wrote nothing, where it is refused
-pub wrote_nothing : {R E : Type 0} (change : Change) (s : State) (fault : E) → IsHall s → Wrote {R = R} change s s (Err fault)
+pub wrote_nothing : {R E : Type 0} (change : Change) (s : State) (fault : E) → IsHall s → MakesInTables {R = R} change s s (Err fault)
 wrote_nothing change s fault hall = rested_wrote change s s fault (rests_itself s hall)
 
 -- a commit that is refused rolls back
@@ -54,8 +55,8 @@ module _ {S : Type 0} (g : Ghosts S) (held : Held S) (hall : IsHall (state g hel
   base = state g (record held { in_transaction = true })
 
   -- rolled back, the content is as it was
-  pub rolled_stayed : (mid end : State) → Carries base mid → Lasts mid end → end.in_transaction ≡ false
-      → (HasCleanDisk end → IsRolledBack mid end) → Stayed (state g held) end
+  pub rolled_stayed : (mid end : State) → LeadsUncommitted base mid → LeadsConnection mid end → end.in_transaction ≡ false
+      → (HasCleanDisk end → IsRolledBack mid end) → KeptRows (state g held) end
   rolled_stayed mid end carries lasts ended rolled =
       let now : HasCleanDisk end → HasCleanDisk mid = λ (clean : HasCleanDisk end). let was : HasCleanDisk mid = omega (arith, lasts.clean, clean) in was in
       let before : HasCleanDisk end → HasCleanDisk (state g held) = λ (clean : HasCleanDisk end). let was : HasCleanDisk base = omega (arith, carries.lasts.clean, lasts.clean, clean) in was in
@@ -77,25 +78,25 @@ module _ {S : Type 0} (g : Ghosts S) (held : Held S) (hall : IsHall (state g hel
       }
 
   -- rolled back by a call that commits nothing, no outcome is added
-  pub rolled_rested : (mid end : State) → Carries base mid → Lasts mid end → AddsNoOutcome mid end → end.in_transaction ≡ false
-      → (HasCleanDisk end → IsRolledBack mid end) → Rested (state g held) end
+  pub rolled_rested : (mid end : State) → LeadsUncommitted base mid → LeadsConnection mid end → AddsNoOutcome mid end → end.in_transaction ≡ false
+      → (HasCleanDisk end → IsRolledBack mid end) → KeptTables (state g held) end
   rolled_rested mid end carries lasts stops ended rolled =
       let it = rolled_stayed mid end carries lasts ended rolled in
       record { tabled = it.tabled; follows = it.follows; same = it.same; stops = quiet_then (state g held) mid end carries.stops lasts stops }
 
   -- and the world was left
-  pub rolled_wrote : {R E : Type 0} (change : Change) (fault : E) (mid end : State) → Carries base mid → Survives mid end (λ _. ⊥) → end.in_transaction ≡ false
-      → (HasCleanDisk end → IsRolledBack mid end) → Wrote {R = R} change (state g held) end (Err fault)
+  pub rolled_wrote : {R E : Type 0} (change : Change) (fault : E) (mid end : State) → LeadsUncommitted base mid → Survives mid end (λ _. ⊥) → end.in_transaction ≡ false
+      → (HasCleanDisk end → IsRolledBack mid end) → MakesInTables {R = R} change (state g held) end (Err fault)
   rolled_wrote change fault mid end carries survives ended rolled =
       rested_wrote change (state g held) end fault (rolled_rested mid end carries (survived mid end _ survives) (quiet mid end survives) ended rolled)
 
   -- the tables as the calls left them are listed
-  done_lists : (Does : Database → Database → Type 0) (mid : State) → Did Does base mid → IsHallData base.now → IsDatabase base.now → ListsLike hall_schema mid.now.trees
+  done_lists : (Does : Database → Database → Type 0) (mid : State) → MakesInside Does base mid → IsHallData base.now → IsDatabase base.now → ListsLike hall_schema mid.now.trees
   done_lists Does mid done ours sound = (mid.now.schema, (done.steps.hall ours).schema, done.steps.sound ours sound)
 
   -- what a commit of what was done may leave
-  pub commit_outcomes : IsLive (state g held) → (Does : Database → Database → Type 0) (mid end : State) → Carries base mid
-      → (HasCleanDisk mid → IsTrue base.in_transaction → Did Does base mid)
+  pub commit_outcomes : IsLive (state g held) → (Does : Database → Database → Type 0) (mid end : State) → LeadsUncommitted base mid
+      → (HasCleanDisk mid → IsTrue base.in_transaction → MakesInside Does base mid)
       → Survives mid end (λ db. db ≡ mid.now.trees) → IsTrue (state g held).is_open
       → AddsOutcomes (λ db. (d : Database) × Does (state g held).now d × ListsLike hall_schema d.trees × (db ≡ d.trees)) (state g held) end
   commit_outcomes live Does mid end carries did survives opens clean db may =
@@ -110,14 +111,14 @@ module _ {S : Type 0} (g : Ghosts S) (held : Held S) (hall : IsHall (state g hel
       ]
 
   -- and where nothing was committed
-  pub rolled_outcomes : (Among : Trees → Type 0) (mid end : State) → Carries base mid → Survives mid end (λ _. ⊥) → AddsOutcomes Among (state g held) end
+  pub rolled_outcomes : (Among : Trees → Type 0) (mid end : State) → LeadsUncommitted base mid → Survives mid end (λ _. ⊥) → AddsOutcomes Among (state g held) end
   rolled_outcomes Among mid end carries survives clean db may =
       let clean_mid : HasCleanDisk mid = omega (arith, survives.clean, clean) in
       inl (carries.stops clean_mid db (quiet mid end survives clean db may))
 
   -- what a commit of the change may leave
-  commit_stops : IsLive (state g held) → (change : Change) (mid end : State) → Carries base mid
-      → (HasCleanDisk mid → IsTrue base.in_transaction → Did (Changes change) base mid)
+  commit_stops : IsLive (state g held) → (change : Change) (mid end : State) → LeadsUncommitted base mid
+      → (HasCleanDisk mid → IsTrue base.in_transaction → MakesInside (Changes change) base mid)
       → Survives mid end (λ db. db ≡ mid.now.trees) → StopsAt change (state g held) end
   commit_stops live change mid end carries did survives opens clean db may =
       elim (commit_outcomes live (Changes change) mid end carries did survives opens clean db may) [
@@ -127,9 +128,9 @@ module _ {S : Type 0} (g : Ghosts S) (held : Held S) (hall : IsHall (state g hel
 
   -- so it was where the commit was refused
   pub refused_wrote : {R E : Type 0} → IsLive (state g held) → (change : Change) (fault : E) (error : Error) (mid end : State)
-      → Carries base mid → (HasCleanDisk mid → IsTrue base.in_transaction → Did (Changes change) base mid)
+      → LeadsUncommitted base mid → (HasCleanDisk mid → IsTrue base.in_transaction → MakesInside (Changes change) base mid)
       → Survives mid end (λ db. db ≡ mid.now.trees) → end.in_transaction ≡ false
-      → (HasCleanDisk end → FailsToCommit mid end error) → Wrote {R = R} change (state g held) end (Err fault)
+      → (HasCleanDisk end → FailsToCommit mid end error) → MakesInTables {R = R} change (state g held) end (Err fault)
   refused_wrote live change fault error mid end carries did survives ended fails =
       let lasts = survived mid end _ survives in
       stayed_wrote change (state g held) end fault (commit_stops live change mid end carries did survives) (rolled_stayed mid end carries lasts ended (λ clean.
@@ -138,10 +139,10 @@ module _ {S : Type 0} (g : Ghosts S) (held : Held S) (hall : IsHall (state g hel
 
   -- committed, the change is made
   pub committed_wrote : {R E : Type 0} → IsLive (state g held) → (change : Change) (done : R) (mid end : State)
-      → Carries base mid → (HasCleanDisk mid → IsTrue base.in_transaction → Did (Changes change) base mid)
+      → LeadsUncommitted base mid → (HasCleanDisk mid → IsTrue base.in_transaction → MakesInside (Changes change) base mid)
       → Survives mid end (λ db. db ≡ mid.now.trees) → end.in_transaction ≡ false
       → (HasCleanDisk end → IsTrue mid.in_transaction × Shows mid end mid.now mid.now false × KeepsCounts mid end × (end.marks ≡ []))
-      → Wrote {E = E} change (state g held) end (Ok done)
+      → MakesInTables {E = E} change (state g held) end (Ok done)
   committed_wrote live change done mid end carries did survives ended ok =
       let lasts = survived mid end _ survives in
       made_wrote change (state g held) end done hall (last_then (state g held) mid end (last_begun g held mid carries.lasts) lasts)
@@ -156,13 +157,13 @@ module _ {S : Type 0} (g : Ghosts S) (held : Held S) (hall : IsHall (state g hel
         was_open = opened;
         serves = shown.is_open;
         world = ap (λ (d : Database). world_of d.trees) shown.now_is ∙ (it.does ours).world;
-        others = subst (λ (d : Database). Spares (may_write change) base.now.trees d.trees) (sym shown.now_is) (it.does ours).others;
+        others = subst (λ (d : Database). KeptOtherRows (may_write change) base.now.trees d.trees) (sym shown.now_is) (it.does ours).others;
       })
 
   -- and the tables are as the calls before it left them
   pub committed_did : (Does : Database → Database → Type 0) (mid end : State)
-      → Carries base mid → (HasCleanDisk mid → IsTrue base.in_transaction → Did Does base mid)
-      → Lasts mid end
+      → LeadsUncommitted base mid → (HasCleanDisk mid → IsTrue base.in_transaction → MakesInside Does base mid)
+      → LeadsConnection mid end
       → (HasCleanDisk end → IsTrue mid.in_transaction × Shows mid end mid.now mid.now false × KeepsCounts mid end × (end.marks ≡ []))
       → HasCleanDisk end → Does (state g held).now end.now
   committed_did Does mid end carries did lasts ok clean =
@@ -175,8 +176,8 @@ module _ {S : Type 0} (g : Ghosts S) (held : Held S) (hall : IsHall (state g hel
 
   -- and a hall is left, which serves
   pub committed : (Does : Database → Database → Type 0) (mid end : State)
-      → Carries base mid → (HasCleanDisk mid → IsTrue base.in_transaction → Did Does base mid)
-      → Lasts mid end → end.in_transaction ≡ false
+      → LeadsUncommitted base mid → (HasCleanDisk mid → IsTrue base.in_transaction → MakesInside Does base mid)
+      → LeadsConnection mid end → end.in_transaction ≡ false
       → (HasCleanDisk end → IsTrue mid.in_transaction × Shows mid end mid.now mid.now false × KeepsCounts mid end × (end.marks ≡ []))
       → HasCommitted Does (state g held) end
   committed Does mid end carries did lasts ended ok =

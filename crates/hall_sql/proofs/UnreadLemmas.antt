@@ -19,7 +19,8 @@ use Rattle.hall_grid.specs.Text.{SpellsText, FaultOf}
 use Rattle.hall_grid.specs.declared.fault.TextFault.{TextFault}
 use Rattle.hall_grid.proofs.SpellsOrHasFault.{spells_or_fault}
 use Rattle.hall_policy.specs.HasRole.{HasRole}
-use Rattle.hall_policy.specs.Text.{IsOfKind, is_word_byte, is_key_byte, is_printable}
+use Rattle.hall_grid.specs.Printable.{is_printable}
+use Rattle.hall_policy.specs.Text.{IsOfKind, is_word_byte, is_key_byte}
 use Rattle.hall_policy.proofs.Reading.{kind_fails}
 use Rattle.hall_sql.specs.Values.{AreAscii, kind_in, within, number_in, int_in, roles_in, roles_of, board_of, puzzle_in, unsolved_of, state_of, state_in, mode_of, mode_in, flag_of, flag_in, ruling_points_of, unpointed_of, ruling_of, ruling_in}
 

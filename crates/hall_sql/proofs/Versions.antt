@@ -31,7 +31,7 @@ use Rattle.hall_sql.specs.Made.{all_tables, old_tables}
 use Rattle.hall_sql.specs.Tables.{shape_of}
 use Rattle.hall_sql.specs.Rows.{columns_from, kept, world_of}
 use Rattle.hall_sql.specs.Scan.{tree_of}
-use Rattle.hall_sql.specs.Standing.{AreKeyed, AreKeyedIn, IsOver, RestedAny, content_of}
+use Rattle.hall_sql.specs.Standing.{AreKeyed, AreKeyedIn, IsOver, KeptAnyTables, content_of}
 use Rattle.hall_sql.specs.Statements.{plain_query}
 use Rattle.hall_sql.specs.Tables.{IsHallSchema, IsOldSchema, table_at}
 use Rattle.hall_sql.specs.Versions.{IsVersion, IsAnyHall, HasTable}
@@ -51,7 +51,7 @@ pub over_any : {Fits : Schema → Type 0} {s : State} → IsAnyHall s → ((sche
 over_any hall fits = record { schema = hall.schema; tabled = hall.tabled; fits = λ found like. fits found (hall.fits found like) }
 
 -- what a query over tables of a version tells has its meaning in the world that stays
-pub told_any : {R E : Type 0} (old new : State) (result : Result R E) (P : R → Type 0) (Means : World → R → Type 0) → IsAnyHall old → RestedAny old new
+pub told_any : {R E : Type 0} (old new : State) (result : Result R E) (P : R → Type 0) (Means : World → R → Type 0) → IsAnyHall old → KeptAnyTables old new
     → (HasCleanDisk new → IfOk result P) → ((x : R) → P x → IsTrue new.is_open)
     → ((x : R) → P x → IsTrue old.is_open → (schema : Schema) → IsVersion schema → old.now.schema ≡ schema → AreKeyedIn schema old.now.trees → Means (world_of old.now.trees) x)
     → Served (content_of new) result Means

@@ -19,7 +19,8 @@ use Rattle.hall_store.specs.Maps.{empty_world}
 use Rattle.hall_store.specs.Whole.{AreUnderOwnKeys}
 use Rattle.hall_sql.specs.declared.rows.Rows.{Rows}
 use Rattle.hall_sql.specs.Migrate.{row_count}
-use Rattle.hall_sql.specs.Rows.{answer_of, kept, person_of, protest_of, puzzle_row_of, round_of, world_of}
+use Rattle.hall_sql.specs.Rows.{answer_of_row, kept, person_of_row, protest_of_row, puzzle_of_row, round_of_row}
+use Rattle.hall_sql.specs.Rows.{world_of}
 use Rattle.hall_sql.specs.WholeRows.{AreRowsOf, AreSameRows, count_of, without_testers}
 use Rattle.hall_sql.proofs.RisingLemmas.{AreOwn, kept_own}
 use Rattle.hall_sql.proofs.TesterListings.{empty_entries}
@@ -47,22 +48,22 @@ pub rows_of : (trees : Trees) (rows : Rows)
     → rows.protests.items ≡ values (world_of trees).protests
     → AreRowsOf (world_of trees) rows
 rows_of trees rows people puzzles heads places answers protests = record {
-  people = entries_listed text_total same_texts (λ (x : Person). x.name) person_of (trees 0) rows.people.items people;
-  puzzles = entries_listed puzzle_total same_puzzle_keys (λ (x : PuzzleRow). x.key) puzzle_row_of (trees 3) rows.puzzles.items puzzles;
-  heads = entries_listed text_total same_texts (λ (x : Round). x.id) round_of (trees 5) rows.heads.items heads;
+  people = entries_listed text_total same_texts (λ (x : Person). x.name) person_of_row (trees 0) rows.people.items people;
+  puzzles = entries_listed puzzle_total same_puzzle_keys (λ (x : PuzzleRow). x.key) puzzle_of_row (trees 3) rows.puzzles.items puzzles;
+  heads = entries_listed text_total same_texts (λ (x : Round). x.id) round_of_row (trees 5) rows.heads.items heads;
   places = sym places;
-  answers = entries_listed answer_total same_answer_keys (λ (x : AnswerRow). x.key) answer_of (trees 9) rows.answers.items answers;
-  protests = entries_listed protest_total same_protest_keys (λ (x : ProtestRow). x.key) protest_of (trees 12) rows.protests.items protests;
+  answers = entries_listed answer_total same_answer_keys (λ (x : AnswerRow). x.key) answer_of_row (trees 9) rows.answers.items answers;
+  protests = entries_listed protest_total same_protest_keys (λ (x : ProtestRow). x.key) protest_of_row (trees 12) rows.protests.items protests;
 }
 
 -- each row of the world stands under its own key
 pub own_keys : (trees : Trees) → AreUnderOwnKeys (world_of trees)
 own_keys trees = record {
-  people = entries_listed text_total same_texts (λ (x : Person). x.name) person_of (trees 0) _ refl;
-  puzzles = entries_listed puzzle_total same_puzzle_keys (λ (x : PuzzleRow). x.key) puzzle_row_of (trees 3) _ refl;
-  rounds = entries_listed text_total same_texts (λ (x : Round). x.id) round_of (trees 5) _ refl;
-  answers = entries_listed answer_total same_answer_keys (λ (x : AnswerRow). x.key) answer_of (trees 9) _ refl;
-  protests = entries_listed protest_total same_protest_keys (λ (x : ProtestRow). x.key) protest_of (trees 12) _ refl;
+  people = entries_listed text_total same_texts (λ (x : Person). x.name) person_of_row (trees 0) _ refl;
+  puzzles = entries_listed puzzle_total same_puzzle_keys (λ (x : PuzzleRow). x.key) puzzle_of_row (trees 3) _ refl;
+  rounds = entries_listed text_total same_texts (λ (x : Round). x.id) round_of_row (trees 5) _ refl;
+  answers = entries_listed answer_total same_answer_keys (λ (x : AnswerRow). x.key) answer_of_row (trees 9) _ refl;
+  protests = entries_listed protest_total same_protest_keys (λ (x : ProtestRow). x.key) protest_of_row (trees 12) _ refl;
 }
 
 -- testers don't count

@@ -16,8 +16,8 @@ use Rattle.sqlite.specs.Steps.{FailsToCommit}
 use Rattle.sqlite.proofs.Callers.{IsPlain, command_of, statement_of}
 use Rattle.hall_store.specs.Store.{MoreFaults}
 use Rattle.sqlite.specs.Schema.{Schema}
-use Rattle.hall_sql.specs.Standing.{IsHall, Lasts}
-use Rattle.hall_sql.specs.Inside.{Steps, IsHallData, Carries, Did}
+use Rattle.hall_sql.specs.Standing.{IsHall, LeadsConnection}
+use Rattle.hall_sql.specs.Inside.{KeptTransaction, IsHallData, LeadsUncommitted, MakesInside}
 use Rattle.sqlite_trees.specs.declared.store.Store.{Ghosts}
 use Rattle.sqlite.specs.Held.{Held, state}
 use Rattle.hall_sql.specs.Asked.{IsAsked, is_whole}
@@ -34,7 +34,8 @@ use Rattle.hall_sql.specs.declared.puzzles.TheConstants.{ADD_PUZZLE, REPLACE_PUZ
 use Rattle.hall_sql.specs.declared.round_writes.TheConstants.{ADD_HEAD, REPLACE_HEAD}
 use Rattle.hall_sql.proofs.EachLemmas.{next_item}
 use Rattle.hall_sql.specs.WriteCause.{PuzzleIsRefused, PutPuzzleFails, HeadIsRefused, IsHeadRefused}
-use Rattle.hall_sql.specs.WriteCause.{IsEdit, IsWritten, IsWrittenIn, enforced, IsRefused, RunFails, Refuses, RefusesInside, RefusesToAsk, IsUnderWay}
+use Rattle.hall_sql.specs.WriteCause.{IsEdit, IsWritten, IsWrittenIn, enforced, IsStatementRefused, RunFails, Refuses}
+use Rattle.hall_sql.specs.WriteCause.{RefusesInside, RefusesToAsk, IsUnderWay}
 use Rattle.hall_sql.proofs.AskedLemmas.{store_cause, not_run, open_cause}
 
 -- ---- one statement
@@ -78,7 +79,7 @@ edit_stays s command edit (inr h) = elim h.1 [
 module _ (sql : List ℕ) (params : Row) (old new : State) (e : Error) (other : e ≢ SqliteFailure code.OutOfMemory) (free : old.step_limit ≡ None) where
   module _ (c : Compiled) (known : understood old.now.schema sql ≡ Ok c) (none : c.returning ≡ None) where
     is_refused : (stop : Option Error) → Does old.step_limit (mode_of old) params old.now (text_of sql c) c.returning c.command (Err stop)
-        → IsRefused sql params old.now
+        → IsStatementRefused sql params old.now
     is_refused stop does =
         let it : Does None enforced params old.now (text_of sql c) None c.command (Err stop) = rw (free, none) at does in
         (stop, subst (λ r. Does None enforced params old.now (statement_of sql r) None (command_of r) (Err stop)) (sym known) it)
@@ -147,7 +148,7 @@ more_later a b c after (inl more) = inl (omega (arith, after, more))
 more_later a b c after (inr top) = inr (omega (arith, after, top))
 
 -- what causes a call to fail, causes those to fail that go on after it
-pub cause_later : (a b c : State) → Lasts b c → IsStoreCause a b → IsStoreCause a c
+pub cause_later : (a b c : State) → LeadsConnection b c → IsStoreCause a b → IsStoreCause a c
 cause_later a b c after (inl more) = inl (more_later a.faults b.faults c.faults after.counts more)
 cause_later a b c after (inr shut) = inr shut
 
@@ -157,7 +158,7 @@ cause_served a b c before opens (inl more) = inl (more_over a.faults b.faults c.
 cause_served a b c before opens (inr shut) = absurd (let no : false ≡ true = sym shut ∙ opens in cc)
 
 -- or whether it did or not
-pub cause_over : (a b c : State) → Lasts a b → HasCleanDisk b → Lasts b c → IsStoreCause b c → IsStoreCause a c
+pub cause_over : (a b c : State) → LeadsConnection a b → HasCleanDisk b → LeadsConnection b c → IsStoreCause b c → IsStoreCause a c
 cause_over a b c before clean after cause = elim (cases_Bool b.is_open) [
   | inl opens ↦ cause_served a b c before.counts opens cause
   | inr shut ↦ elim (cases_Bool a.is_open) [
@@ -170,19 +171,19 @@ cause_over a b c before clean after cause = elim (cases_Bool b.is_open) [
 ]
 
 -- a statement after a call that left the tables
-pub run_over : (sql : List ℕ) (params : Row) (a b c : State) → Lasts a b → HasCleanDisk b → Lasts b c → b.now ≡ a.now
+pub run_over : (sql : List ℕ) (params : Row) (a b c : State) → LeadsConnection a b → HasCleanDisk b → LeadsConnection b c → b.now ≡ a.now
     → RunFails sql params b c → RunFails sql params a c
 run_over sql params a b c before clean after same (inl cause) = inl (cause_over a b c before clean after cause)
-run_over sql params a b c before clean after same (inr refused) = inr (subst (IsRefused sql params) same refused)
+run_over sql params a b c before clean after same (inr refused) = inr (subst (IsStatementRefused sql params) same refused)
 
 -- so where the store served
 pub run_served : (sql : List ℕ) (params : Row) (a b c : State) → a.faults ≤ b.faults → IsTrue b.is_open → b.now ≡ a.now
     → RunFails sql params b c → RunFails sql params a c
 run_served sql params a b c before opens same (inl cause) = inl (cause_served a b c before opens cause)
-run_served sql params a b c before opens same (inr refused) = inr (subst (IsRefused sql params) same refused)
+run_served sql params a b c before opens same (inr refused) = inr (subst (IsStatementRefused sql params) same refused)
 
 -- a transaction goes on over the hall's tables
-pub goes_on : (a b : State) → IsUnderWay a → Lasts a b → Steps a b → IsUnderWay b
+pub goes_on : (a b : State) → IsUnderWay a → LeadsConnection a b → KeptTransaction a b → IsUnderWay b
 goes_on a b goes lasts steps =
     record { mode = steps.mode; unlimited = lasts.limit ∙ goes.unlimited; hall = steps.hall goes.hall }
 
@@ -248,7 +249,7 @@ many_heads round zero db some more = absurd (some refl)
 many_heads round (suc zero) db some more = absurd (more refl)
 many_heads round (suc (suc n)) db some more = tt
 
-pub head_found : (round : Round) (count : ℕ) (a b c : State) → Lasts a b → HasCleanDisk b → Lasts b c → CountsHeads round.id count a.now b.now
+pub head_found : (round : Round) (count : ℕ) (a b c : State) → LeadsConnection a b → HasCleanDisk b → LeadsConnection b c → CountsHeads round.id count a.now b.now
     → IsStoreCause b c ⊎ HeadIsRefused round count b.now → IsStoreCause a c ⊎ IsHeadRefused round a.now
 head_found round count a b c before clean after counts (inl cause) = inl (cause_over a b c before clean after cause)
 head_found round count a b c before clean after counts (inr refused) = inr (count, counts.many, subst (HeadIsRefused round count) counts.same refused)
@@ -261,7 +262,7 @@ module _ {S : Type 0} (g : Ghosts S) (held : Held S) (hall : IsHall (state g hel
   base = state g (record held { in_transaction = true })
 
   -- what was refused inside it was rolled back
-  pub whole_cause : {Refused : Type 0} (mid end : State) → HasCleanDisk (state g held) → Lasts mid end
+  pub whole_cause : {Refused : Type 0} (mid end : State) → HasCleanDisk (state g held) → LeadsConnection mid end
       → (IsUnderWay base → IsStoreCause base mid ⊎ Refused) → IsStoreCause (state g held) end ⊎ Refused
   whole_cause mid end clean lasts why = elim (cases_Bool (state g held).is_open) [
     | inl opens ↦
@@ -274,8 +275,8 @@ module _ {S : Type 0} (g : Ghosts S) (held : Held S) (hall : IsHall (state g hel
   ]
 
   -- or its commit was
-  pub commit_fails : (Does : Database → Database → Type 0) (mid end : State) (e : Error) → Carries base mid
-      → (HasCleanDisk mid → IsTrue base.in_transaction → Did Does base mid) → Lasts mid end → HasCleanDisk end
+  pub commit_fails : (Does : Database → Database → Type 0) (mid end : State) (e : Error) → LeadsUncommitted base mid
+      → (HasCleanDisk mid → IsTrue base.in_transaction → MakesInside Does base mid) → LeadsConnection mid end → HasCleanDisk end
       → e ≢ SqliteFailure code.OutOfMemory → FailsToCommit mid end e → IsStoreCause (state g held) end
   commit_fails Does mid end e carries did lasts clean other fails =
       let was : HasCleanDisk mid = omega (arith, lasts.clean, clean) in

@@ -10,14 +10,15 @@ use Rattle.sqlite.specs.Effect.{Database}
 use Rattle.sqlite.specs.State.{State, HasCleanDisk, Writes}
 use Rattle.sqlite_schema.specs.declared.command.Command.{Command}
 use Rattle.hall_policy.specs.World.{World}
-use Rattle.hall_store.specs.Store.{LeavesOneOf, Made}
+use Rattle.hall_store.specs.Store.{LeavesOneOf, MakesInWorld}
 use Rattle.hall_store.specs.Change.{changed}
 use Rattle.hall_store.specs.declared.change.Change.{Change}
 use Rattle.hall_sql.specs.Tables.{IsHallSchema}
 use Rattle.hall_sql.specs.Rows.{world_of}
-use Rattle.hall_sql.specs.Spared.{may_write, Spares}
+use Rattle.hall_sql.specs.Spared.{may_write, KeptOtherRows}
 use Rattle.hall_sql.specs.Stands.{HoldsHall}
-use Rattle.hall_sql.specs.Standing.{AddsNoOutcome, AddsOutcomes, Lasts, AreAllKeyed, IsHall, Rested, Stayed, HasMade, Wrote, without_limit, content_of}
+use Rattle.hall_sql.specs.Standing.{AddsNoOutcome, AddsOutcomes, LeadsConnection, AreAllKeyed, IsHall, KeptTables}
+use Rattle.hall_sql.specs.Standing.{KeptRows, HasMade, MakesInTables, without_limit, content_of}
 use Rattle.hall_store.proofs.Knowing.{leads_then}
 use Rattle.hall_sql.proofs.LastLemmas.{follows_leads}
 use Rattle.hall_sql.proofs.SparedLemmas.{same_spared}
@@ -50,8 +51,8 @@ pub no_stops : (change : Change) (old new : State) → AddsNoOutcome old new →
 no_stops change old new stops opens clean db may = inl (stops clean db may)
 
 -- a statement that ran makes the change
-pub made_wrote : {R E : Type 0} (change : Change) (old new : State) (done : R) → IsHall old → Lasts old new
-    → StopsAt change old new → (HasCleanDisk old → HasCleanDisk new → HasMade change old new) → Wrote {E = E} change old new (Ok done)
+pub made_wrote : {R E : Type 0} (change : Change) (old new : State) (done : R) → IsHall old → LeadsConnection old new
+    → StopsAt change old new → (HasCleanDisk old → HasCleanDisk new → HasMade change old new) → MakesInTables {E = E} change old new (Ok done)
 made_wrote change old new done hall lasts stops made =
     let before = λ (clean : HasCleanDisk new). let was : HasCleanDisk old = omega (arith, lasts.clean, clean) in was in
     let it = λ (clean : HasCleanDisk new). made (before clean) clean in
@@ -78,7 +79,7 @@ made_wrote change old new done hall lasts stops made =
     }
 
 -- and one that is refused leaves the tables
-pub stayed_wrote : {R E : Type 0} (change : Change) (old new : State) (fault : E) → StopsAt change old new → Stayed old new → Wrote {R = R} change old new (Err fault)
+pub stayed_wrote : {R E : Type 0} (change : Change) (old new : State) (fault : E) → StopsAt change old new → KeptRows old new → MakesInTables {R = R} change old new (Err fault)
 stayed_wrote change old new fault stops rested = record {
   hall = rested.tabled;
   makes = record {
@@ -92,18 +93,18 @@ stayed_wrote change old new fault stops rested = record {
 }
 
 -- so does a call that rests
-pub rested_wrote : {R E : Type 0} (change : Change) (old new : State) (fault : E) → Rested old new → Wrote {R = R} change old new (Err fault)
+pub rested_wrote : {R E : Type 0} (change : Change) (old new : State) (fault : E) → KeptTables old new → MakesInTables {R = R} change old new (Err fault)
 rested_wrote change old new fault rested = stayed_wrote change old new fault (no_stops change old new rested.stops) (rested_stayed rested)
 
 -- so does a call that rests before it
-pub rested_wrote_as : {R E : Type 0} (change : Change) (old new : State) (fault : E) (result : Result R E) → IsErrAnd result (λ e. e ≡ fault) → Rested old new
-    → Wrote change old new result
+pub rested_wrote_as : {R E : Type 0} (change : Change) (old new : State) (fault : E) (result : Result R E) → IsErrAnd result (λ e. e ≡ fault) → KeptTables old new
+    → MakesInTables change old new result
 rested_wrote_as change old new fault (Ok done) is rested = absurd is
 rested_wrote_as change old new fault (Err e) is rested = rested_wrote change old new e rested
 
 -- a write after a query that left the world
-pub rested_then : {R E : Type 0} (change : Change) (old mid new : State) (result : Result R E) → Rested old mid
-    → (HasCleanDisk mid → IsTrue mid.is_open) → Wrote change mid new result → Wrote change old new result
+pub rested_then : {R E : Type 0} (change : Change) (old mid new : State) (result : Result R E) → KeptTables old mid
+    → (HasCleanDisk mid → IsTrue mid.is_open) → MakesInTables change mid new result → MakesInTables change old new result
 rested_then {R} {E} change old mid new result rested serves wrote =
     let before = wrote.makes.leads.honest in
     let same = λ (clean : HasCleanDisk new). rested.same (before clean) (serves (before clean)) in
@@ -119,21 +120,21 @@ rested_then {R} {E} change old mid new result rested serves wrote =
         ];
         made = by result wrote.makes.made world;
       };
-      others = λ clean. subst (λ (d : Database). OnOk result (Spares (may_write change) d.trees new.now.trees)) (same clean) (wrote.others clean);
+      others = λ clean. subst (λ (d : Database). OnOk result (KeptOtherRows (may_write change) d.trees new.now.trees)) (same clean) (wrote.others clean);
       refused = left result wrote.refused;
     }
   where
-    by : (result : Result R E) → Made change (content_of mid) (content_of new) result → (HasCleanDisk new → world_of mid.now.trees ≡ world_of old.now.trees) → Made change (content_of old) (content_of new) result
+    by : (result : Result R E) → MakesInWorld change (content_of mid) (content_of new) result → (HasCleanDisk new → world_of mid.now.trees ≡ world_of old.now.trees) → MakesInWorld change (content_of old) (content_of new) result
     by (Ok done) made world = λ clean. let it = made clean in (it.0, it.1 ∙ ap (changed change) (world clean))
     by (Err fault) made world = λ clean opens. made clean opens ∙ world clean
 
-    left : (result : Result R E) → OnErr result (Stayed mid new) → OnErr result (Stayed old new)
+    left : (result : Result R E) → OnErr result (KeptRows mid new) → OnErr result (KeptRows old new)
     left (Ok done) none = tt
     left (Err fault) second = stays_on old mid new rested second
 
 -- a query that left the world made a change that changes nothing
-pub rested_made : {R E : Type 0} (change : Change) (old new : State) (done : R) → Rested old new → (HasCleanDisk new → IsTrue new.is_open)
-    → (HasCleanDisk new → changed change (world_of new.now.trees) ≡ world_of new.now.trees) → Wrote {E = E} change old new (Ok done)
+pub rested_made : {R E : Type 0} (change : Change) (old new : State) (done : R) → KeptTables old new → (HasCleanDisk new → IsTrue new.is_open)
+    → (HasCleanDisk new → changed change (world_of new.now.trees) ≡ world_of new.now.trees) → MakesInTables {E = E} change old new (Ok done)
 rested_made change old new done rested serves nothing = record {
   hall = rested.tabled;
   makes = record {
@@ -144,14 +145,14 @@ rested_made change old new done rested serves nothing = record {
         let world = ap (λ (d : Database). world_of d.trees) (rested.same clean (serves clean)) in
         (serves clean, sym (nothing clean) ∙ ap (changed change) world);
   };
-  others = λ clean. subst (λ (d : Database). Spares (may_write change) d.trees new.now.trees) (rested.same clean (serves clean)) (same_spared (may_write change) new.now.trees);
+  others = λ clean. subst (λ (d : Database). KeptOtherRows (may_write change) d.trees new.now.trees) (rested.same clean (serves clean)) (same_spared (may_write change) new.now.trees);
   refused = tt;
 }
 
 -- a write that made one change made another that is the same of its world and may write the same rows
 pub wrote_too : {R E : Type 0} (change other : Change) (old new : State) (result : Result R E)
     → (HasCleanDisk old → (changed change (world_of old.now.trees) ≡ changed other (world_of old.now.trees)) × (may_write change ≡ may_write other))
-    → Wrote change old new result → Wrote other old new result
+    → MakesInTables change old new result → MakesInTables other old new result
 wrote_too {R} {E} change other old new result same wrote = record {
   hall = wrote.hall;
   makes = record {
@@ -163,12 +164,12 @@ wrote_too {R} {E} change other old new result same wrote = record {
     ];
     made = by result wrote.makes.made wrote.makes.leads.honest;
   };
-  others = λ clean. subst (λ takes. OnOk result (Spares takes old.now.trees new.now.trees)) (same (wrote.makes.leads.honest clean)).1 (wrote.others clean);
+  others = λ clean. subst (λ takes. OnOk result (KeptOtherRows takes old.now.trees new.now.trees)) (same (wrote.makes.leads.honest clean)).1 (wrote.others clean);
   refused = wrote.refused;
 }
   where
-    by : (result : Result R E) → Made change (content_of old) (content_of new) result → (HasCleanDisk new → HasCleanDisk old)
-        → Made other (content_of old) (content_of new) result
+    by : (result : Result R E) → MakesInWorld change (content_of old) (content_of new) result → (HasCleanDisk new → HasCleanDisk old)
+        → MakesInWorld other (content_of old) (content_of new) result
     by (Ok done) made before = λ clean. let it = made clean in (it.0, it.1 ∙ (same (before clean)).0)
     by (Err fault) made before = made
 

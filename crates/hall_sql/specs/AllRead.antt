@@ -5,19 +5,20 @@ use Rattle.sqlite.specs.Effect.{Database}
 use Rattle.sqlite.specs.Order.{Row}
 use Rattle.sqlite.specs.Schema.{Schema}
 use Rattle.sqlite.specs.Tree.{Trees}
-use Rattle.hall_sql.specs.Rows.{person_of, puzzle_row_of, round_of, place_of, answer_of, protest_of, tester_of}
+use Rattle.hall_sql.specs.Rows.{person_of_row, puzzle_of_row, round_of_row, place_of_row, answer_of_row, protest_of_row}
+use Rattle.hall_sql.specs.Rows.{tester_of_row}
 use Rattle.hall_sql.specs.Tables.{hall_schema}
 
 -- the row of the table in this tree is a record
 abbrev pub is_record : ℕ → Row → Bool
 is_record tree row =
-    if tree == 0 then is_some (person_of row)
-    else if tree == 3 then is_some (puzzle_row_of row)
-    else if tree == 5 then is_some (round_of row)
-    else if tree == 7 then is_some (place_of row)
-    else if tree == 9 then is_some (answer_of row)
-    else if tree == 12 then is_some (protest_of row)
-    else is_some (tester_of row)
+    if tree == 0 then is_some (person_of_row row)
+    else if tree == 3 then is_some (puzzle_of_row row)
+    else if tree == 5 then is_some (round_of_row row)
+    else if tree == 7 then is_some (place_of_row row)
+    else if tree == 9 then is_some (answer_of_row row)
+    else if tree == 12 then is_some (protest_of_row row)
+    else is_some (tester_of_row row)
 
 -- each row of the table in this tree is a record
 abbrev pub IsRead : Trees → ℕ → Type 0

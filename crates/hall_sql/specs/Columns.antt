@@ -20,7 +20,7 @@ use Rattle.hall_policy.specs.declared.record.Ruling.TheVariants.{Upheld, Rejecte
 use Rattle.hall_policy.specs.declared.record.Person.{Person}
 use Rattle.hall_policy.specs.declared.record.Roles.{Roles}
 use Rattle.hall_policy.specs.World.{ruling_points}
-use Rattle.hall_sql.specs.Rows.{protest_of}
+use Rattle.hall_sql.specs.Rows.{protest_of_row}
 
 -- the columns of an answer: entrant, round, number, token, n, moment, answer, verdict
 abbrev pub answer_params : AnswerRow → Row
@@ -99,4 +99,4 @@ is_protest_under key row =
 pub record IsAlone (key : ProtestKey) (s : State) (row : ProtestRow) : Type 0 where
   pub one : Row
   pub found : filter (is_protest_under key) (s.now.trees 12) ≡ one ∷ []
-  pub reads : protest_of one ≡ Some row
+  pub reads : protest_of_row one ≡ Some row

@@ -12,8 +12,8 @@ use Rattle.hall_sql.specs.AllRead.{StaysRead}
 use Rattle.hall_sql.specs.Columns.{person_params}
 use Rattle.hall_sql.specs.Tables.{IsHallSchema, hall_schema}
 use Rattle.hall_sql.specs.Rows.{world_of}
-use Rattle.hall_sql.specs.Spared.{may_write, Spares}
-use Rattle.hall_sql.specs.Standing.{AddsNoOutcome, AreAllKeyed, HasAdded, Lasts}
+use Rattle.hall_sql.specs.Spared.{may_write, KeptOtherRows}
+use Rattle.hall_sql.specs.Standing.{AddsNoOutcome, AreAllKeyed, HasAdded, LeadsConnection}
 
 -- the tables are a hall's, and no two rows of one have one rowid
 pub record IsHallData (held : Database) : Type 0 where
@@ -22,33 +22,33 @@ pub record IsHallData (held : Database) : Type 0 where
 
 -- Whether it ran or was refused: no fault is forgotten, only one that is counted shuts the store, and nothing is
 -- committed.
-pub record Carries (old new : State) : Type 0 where
-  pub lasts : Lasts old new
+pub record LeadsUncommitted (old new : State) : Type 0 where
+  pub lasts : LeadsConnection old new
   pub kept : HasCleanDisk new → IsTrue old.in_transaction → KeepsCommit old new
   pub stops : AddsNoOutcome old new
 
 -- Where it ran, the transaction goes on, over the hall's tables, and what it holds is a database as before.
-pub record Steps (old new : State) : Type 0 where
+pub record KeptTransaction (old new : State) : Type 0 where
   pub mode : IsTrue new.in_transaction
   pub hall : IsHallData old.now → IsHallData new.now
   pub sound : IsHallData old.now → IsDatabase old.now → IsDatabase new.now
 
 -- a call inside a transaction ran, and did this to the hall's tables
-pub record Did (Does : Database → Database → Type 0) (old new : State) : Type 0 where
-  pub steps : Steps old new
+pub record MakesInside (Does : Database → Database → Type 0) (old new : State) : Type 0 where
+  pub steps : KeptTransaction old new
   pub does : IsHallData old.now → Does old.now new.now
 
 -- the tables hold the changed world, and each row that the change may not write
 pub record Changes (change : Change) (old new : Database) : Type 0 where
   pub world : world_of new.trees ≡ changed change (world_of old.trees)
-  pub others : Spares (may_write change) old.trees new.trees
+  pub others : KeptOtherRows (may_write change) old.trees new.trees
 
 -- the world that the tables hold became another in this way
 abbrev pub Worlds : (World → World → Type 0) → Database → Database → Type 0
 Worlds Relates old new = Relates (world_of old.trees) (world_of new.trees)
 
 -- a query told what has this meaning, and left the tables
-pub record Tells (Means : World → Type 0) (old new : Database) : Type 0 where
+pub record ToldByQuery (Means : World → Type 0) (old new : Database) : Type 0 where
   pub same : new ≡ old
   pub means : Means (world_of old.trees)
 
@@ -59,5 +59,5 @@ pub record AddsPerson (person : Person) (old new : Database) : Type 0 where
   pub world : get (world_of old.trees).people person.name ≡ None →
       world_of new.trees
       ≡ record (world_of old.trees) { people = insert (world_of old.trees).people person.name person }
-  pub others : Spares (may_write (Import (person ∷ []))) old.trees new.trees
+  pub others : KeptOtherRows (may_write (Import (person ∷ []))) old.trees new.trees
   pub read : StaysRead old new

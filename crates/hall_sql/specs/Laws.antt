@@ -96,8 +96,9 @@ abbrev pub Is : List ℕ → ℕ → Command → Type 0
 Is sql parameters command = (schema : Schema) → IsHallSchema schema → IsCommand schema sql parameters command
 
 -- it asks for all rows of the table, in the order of these columns, over the tables of each version that has the table
-abbrev pub IsListing : List ℕ → HallTable → List ℕ → Type 0
-IsListing sql table order = (schema : Schema) → HasTable schema table → IsCommand schema sql 0 (select table [] order)
+abbrev pub IsTableListing : List ℕ → HallTable → List ℕ → Type 0
+IsTableListing sql table order =
+    (schema : Schema) → HasTable schema table → IsCommand schema sql 0 (select table [] order)
 
 -- ---- the statements
 
@@ -105,14 +106,14 @@ IsListing sql table order = (schema : Schema) → HasTable schema table → IsCo
 pub record AskOfPeople : Type 0 where
   pub person : Is PERSON.now 1 (select People (equals 1 0 ∷ []) [])
   pub person_by_key : Is PERSON_BY_KEY.now 1 (select People (equals 2 0 ∷ []) [])
-  pub all_people : IsListing ALL_PEOPLE.now People (1 ∷ [])
+  pub all_people : IsTableListing ALL_PEOPLE.now People (1 ∷ [])
   pub add_person : Is ADD_PERSON.now 3 (insert People)
 
 -- so on puzzles: 1 author, 2 label, 3 body, 4 state, 5 solution
 pub record AskOfPuzzles : Type 0 where
   pub puzzle : Is PUZZLE.now 2 (select Puzzles (equals 1 0 ∷ equals 2 1 ∷ []) [])
   pub puzzles_of : Is PUZZLES_OF.now 1 (select Puzzles (equals 1 0 ∷ []) (1 ∷ 2 ∷ []))
-  pub all_puzzles : IsListing ALL_PUZZLES.now Puzzles (1 ∷ 2 ∷ [])
+  pub all_puzzles : IsTableListing ALL_PUZZLES.now Puzzles (1 ∷ 2 ∷ [])
   pub look_puzzle : Is LOOK_PUZZLE.now 2 (select_column Puzzles 1 (codes "author") (equals 1 0 ∷ equals 2 1 ∷ []) [])
   pub add_puzzle : Is ADD_PUZZLE.now 5 (insert Puzzles)
   pub replace_puzzle : Is REPLACE_PUZZLE.now 5 (update Puzzles (equals 1 0 ∷ equals 2 1 ∷ [])
@@ -122,7 +123,7 @@ pub record AskOfPuzzles : Type 0 where
 -- 10 published
 pub record AskOfRounds : Type 0 where
   pub head : Is HEAD.now 1 (select Rounds (equals 1 0 ∷ []) [])
-  pub all_rounds : IsListing ALL_ROUNDS.now Rounds (1 ∷ [])
+  pub all_rounds : IsTableListing ALL_ROUNDS.now Rounds (1 ∷ [])
   pub look_head : Is LOOK_HEAD.now 1 (select_column Rounds 1 (codes "id") (equals 1 0 ∷ []) [])
   pub add_head : Is ADD_HEAD.now 10 (insert Rounds)
   pub replace_head : Is REPLACE_HEAD.now 10 (update Rounds (equals 1 0 ∷ [])
@@ -133,14 +134,14 @@ pub record AskOfRounds : Type 0 where
 pub record AskOfPlaces : Type 0 where
   pub places_of : Is PLACES_OF.now 1 (select Places (equals 1 0 ∷ []) (2 ∷ []))
   pub places_with : Is PLACES_WITH.now 2 (select Places (equals 3 0 ∷ equals 4 1 ∷ []) (1 ∷ []))
-  pub all_places : IsListing ALL_PLACES.now Places (1 ∷ 2 ∷ [])
+  pub all_places : IsTableListing ALL_PLACES.now Places (1 ∷ 2 ∷ [])
   pub add_place : Is ADD_PLACE.now 5 (insert Places)
   pub drop_places : Is DROP_PLACES.now 1 (delete Places (equals 1 0 ∷ []))
 
 -- so on testers: 1 round, 2 name
 pub record AskOfTesters : Type 0 where
   pub testers_of : Is TESTERS_OF.now 1 (select Testers (equals 1 0 ∷ []) (2 ∷ []))
-  pub all_testers : IsListing ALL_TESTERS.now Testers (1 ∷ 2 ∷ [])
+  pub all_testers : IsTableListing ALL_TESTERS.now Testers (1 ∷ 2 ∷ [])
   pub add_tester : Is ADD_TESTER.now 2 (insert Testers)
   pub drop_testers : Is DROP_TESTERS.now 1 (delete Testers (equals 1 0 ∷ []))
 
@@ -152,7 +153,7 @@ pub record AskOfAnswers : Type 0 where
   pub answers_given : Is ANSWERS_GIVEN.now 3 (select Answers (equals 1 0 ∷ equals 2 1 ∷ equals 3 2 ∷ []) [])
   pub number_taken : Is NUMBER_TAKEN.now 4
       (select Answers (equals 1 0 ∷ equals 2 1 ∷ equals 3 2 ∷ equals 5 3 ∷ []) [])
-  pub all_answers : IsListing ALL_ANSWERS.now Answers (1 ∷ 2 ∷ 3 ∷ 4 ∷ [])
+  pub all_answers : IsTableListing ALL_ANSWERS.now Answers (1 ∷ 2 ∷ 3 ∷ 4 ∷ [])
   pub add_answer : Is ADD_ANSWER.now 8 (insert Answers)
 
 -- so on protests: 1 entrant, 2 round, 3 token, 4 number, 5 body, 6 ruling, 7 points
@@ -160,7 +161,7 @@ pub record AskOfProtests : Type 0 where
   pub protest : Is PROTEST.now 3 (select Protests (equals 1 0 ∷ equals 2 1 ∷ equals 3 2 ∷ []) [])
   pub protests_of : Is PROTESTS_OF.now 2 (select Protests (equals 2 1 ∷ equals 1 0 ∷ []) (1 ∷ 2 ∷ 3 ∷ []))
   pub protests_in : Is PROTESTS_IN.now 1 (select Protests (equals 2 0 ∷ []) (1 ∷ 2 ∷ 3 ∷ []))
-  pub all_protests : IsListing ALL_PROTESTS.now Protests (1 ∷ 2 ∷ 3 ∷ [])
+  pub all_protests : IsTableListing ALL_PROTESTS.now Protests (1 ∷ 2 ∷ 3 ∷ [])
   pub add_protest : Is ADD_PROTEST.now 7 (insert Protests)
   pub rule_protest : Is RULE_PROTEST.now 5 (update Protests (equals 1 0 ∷ equals 2 1 ∷ equals 3 2 ∷ [])
       (col 1 0 ∷ col 1 1 ∷ col 1 2 ∷ col 1 3 ∷ col 1 4 ∷ col 1 5 ∷ col 0 3 ∷ col 0 4 ∷ []))

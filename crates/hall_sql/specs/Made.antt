@@ -6,13 +6,13 @@ use Rattle.sqlite.specs.Schema.{Schema}
 use Rattle.sqlite.specs.Change.{created}
 use Rattle.sqlite.specs.Effect.{Database, IsDatabase}
 use Rattle.sqlite.specs.State.{State}
-use Rattle.hall_sql.specs.Standing.{IsBare}
+use Rattle.hall_sql.specs.Standing.{IsBareDatabase}
 use Rattle.hall_sql.specs.declared.tables.HallTable.{HallTable}
 use Rattle.hall_sql.specs.declared.tables.HallTable.TheVariants.{People, Puzzles, Rounds, Places, Answers, Protests, Testers}
 use Rattle.hall_sql.specs.declared.tables.TheConstants.{MAKE_PEOPLE, MAKE_PUZZLES, MAKE_ROUNDS, MAKE_PLACES}
 use Rattle.hall_sql.specs.declared.tables.TheConstants.{MAKE_ANSWERS, MAKE_PROTESTS, MAKE_TESTERS}
-use Rattle.hall_sql.specs.Tables.{shape_of, no_schema, with_people, with_puzzles, with_rounds}
-use Rattle.hall_sql.specs.Tables.{with_round_puzzles, with_answers, old_schema, hall_schema}
+use Rattle.hall_sql.specs.Tables.{shape_of, no_schema, schema_with_people, schema_with_puzzles, schema_with_rounds}
+use Rattle.hall_sql.specs.Tables.{schema_with_round_puzzles, schema_with_answers, old_schema, hall_schema}
 
 -- all seven, each after those to which it refers
 abbrev pub all_tables : List HallTable
@@ -35,11 +35,11 @@ table_text Testers = MAKE_TESTERS.now
 -- the schema to which the table is added
 abbrev pub schema_before : HallTable → Schema
 schema_before People = no_schema
-schema_before Puzzles = with_people
-schema_before Rounds = with_puzzles
-schema_before Places = with_rounds
-schema_before Answers = with_round_puzzles
-schema_before Protests = with_answers
+schema_before Puzzles = schema_with_people
+schema_before Rounds = schema_with_puzzles
+schema_before Places = schema_with_rounds
+schema_before Answers = schema_with_round_puzzles
+schema_before Protests = schema_with_answers
 schema_before Testers = old_schema
 
 -- the schema is the hall's once these tables are made
@@ -50,12 +50,12 @@ Lacks (table ∷ tables) schema = (schema ≡ schema_before table) × Lacks tabl
 -- once these tables are made, it is the hall with no rows
 pub record Awaits (tables : List HallTable) (held : Database) : Type 0 where
   pub schema : Schema
-  pub bare : IsBare schema held
+  pub bare : IsBareDatabase schema held
   pub uncounted : AllByRecursion (λ (table : Table). table.is_counted ≡ false) schema.tables
   pub lacks : Lacks tables schema
 
 -- a statement inside a transaction made the table
-pub record Grows (table : HallTable) (old new : State) : Type 0 where
+pub record MakesHallTable (table : HallTable) (old new : State) : Type 0 where
   pub mode : IsTrue new.in_transaction
   pub made : (tables : List HallTable) → Awaits (table ∷ tables) old.now → Awaits tables new.now
   pub sound : (tables : List HallTable) → Awaits (table ∷ tables) old.now → IsDatabase new.now

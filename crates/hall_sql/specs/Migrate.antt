@@ -15,7 +15,7 @@ use Rattle.hall_sql.specs.declared.rows.Rows.{Rows}
 use Rattle.hall_sql.specs.AllRead.{AreAllRead}
 use Rattle.hall_sql.specs.PuzzleText.{AreCanonical}
 use Rattle.hall_sql.specs.Rows.{world_of}
-use Rattle.hall_sql.specs.Standing.{IsBareLike, Rested, RestedIn, Stayed, content_of}
+use Rattle.hall_sql.specs.Standing.{IsBareLike, KeptTables, KeptTablesIn, KeptRows, content_of}
 use Rattle.hall_sql.specs.Stands.{ListsLike, OpensTo}
 use Rattle.hall_sql.specs.Tables.{hall_schema, old_schema}
 use Rattle.hall_sql.specs.WholeRows.{AreRowsOf, without_testers}
@@ -49,7 +49,7 @@ IsFoundBeside rows held Others =
 abbrev pub WasBefore : World → ℕ → State → State → Type 0
 WasBefore world count old new =
     (IsBareLike hall_schema old.now × (count ≡ row_count world) × AreCanonical new.now.trees)
-    ⊎ ((world_of old.now.trees ≡ world) × (count ≡ 0) × Rested old new)
+    ⊎ ((world_of old.now.trees ≡ world) × (count ≡ 0) × KeptTables old new)
 
 -- The target holds the world, which it was given in so many rows, or which it held before. Each of its rows is a
 -- record.
@@ -67,16 +67,16 @@ pub record HoldsOther (world : World) (old : State) : Type 0 where
 
 -- The target had no row, or held the world already, and holds it now; or it holds another. It is told where its device
 -- was honest to the end.
-abbrev pub Takes : World → State → State → Result Migrated StoreFault → Type 0
-Takes world old new (Ok (Done count)) = HasCleanDisk new → TookWorld world count old new
-Takes world old new (Ok Occupied) = HasCleanDisk new → HoldsOther world old
-Takes world old new (Err fault) = Unit {0}
+abbrev pub TargetTakes : World → State → State → Result Migrated StoreFault → Type 0
+TargetTakes world old new (Ok (Done count)) = HasCleanDisk new → TookWorld world count old new
+TargetTakes world old new (Ok Occupied) = HasCleanDisk new → HoldsOther world old
+TargetTakes world old new (Err fault) = Unit {0}
 
 -- A target that isn't done is left: its tables are as they were, also rows that are no records.
 abbrev pub Leaves : State → State → Result Migrated StoreFault → Type 0
 Leaves old new (Ok (Done count)) = Leads (content_of old) (content_of new)
-Leaves old new (Ok Occupied) = Rested old new
-Leaves old new (Err fault) = Stayed old new
+Leaves old new (Ok Occupied) = KeptTables old new
+Leaves old new (Err fault) = KeptRows old new
 
 -- a stop leaves a world that it could leave of the target before, or this one, in a target that served
 abbrev pub StopsAtWorld : World → State → State → Type 0
@@ -87,9 +87,9 @@ StopsAtWorld world old new = LeavesOneOf (λ before left. left ≡ world) (conte
 -- record, or the migration fails. A stop leaves the source as it could be left before, and the target so, or with the
 -- source's world.
 pub record Migrates (was now before after : State) (result : Result Migrated StoreFault) : Type 0 where
-  pub source : RestedIn old_schema was now
+  pub source : KeptTablesIn old_schema was now
   pub kept : LeavesNoOther (old_content_of was) (old_content_of now)
   pub read : HasCleanDisk now → IfOk result (λ _. AreAllRead old_schema was.now.trees)
   pub target : Leaves before after result
   pub stops : HasCleanDisk now → StopsAtWorld (without_testers (world_of was.now.trees)) before after
-  pub taken : HasCleanDisk now → Takes (without_testers (world_of was.now.trees)) before after result
+  pub taken : HasCleanDisk now → TargetTakes (without_testers (world_of was.now.trees)) before after result

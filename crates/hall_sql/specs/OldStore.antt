@@ -8,9 +8,9 @@ use Rattle.hall_sql.specs.Standing.{AddsNoOutcome, HasAdoptedOld, HasDeclined}
 use Rattle.hall_sql.specs.Tables.{IsOldSchema}
 
 -- it was taken over, or its tables are others, and it was left as it was, also after a stop
-abbrev pub IsTaken : {S : Type 0} → Ghosts S → Held S → Taken S → Type 0
-IsTaken g conn (Old store) = HasAdoptedOld (state g conn) (state g store)
-IsTaken g conn (Other left) =
+abbrev pub IsStoreTaken : {S : Type 0} → Ghosts S → Held S → Taken S → Type 0
+IsStoreTaken g conn (Old store) = HasAdoptedOld (state g conn) (state g store)
+IsStoreTaken g conn (Other left) =
     HasDeclined (state g conn) (state g left)
     × AddsNoOutcome (state g conn) (state g left)
     × (HasCleanDisk (state g left) → ¬ IsOldSchema (state g conn).now.schema)

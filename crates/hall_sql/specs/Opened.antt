@@ -24,7 +24,7 @@ use Rattle.hall_sql.specs.declared.open.OpenFault.{OpenFault}
 use Rattle.hall_sql.specs.declared.open.OpenFault.TheVariants.{Missing, Unopened, Old, Refused}
 
 -- where the device was honest, the connection stands for what the log and the database file hold
-pub record IsFound (image : Image) (s : State) : Type 0 where
+pub record IsImageFound (image : Image) (s : State) : Type 0 where
   pub opened : HasCleanDisk s → Opens s × IsLive s
   pub found : HasCleanDisk s → FindsIn image s
 
@@ -60,7 +60,7 @@ pub record OpensAs {F S : Type 0} (Adopted : State → State → Type 0) (g : Gh
     (opens : F → List ℕ → Held S → F → Type 0) (old : F) (path : List ℕ) (held : Held S) (new : F) : Type 0 where
   pub was : Held S
   pub opened : opens old path was new
-  pub found : IsFound (image_at path) (state g was)
+  pub found : IsImageFound (image_at path) (state g was)
   pub adopted : Adopted (state g was) (state g held)
 
 -- the store is the hall's
@@ -77,7 +77,7 @@ pub record IsHandedBack {F S : Type 0} (Stops Cause : State → State → Type 0
   pub left : Held S
   pub between : F
   pub opened : opens old path was between
-  pub found : IsFound (image_at path) (state g was)
+  pub found : IsImageFound (image_at path) (state g was)
   pub declined : HasDeclined (state g was) (state g left)
   pub stops : Stops (state g was) (state g left)
   pub cause : HasCleanDisk (state g left) → Cause (state g was) (state g left)

@@ -15,12 +15,12 @@ use Rattle.hall_policy.specs.declared.record.PlaceKey.{PlaceKey}
 use Rattle.hall_policy.specs.declared.record.Round.{Round}
 use Rattle.hall_policy.specs.declared.record.RoundRow.{RoundRow}
 use Rattle.hall_policy.specs.declared.record.TesterKey.{TesterKey}
-use Rattle.hall_store.specs.Change.{without_list, with_list, relisted, without_testers, with_testers, retested}
+use Rattle.hall_store.specs.Change.{without_list, with_list, relisted, without_testers_of, with_testers, retested}
 use Rattle.hall_sql.specs.Rows.{world_of}
 use Rattle.hall_sql.specs.AllRead.{StaysRead}
 use Rattle.hall_sql.specs.Inside.{IsHallData}
 use Rattle.hall_sql.specs.RoundColumns.{head_params, place_params, tester_params, is_under, HasSoManyHeads}
-use Rattle.hall_sql.specs.Spared.{is_head_of, is_place_of, is_tester_of, Spares}
+use Rattle.hall_sql.specs.Spared.{is_head_of, is_place_of, is_tester_of, KeptOtherRows}
 
 -- a look found so many rows under the id, and left the tables
 pub record CountsHeads (id : List ℕ) (count : ℕ) (old new : Database) : Type 0 where
@@ -37,7 +37,7 @@ pub record PutsHead (round : Round) (old new : Database) : Type 0 where
   pub world : world_of new.trees
       ≡ record (world_of old.trees) { rounds = insert (world_of old.trees).rounds round.id round }
   pub row : HasHeadRow round new
-  pub others : Spares (is_head_of round.id) old.trees new.trees
+  pub others : KeptOtherRows (is_head_of round.id) old.trees new.trees
 
 -- a call inside a transaction ran, and put the head where so many rows stood under its id
 pub record PutsHeadOver (count : ℕ) (round : Round) (old new : State) : Type 0 where
@@ -55,7 +55,7 @@ pub record DropsPlaces (id : List ℕ) (old new : Database) : Type 0 where
   pub world : world_of new.trees
       ≡ record (world_of old.trees) { places = without_list (world_of old.trees).places id }
   pub rows : new.trees 7 ≡ without_rows id (old.trees 7)
-  pub others : Spares (is_place_of id) old.trees new.trees
+  pub others : KeptOtherRows (is_place_of id) old.trees new.trees
 
 -- the place of that number in the round
 abbrev pub place_key : List ℕ → ℕ → PlaceKey
@@ -77,7 +77,7 @@ pub record PutsPlace (id : List ℕ) (number : ℕ) (entry : Entry) (old new : D
       world_of new.trees
       ≡ record (world_of old.trees) { places = insert (world_of old.trees).places (place_key id number) entry }
   pub rows : new.trees 7 ≡ with_place id number entry (old.trees 7)
-  pub others : Spares (is_place_of id) old.trees new.trees
+  pub others : KeptOtherRows (is_place_of id) old.trees new.trees
   pub read : StaysRead old new
 
 -- the round has no places
@@ -90,21 +90,21 @@ pub record PutsPlaces (id : List ℕ) (entries : List Entry) (old new : Database
       world_of new.trees
       ≡ record (world_of old.trees) { places = with_list (world_of old.trees).places id 1 entries }
   pub rows : new.trees 7 ≡ with_places id 1 entries (old.trees 7)
-  pub others : Spares (is_place_of id) old.trees new.trees
+  pub others : KeptOtherRows (is_place_of id) old.trees new.trees
 
 -- the entries stand at their places in the place of those before, and all else is as it was
 pub record PutsList (id : List ℕ) (entries : List Entry) (old new : Database) : Type 0 where
   pub world : world_of new.trees
       ≡ record (world_of old.trees) { places = relisted (world_of old.trees).places id entries }
   pub rows : new.trees 7 ≡ with_places id 1 entries (without_rows id (old.trees 7))
-  pub others : Spares (is_place_of id) old.trees new.trees
+  pub others : KeptOtherRows (is_place_of id) old.trees new.trees
 
 -- the testers of the round are gone, and all else is as it was
 pub record DropsTesters (id : List ℕ) (old new : Database) : Type 0 where
   pub world : world_of new.trees
-      ≡ record (world_of old.trees) { testers = without_testers (world_of old.trees).testers id }
+      ≡ record (world_of old.trees) { testers = without_testers_of (world_of old.trees).testers id }
   pub rows : new.trees 14 ≡ without_rows id (old.trees 14)
-  pub others : Spares (is_tester_of id) old.trees new.trees
+  pub others : KeptOtherRows (is_tester_of id) old.trees new.trees
 
 -- the person of that name as tester of the round
 abbrev pub tester_key : List ℕ → List ℕ → TesterKey
@@ -125,7 +125,7 @@ pub record PutsTester (id name : List ℕ) (old new : Database) : Type 0 where
       world_of new.trees
       ≡ record (world_of old.trees) { testers = insert (world_of old.trees).testers (tester_key id name) tt }
   pub rows : new.trees 14 ≡ with_tester_row id name (old.trees 14)
-  pub others : Spares (is_tester_of id) old.trees new.trees
+  pub others : KeptOtherRows (is_tester_of id) old.trees new.trees
 
 -- the round has no testers
 abbrev pub HasNoTesters : List ℕ → FinMap tester_cmp (Unit {0}) → Type 0
@@ -137,14 +137,14 @@ pub record PutsTesters (id : List ℕ) (names : List (List ℕ)) (old new : Data
       world_of new.trees
       ≡ record (world_of old.trees) { testers = with_testers (world_of old.trees).testers id names }
   pub rows : new.trees 14 ≡ with_tester_rows id names (old.trees 14)
-  pub others : Spares (is_tester_of id) old.trees new.trees
+  pub others : KeptOtherRows (is_tester_of id) old.trees new.trees
 
 -- they are its testers in the place of those before, and all else is as it was
 pub record PutsTesterList (id : List ℕ) (names : List (List ℕ)) (old new : Database) : Type 0 where
   pub world : world_of new.trees
       ≡ record (world_of old.trees) { testers = retested (world_of old.trees).testers id names }
   pub rows : new.trees 14 ≡ with_tester_rows id names (without_rows id (old.trees 14))
-  pub others : Spares (is_tester_of id) old.trees new.trees
+  pub others : KeptOtherRows (is_tester_of id) old.trees new.trees
 
 -- The rows that a round leaves where it is put: its head is the one row of the rounds under its id, and of the places and
 -- of the testers, all rows under the id are gone, and then one was added for each entry and for each name. No other row

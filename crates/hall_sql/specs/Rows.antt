@@ -35,8 +35,8 @@ person_in columns = do
   Some (record { name = name; key = key; roles = roles })
 
 -- the person that a row of the table is, with its rowid first
-abbrev pub person_of : Row → Option Person
-person_of row = person_in (columns_from 1 3 row)
+abbrev pub person_of_row : Row → Option Person
+person_of_row row = person_in (columns_from 1 3 row)
 
 -- the puzzle whose columns these are: author, label, body, state, solution
 abbrev pub puzzle_row_in : Row → Option PuzzleRow
@@ -48,8 +48,8 @@ puzzle_row_in columns = do
   Some (record { key = record { author = author; label = label }; puzzle = puzzle; state = state })
 
 -- the puzzle that a row of the table is
-abbrev pub puzzle_row_of : Row → Option PuzzleRow
-puzzle_row_of row = puzzle_row_in (columns_from 1 5 row)
+abbrev pub puzzle_of_row : Row → Option PuzzleRow
+puzzle_of_row row = puzzle_row_in (columns_from 1 5 row)
 
 -- the round whose columns these are: id, title, start, minutes, minutes of protest, mode, penalty, bonus, released,
 -- published
@@ -79,8 +79,8 @@ round_in columns = do
   })
 
 -- the round that a row of the table is
-abbrev pub round_of : Row → Option Round
-round_of row = round_in (columns_from 1 10 row)
+abbrev pub round_of_row : Row → Option Round
+round_of_row row = round_in (columns_from 1 10 row)
 
 -- the place of a puzzle in a round, and the puzzle there, whose columns these are: round, number, author, label, points
 abbrev pub place_in : Row → Option (PlaceKey × Entry)
@@ -96,8 +96,8 @@ place_in columns = do
   )
 
 -- the place and the puzzle that a row of the table is
-abbrev pub place_of : Row → Option (PlaceKey × Entry)
-place_of row = place_in (columns_from 1 5 row)
+abbrev pub place_of_row : Row → Option (PlaceKey × Entry)
+place_of_row row = place_in (columns_from 1 5 row)
 
 -- the answer whose columns these are: entrant, round, number, token, n, moment, answer, verdict
 abbrev pub answer_in : Row → Option AnswerRow
@@ -126,8 +126,8 @@ pub record IsAnswerKeyIn (columns : Row) (key : AnswerKey) : Type 0 where
   pub token : token_in (column columns 3) ≡ Some key.token
 
 -- the answer that a row of the table is
-abbrev pub answer_of : Row → Option AnswerRow
-answer_of row = answer_in (columns_from 1 8 row)
+abbrev pub answer_of_row : Row → Option AnswerRow
+answer_of_row row = answer_in (columns_from 1 8 row)
 
 -- the protest whose columns these are: entrant, round, token, number, body, ruling, points
 abbrev pub protest_in : Row → Option ProtestRow
@@ -146,8 +146,8 @@ protest_in columns = do
   })
 
 -- the protest that a row of the table is
-abbrev pub protest_of : Row → Option ProtestRow
-protest_of row = protest_in (columns_from 1 7 row)
+abbrev pub protest_of_row : Row → Option ProtestRow
+protest_of_row row = protest_in (columns_from 1 7 row)
 
 -- the tester of a round whose columns these are: round, name. There is nothing to tell beside the key.
 abbrev pub tester_in : Row → Option (TesterKey × Unit {0})
@@ -157,8 +157,8 @@ tester_in columns = do
   Some (record { round = round; name = name }, tt)
 
 -- the tester that a row of the table is
-abbrev pub tester_of : Row → Option (TesterKey × Unit {0})
-tester_of row = tester_in (columns_from 1 2 row)
+abbrev pub tester_of_row : Row → Option (TesterKey × Unit {0})
+tester_of_row row = tester_in (columns_from 1 2 row)
 
 -- a record under its key
 abbrev pub entry : {K X : Type 0} → (X → K) → Option X → List (K × X)
@@ -172,11 +172,11 @@ kept R key read rows = from_entries (flat_map (λ row. entry key (read row)) row
 -- the world that the tables hold
 abbrev pub world_of : Trees → World
 world_of trees = record {
-  people = kept text_cmp (λ person. person.name) person_of (trees 0);
-  puzzles = kept puzzle_cmp (λ row. row.key) puzzle_row_of (trees 3);
-  rounds = kept text_cmp (λ round. round.id) round_of (trees 5);
-  places = from_entries (flat_map (λ row. option_to_list (place_of row)) (trees 7));
-  answers = kept answer_cmp (λ row. row.key) answer_of (trees 9);
-  protests = kept protest_cmp (λ row. row.key) protest_of (trees 12);
-  testers = from_entries (flat_map (λ row. option_to_list (tester_of row)) (trees 14));
+  people = kept text_cmp (λ person. person.name) person_of_row (trees 0);
+  puzzles = kept puzzle_cmp (λ row. row.key) puzzle_of_row (trees 3);
+  rounds = kept text_cmp (λ round. round.id) round_of_row (trees 5);
+  places = from_entries (flat_map (λ row. option_to_list (place_of_row row)) (trees 7));
+  answers = kept answer_cmp (λ row. row.key) answer_of_row (trees 9);
+  protests = kept protest_cmp (λ row. row.key) protest_of_row (trees 12);
+  testers = from_entries (flat_map (λ row. option_to_list (tester_of_row row)) (trees 14));
 }

@@ -16,17 +16,18 @@ use Rattle.hall_store.specs.declared.change.Change.TheVariants.{AddProtest, Rule
 use Rattle.hall_sql.specs.Tables.{hall_schema}
 use Rattle.hall_sql.specs.Columns.{stands_under}
 use Rattle.hall_sql.specs.RoundColumns.{is_under}
-use Rattle.hall_sql.specs.Rows.{person_of, answer_of, protest_of}
+use Rattle.hall_sql.specs.Rows.{person_of_row, answer_of_row, protest_of_row}
 
 -- there is a record, and this is its key
-abbrev pub has_key : {K X : Type 0} → (R : K → K → Ordering) → (X → K) → K → Option X → Bool
-has_key R key k None = false
-has_key R key k (Some x) = eq_by_cmp R (key x) k
+abbrev pub is_keyed_by : {K X : Type 0} → (R : K → K → Ordering) → (X → K) → K → Option X → Bool
+is_keyed_by R key k None = false
+is_keyed_by R key k (Some x) = eq_by_cmp R (key x) k
 
 -- the row of the table in this tree is the person of one of the names
 abbrev pub is_one_of : List Person → ℕ → Row → Bool
 is_one_of people tree row =
-    tree == 0 && list_any (λ (person : Person). has_key text_cmp (λ x. x.name) person.name (person_of row)) people
+    tree == 0 && list_any (λ (person : Person). is_keyed_by text_cmp (λ x. x.name) person.name (person_of_row row))
+    people
 
 -- it is a row of the table of rounds under this id
 abbrev pub is_head_of : List ℕ → ℕ → Row → Bool
@@ -53,15 +54,17 @@ may_write (PutPuzzle puzzle) tree row = tree == 3 && stands_under puzzle.key row
 may_write (SetState key state) tree row = tree == 3 && stands_under key row
 may_write (PutRound round) tree row = is_of_round round.round.id tree row
 may_write (SetRoundFlag id flag) tree row = is_head_of id tree row
-may_write (AddAnswer answer) tree row = tree == 9 && has_key answer_cmp (λ x. x.key) answer.key (answer_of row)
-may_write (AddProtest protest) tree row = tree == 12 && has_key protest_cmp (λ x. x.key) protest.key (protest_of row)
-may_write (RuleProtest key ruling) tree row = tree == 12 && has_key protest_cmp (λ x. x.key) key (protest_of row)
+may_write (AddAnswer answer) tree row = tree == 9 && is_keyed_by answer_cmp (λ x. x.key) answer.key (answer_of_row row)
+may_write (AddProtest protest) tree row =
+    tree == 12 && is_keyed_by protest_cmp (λ x. x.key) protest.key (protest_of_row row)
+may_write (RuleProtest key ruling) tree row =
+    tree == 12 && is_keyed_by protest_cmp (λ x. x.key) key (protest_of_row row)
 
 -- but for the rows that the test takes, the two tables have the same rows in the same order
-abbrev pub AreSpared : (Row → Bool) → List Row → List Row → Type 0
-AreSpared takes old new = filter (λ row. not (takes row)) new ≡ filter (λ row. not (takes row)) old
+abbrev pub AreOtherRowsKept : (Row → Bool) → List Row → List Row → Type 0
+AreOtherRowsKept takes old new = filter (λ row. not (takes row)) new ≡ filter (λ row. not (takes row)) old
 
 -- in each table, the rows that the test doesn't take are as they were
-abbrev pub Spares : (ℕ → Row → Bool) → Trees → Trees → Type 0
-Spares takes old new =
-    AllByRecursion (λ (t : Table). AreSpared (takes t.tree) (old t.tree) (new t.tree)) hall_schema.tables
+abbrev pub KeptOtherRows : (ℕ → Row → Bool) → Trees → Trees → Type 0
+KeptOtherRows takes old new =
+    AllByRecursion (λ (t : Table). AreOtherRowsKept (takes t.tree) (old t.tree) (new t.tree)) hall_schema.tables

@@ -21,7 +21,7 @@ use Rattle.hall_store.specs.Change.{changed}
 use Rattle.hall_store.specs.declared.change.Change.{Change}
 use Rattle.hall_sql.specs.Tables.{IsLike, IsHallSchema, IsOldSchema, no_schema, hall_schema, old_schema}
 use Rattle.hall_sql.specs.Rows.{world_of}
-use Rattle.hall_sql.specs.Spared.{may_write, Spares}
+use Rattle.hall_sql.specs.Spared.{may_write, KeptOtherRows}
 use Rattle.hall_sql.specs.Stands.{IsBareHall, OpensTo, StandsFor}
 
 -- the rowids of the two rows differ
@@ -71,41 +71,41 @@ abbrev pub without_limit : State → State
 without_limit s = record s { step_limit = None }
 
 -- no fault is forgotten, only a fault that is counted shuts the store, and the limit on the steps of a query stays
-pub record Lasts (old new : State) : Type 0 where
+pub record LeadsConnection (old new : State) : Type 0 where
   pub clean : doubt old.is_clean ≤ doubt new.is_clean
   pub counts : old.faults ≤ new.faults
   pub closes : HasCleanDisk new → IsTrue old.is_open → IsTrue new.is_open ⊎ MoreFaults old.faults new.faults
   pub limit : new.step_limit ≡ old.step_limit
 
 -- so it was left, and a store that is shut stays so
-pub record Follows (old new : State) : Type 0 where
-  pub lasts : Lasts old new
+pub record LeadsWithoutReopening (old new : State) : Type 0 where
+  pub lasts : LeadsConnection old new
   pub opened : HasCleanDisk new → IsTrue new.is_open → IsTrue old.is_open
 
 -- the connection was left as it was, or it was rolled back
-abbrev pub Rests : State → State → Type 0
-Rests old new = IsUnchanged old new ⊎ IsRolledBack old new
+abbrev pub KeptOrRolledBack : State → State → Type 0
+KeptOrRolledBack old new = IsUnchanged old new ⊎ IsRolledBack old new
 
 -- the tables are as they were, while the store serves, and still those of the schema
-pub record StayedIn (schema : Schema) (old new : State) : Type 0 where
+pub record KeptRowsIn (schema : Schema) (old new : State) : Type 0 where
   pub tabled : IsTabled schema new
-  pub follows : Follows old new
+  pub follows : LeadsWithoutReopening old new
   pub same : HasCleanDisk new → IsTrue new.is_open → new.now ≡ old.now
 
 -- so it is with the hall's tables
-abbrev pub Stayed : State → State → Type 0
-Stayed = StayedIn hall_schema
+abbrev pub KeptRows : State → State → Type 0
+KeptRows = KeptRowsIn hall_schema
 
 -- they are as they were, also after a stop
-pub record RestedIn (schema : Schema) (old new : State) : Type 0 where
+pub record KeptTablesIn (schema : Schema) (old new : State) : Type 0 where
   pub tabled : IsTabled schema new
-  pub follows : Follows old new
+  pub follows : LeadsWithoutReopening old new
   pub same : HasCleanDisk new → IsTrue new.is_open → new.now ≡ old.now
   pub stops : AddsNoOutcome old new
 
 -- so it is with the hall's tables
-abbrev pub Rested : State → State → Type 0
-Rested = RestedIn hall_schema
+abbrev pub KeptTables : State → State → Type 0
+KeptTables = KeptTablesIn hall_schema
 
 -- the tables are like those of a schema, and each schema that is like it is so
 pub record IsOver (Fits : Schema → Type 0) (s : State) : Type 0 where
@@ -114,8 +114,8 @@ pub record IsOver (Fits : Schema → Type 0) (s : State) : Type 0 where
   pub fits : (found : Schema) → IsLike schema found → Fits found
 
 -- the tables are as they were, while the store serves, whichever schema's they are
-abbrev pub RestedAny : State → State → Type 0
-RestedAny old new = (schema : Schema) → IsTabled schema old → RestedIn schema old new
+abbrev pub KeptAnyTables : State → State → Type 0
+KeptAnyTables old new = (schema : Schema) → IsTabled schema old → KeptTablesIn schema old new
 
 -- the rows of a table that meet WHERE, in an order that ORDER BY allows, as the columns that are shown
 pub record IsSelection (q : Query) (table : List Row) (params : Row) (rows : List Row) : Type 0 where
@@ -165,18 +165,18 @@ pub record HasMade (change : Change) (old new : State) : Type 0 where
   pub was_open : IsTrue old.is_open
   pub serves : IsTrue new.is_open
   pub world : world_of new.now.trees ≡ changed change (world_of old.now.trees)
-  pub others : Spares (may_write change) old.now.trees new.now.trees
+  pub others : KeptOtherRows (may_write change) old.now.trees new.now.trees
 
 -- A call that writes: the hall stands, and it made the change and left each row that the change may not write, or it
 -- was refused and left the tables.
-pub record Wrote {R E : Type 0} (change : Change) (old new : State) (result : Result R E) : Type 0 where
+pub record MakesInTables {R E : Type 0} (change : Change) (old new : State) (result : Result R E) : Type 0 where
   pub hall : IsHall new
   pub makes : Makes change (content_of old) (content_of new) result
-  pub others : HasCleanDisk new → OnOk result (Spares (may_write change) old.now.trees new.now.trees)
-  pub refused : OnErr result (Stayed old new)
+  pub others : HasCleanDisk new → OnOk result (KeptOtherRows (may_write change) old.now.trees new.now.trees)
+  pub refused : OnErr result (KeptRows old new)
 
 -- the database has this schema, and its tables no rows
-pub record IsBare (schema : Schema) (held : Database) : Type 0 where
+pub record IsBareDatabase (schema : Schema) (held : Database) : Type 0 where
   pub is : held.schema ≡ schema
   pub empty : AllByRecursion (λ table. held.trees table.tree ≡ []) schema.tables
 
@@ -189,7 +189,7 @@ pub record IsBareLike (schema : Schema) (held : Database) : Type 0 where
 abbrev pub StoodOrEmpty : State → State → Type 0
 StoodOrEmpty old new =
     (IsHallSchema old.now.schema × (new.now ≡ old.now))
-    ⊎ ((old.now.schema ≡ no_schema) × IsBare hall_schema new.now)
+    ⊎ ((old.now.schema ≡ no_schema) × IsBareDatabase hall_schema new.now)
 
 -- A stop in the call, or after it, leaves a database that a stop before it could leave; or there was no table, and it
 -- leaves the hall's, all of them, without a row.
@@ -201,7 +201,7 @@ MakesAtMost old new = AddsOutcomes (λ db. (old.now.schema ≡ no_schema) × IsB
 pub record HasAdoptedIn (schema : Schema) (Stood : State → State → Type 0) (old new : State) : Type 0 where
   pub alone : old.in_transaction ≡ false
   pub hall : IsTabled schema new
-  pub follows : Follows (without_limit old) new
+  pub follows : LeadsWithoutReopening (without_limit old) new
   pub serves : HasCleanDisk new → IsTrue new.is_open
   pub stood : HasCleanDisk new → Stood old new
   pub stops : MakesAtMost old new
@@ -217,7 +217,7 @@ HasAdoptedOld = HasAdoptedIn old_schema (λ old new. IsOldSchema old.now.schema 
 -- A connection was refused. Its limit on the steps of a query is as it was, and so is whether a transaction is open,
 -- with the savepoints of an open one; while the store serves, so are the tables and what is committed of them.
 pub record HasDeclined (old new : State) : Type 0 where
-  pub follows : Follows old new
+  pub follows : LeadsWithoutReopening old new
   pub mode : HasCleanDisk new → new.in_transaction ≡ old.in_transaction
   pub marks : HasCleanDisk new → IsTrue old.in_transaction → new.marks ≡ old.marks
   pub same : HasCleanDisk new → IsTrue new.is_open → (new.now ≡ old.now) × (new.committed ≡ old.committed)

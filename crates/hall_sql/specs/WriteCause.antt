@@ -77,24 +77,24 @@ enforced = record { keys = Enforced; in_doubt = false; may_wait = false }
 
 -- A rule of the tables refuses what the statement would make of them, or a row that it would make is too large to be
 -- kept, or no rowid is left for it.
-abbrev pub IsRefused : List ℕ → Row → Database → Type 0
-IsRefused sql params db =
+abbrev pub IsStatementRefused : List ℕ → Row → Database → Type 0
+IsStatementRefused sql params db =
     (stop : Option Error)
     × Does None enforced params db (statement_of sql (understood db.schema sql)) None
     (command_of (understood db.schema sql)) (Err stop)
 
 -- Why a statement that writes rows fails: the cause lies in the store, or it is refused over the tables as they were.
 abbrev pub RunFails : List ℕ → Row → State → State → Type 0
-RunFails sql params old new = IsStoreCause old new ⊎ IsRefused sql params old.now
+RunFails sql params old new = IsStoreCause old new ⊎ IsStatementRefused sql params old.now
 
 -- the connection refused the statement, though not by being out of memory
 abbrev pub Refuses : List ℕ → Row → State → State → Type 0
 Refuses sql params old new = (e : Error) × (e ≢ SqliteFailure OutOfMemory) × Executes sql params old new (Err e)
 
 -- it ran, or was refused so
-abbrev pub Ran : List ℕ → Row → State → State → Result ℕ StoreFault → Type 0
-Ran sql params old new (Ok count) = Executes sql params old new (Ok count)
-Ran sql params old new (Err fault) = fault ≡ Failed → Refuses sql params old new
+abbrev pub ExecutesOrRefuses : List ℕ → Row → State → State → Result ℕ StoreFault → Type 0
+ExecutesOrRefuses sql params old new (Ok count) = Executes sql params old new (Ok count)
+ExecutesOrRefuses sql params old new (Err fault) = fault ≡ Failed → Refuses sql params old new
 
 -- a statement inside a transaction was refused so
 abbrev pub RefusesInside : List ℕ → Row → State → State → Type 0
@@ -113,9 +113,9 @@ RefusesToAsk sql params old new =
 -- are more than one
 abbrev pub PuzzleIsRefused : PuzzleRow → ℕ → Database → Type 0
 PuzzleIsRefused row zero db =
-    (text : List ℕ) × CanonicalText text row.puzzle × IsRefused ADD_PUZZLE.now (puzzle_params text row) db
+    (text : List ℕ) × CanonicalText text row.puzzle × IsStatementRefused ADD_PUZZLE.now (puzzle_params text row) db
 PuzzleIsRefused row (suc zero) db =
-    (text : List ℕ) × CanonicalText text row.puzzle × IsRefused REPLACE_PUZZLE.now (puzzle_params text row) db
+    (text : List ℕ) × CanonicalText text row.puzzle × IsStatementRefused REPLACE_PUZZLE.now (puzzle_params text row) db
 PuzzleIsRefused row (suc (suc more)) db = Unit
 
 -- why a put of a puzzle fails
@@ -150,8 +150,8 @@ SetFlagFails id flag old new =
 
 -- the statement that puts a head where so many rows stand under its id is refused, or there are more than one
 abbrev pub HeadIsRefused : Round → ℕ → Database → Type 0
-HeadIsRefused round zero db = IsRefused ADD_HEAD.now (head_params round) db
-HeadIsRefused round (suc zero) db = IsRefused REPLACE_HEAD.now (head_params round) db
+HeadIsRefused round zero db = IsStatementRefused ADD_HEAD.now (head_params round) db
+HeadIsRefused round (suc zero) db = IsStatementRefused REPLACE_HEAD.now (head_params round) db
 HeadIsRefused round (suc (suc more)) db = Unit
 
 abbrev pub IsHeadRefused : Round → Database → Type 0
@@ -165,7 +165,7 @@ pub record PlaceIsRefused (id : List ℕ) (entries : List Entry) (old : Database
   pub placed : Database
   pub hall : IsHallData placed
   pub puts : PutsPlaces id (take at entries) old placed
-  pub refused : IsRefused ADD_PLACE.now (place_params id (at + 1) entry) placed
+  pub refused : IsStatementRefused ADD_PLACE.now (place_params id (at + 1) entry) placed
 
 -- the list before is taken out, and one of the new entries is refused
 pub record EntriesAreRefused (id : List ℕ) (entries : List Entry) (old : Database) : Type 0 where
@@ -176,7 +176,7 @@ pub record EntriesAreRefused (id : List ℕ) (entries : List Entry) (old : Datab
 
 -- the statement that takes the list before out is refused, or the new list is
 abbrev pub ListIsRefused : List ℕ → List Entry → Database → Type 0
-ListIsRefused id entries old = IsRefused DROP_PLACES.now (Text id ∷ []) old ⊎ EntriesAreRefused id entries old
+ListIsRefused id entries old = IsStatementRefused DROP_PLACES.now (Text id ∷ []) old ⊎ EntriesAreRefused id entries old
 
 -- the testers before one are put, and the statement that puts it is refused there
 pub record TesterIsRefused (id : List ℕ) (names : List (List ℕ)) (old : Database) : Type 0 where
@@ -186,7 +186,7 @@ pub record TesterIsRefused (id : List ℕ) (names : List (List ℕ)) (old : Data
   pub placed : Database
   pub hall : IsHallData placed
   pub puts : PutsTesters id (take at names) old placed
-  pub refused : IsRefused ADD_TESTER.now (tester_params id name) placed
+  pub refused : IsStatementRefused ADD_TESTER.now (tester_params id name) placed
 
 -- the testers before are taken out, and one of the new ones is refused
 pub record NamesAreRefused (id : List ℕ) (names : List (List ℕ)) (old : Database) : Type 0 where
@@ -197,7 +197,7 @@ pub record NamesAreRefused (id : List ℕ) (names : List (List ℕ)) (old : Data
 
 -- the statement that takes the testers before out is refused, or the new ones are
 abbrev pub TesterListIsRefused : List ℕ → List (List ℕ) → Database → Type 0
-TesterListIsRefused id names old = IsRefused DROP_TESTERS.now (Text id ∷ []) old ⊎ NamesAreRefused id names old
+TesterListIsRefused id names old = IsStatementRefused DROP_TESTERS.now (Text id ∷ []) old ⊎ NamesAreRefused id names old
 
 -- the list is put, and then the testers are refused
 pub record LastIsRefused (row : RoundRow) (old : Database) : Type 0 where
@@ -234,7 +234,7 @@ IsUnknown name held = get (world_of held.trees).people name ≡ None
 abbrev pub PersonIsRefused : Person → State → State → Type 0
 PersonIsRefused person old new =
     IsUnfound person.name old new
-    ⊎ (IsUnknown person.name old.now × IsRefused ADD_PERSON.now (person_params person) old.now)
+    ⊎ (IsUnknown person.name old.now × IsStatementRefused ADD_PERSON.now (person_params person) old.now)
 
 -- where the name is unknown, the person's row is added, and else nothing
 abbrev pub ImportsOne : Person → Database → Database → Type 0

@@ -11,14 +11,15 @@ ghost use Rattle.sqlite.specs.State.{HasCleanDisk, Survives, CommitsBy};
 ghost use Rattle.sqlite.specs.Values.{bound};
 ghost use Rattle.hall_sql.specs.Columns.{answer_params};
 ghost use Rattle.hall_sql.specs.Fill.{AddsAnswer};
-ghost use Rattle.hall_sql.specs.Inside.{Carries, Did};
-ghost use Rattle.hall_sql.specs.Standing.{IsHall, Rested, Stayed, RestedAny, Wrote, content_of, Lasts};
+ghost use Rattle.hall_sql.specs.Inside.{LeadsUncommitted, MakesInside};
+ghost use Rattle.hall_sql.specs.Standing.{IsHall, KeptTables, KeptRows, KeptAnyTables, MakesInTables, content_of};
+ghost use Rattle.hall_sql.specs.Standing.{LeadsConnection};
 ghost use Rattle.sqlite.specs.declared.types.Value.TheVariants.{Text, Int};
 ghost use Rattle.hall_sql.specs.Rows.{answer_in};
 ghost use Rattle.hall_sql.specs.Whole.{AreRecords};
 ghost use Rattle.hall_sql.specs.Cause.{ReadFails, FindFails};
 ghost use Rattle.hall_sql.specs.Versions.{IsAnyHall};
-ghost use Rattle.hall_sql.specs.WriteCause.{Ran, RunFails};
+ghost use Rattle.hall_sql.specs.WriteCause.{ExecutesOrRefuses, RunFails};
 
 use crate::calls::{run, run_in};
 use crate::counts::count;
@@ -41,7 +42,7 @@ pub(crate) fn answer<S: Alter>(
     key: &AnswerKey,
 ) -> Result<Option<AnswerRow>, StoreFault>
     requires hall { IsHall (state S.Store conn.old) }
-    ensures rested { Rested (state S.Store conn.old) (state S.Store conn.new) }
+    ensures rested { KeptTables (state S.Store conn.old) (state S.Store conn.new) }
     ensures served { Served (content_of (state S.Store conn.new)) result
         (λ world found. found ≡ get world.answers key.now) }
     ensures whole { HasCleanDisk (state S.Store conn.new) → IfOk result (λ _.
@@ -79,7 +80,7 @@ pub(crate) fn answers_of<S: Alter>(
     round: &RoundId,
 ) -> Result<Vec<AnswerRow>, StoreFault>
     requires hall { IsHall (state S.Store conn.old) }
-    ensures rested { Rested (state S.Store conn.old) (state S.Store conn.new) }
+    ensures rested { KeptTables (state S.Store conn.old) (state S.Store conn.new) }
     ensures served { Served (content_of (state S.Store conn.new)) result
         (λ world rows. IsListing world (is_of entrant.now round.now) rows.items) }
     ensures whole { HasCleanDisk (state S.Store conn.new) → IfOk result (λ _.
@@ -110,7 +111,7 @@ pub(crate) fn answers_in<S: Alter>(
     round: &RoundId,
 ) -> Result<Vec<AnswerRow>, StoreFault>
     requires hall { IsHall (state S.Store conn.old) }
-    ensures rested { Rested (state S.Store conn.old) (state S.Store conn.new) }
+    ensures rested { KeptTables (state S.Store conn.old) (state S.Store conn.new) }
     ensures served { Served (content_of (state S.Store conn.new)) result
         (λ world rows. IsListing world (is_in round.now) rows.items) }
     ensures whole { HasCleanDisk (state S.Store conn.new) → IfOk result (λ _.
@@ -137,7 +138,7 @@ pub(crate) fn answers_given<S: Alter>(
     number: PuzzleNumber,
 ) -> Result<u64, StoreFault>
     requires hall { IsHall (state S.Store conn.old) }
-    ensures rested { Rested (state S.Store conn.old) (state S.Store conn.new) }
+    ensures rested { KeptTables (state S.Store conn.old) (state S.Store conn.new) }
     ensures served { Served (content_of (state S.Store conn.new)) result
         (λ world count. count ≡ answers_given world entrant.now round.now number) }
     ensures whole { HasCleanDisk (state S.Store conn.new) → IfOk result (λ _.
@@ -170,7 +171,7 @@ pub(crate) fn is_number_taken<S: Alter>(
     n: AnswerNumber,
 ) -> Result<bool, StoreFault>
     requires hall { IsHall (state S.Store conn.old) }
-    ensures rested { Rested (state S.Store conn.old) (state S.Store conn.new) }
+    ensures rested { KeptTables (state S.Store conn.old) (state S.Store conn.new) }
     ensures served { Served (content_of (state S.Store conn.new)) result
         (λ world taken. IsTrue taken ↔ IsNumberTaken world entrant.now round.now number n) }
     ensures whole { HasCleanDisk (state S.Store conn.new) → IfOk result (λ _.
@@ -202,7 +203,7 @@ pub(crate) fn has_answered<S: Alter>(
     round: &RoundId,
 ) -> Result<bool, StoreFault>
     requires hall { IsHall (state S.Store conn.old) }
-    ensures rested { Rested (state S.Store conn.old) (state S.Store conn.new) }
+    ensures rested { KeptTables (state S.Store conn.old) (state S.Store conn.new) }
     ensures served { Served (content_of (state S.Store conn.new)) result
         (λ world found. IsTrue found ↔ HasSubmitted world entrant.now round.now) }
     ensures whole { HasCleanDisk (state S.Store conn.new) → IfOk result (λ _.
@@ -228,7 +229,7 @@ pub(crate) fn all_answers<S: Alter>(
     alloc: Global,
 ) -> Result<Vec<AnswerRow>, StoreFault>
     requires hall { IsAnyHall (state S.Store conn.old) }
-    ensures rested { RestedAny (state S.Store conn.old) (state S.Store conn.new) }
+    ensures rested { KeptAnyTables (state S.Store conn.old) (state S.Store conn.new) }
     ensures served { Served (content_of (state S.Store conn.new)) result
         (λ world rows. rows.items ≡ values world.answers) }
     ensures whole { HasCleanDisk (state S.Store conn.new) → IfOk result (λ _.
@@ -279,12 +280,13 @@ fn columns(row: &AnswerRow) -> [ValueRef<'_>; 8]
 /// Writes the columns of an answer.
 fn write<S: Alter>(conn: &mut Connection<S>, row: &AnswerRow) -> Result<usize, StoreFault>
     requires hall { IsHall (state S.Store conn.old) }
-    ensures lasts { Lasts (state S.Store conn.old) (state S.Store conn.new) }
-    ensures refused { OnErr result (Stayed (state S.Store conn.old) (state S.Store conn.new)) }
+    ensures lasts { LeadsConnection (state S.Store conn.old) (state S.Store conn.new) }
+    ensures refused { OnErr result (KeptRows (state S.Store conn.old) (state S.Store conn.new)) }
     ensures survives { Survives (state S.Store conn.old) (state S.Store conn.new)
         (CommitsBy ADD_ANSWER.now (answer_params row.now) (state S.Store conn.old)) }
     ensures runs { HasCleanDisk (state S.Store conn.new) →
-        Ran ADD_ANSWER.now (answer_params row.now) (state S.Store conn.old) (state S.Store conn.new) result }
+        ExecutesOrRefuses ADD_ANSWER.now (answer_params row.now) (state S.Store conn.old) (state S.Store conn.new)
+        result }
 {
     run(conn, ADD_ANSWER, &columns(row))
 }
@@ -295,9 +297,9 @@ pub(crate) fn add_inside<S: Alter>(
     row: &AnswerRow,
 ) -> Result<(), StoreFault>
     ensures same_reference { tx.new.conn.ghost_name ≡ tx.old.conn.ghost_name }
-    ensures carries { Carries (state S.Store tx.old.conn.now) (state S.Store tx.new.conn.now) }
+    ensures carries { LeadsUncommitted (state S.Store tx.old.conn.now) (state S.Store tx.new.conn.now) }
     ensures done { HasCleanDisk (state S.Store tx.new.conn.now) → IsTrue (state S.Store tx.old.conn.now).in_transaction
-        → OnOk result (Did (λ a b. AddsAnswer a row.now b) (state S.Store tx.old.conn.now)
+        → OnOk result (MakesInside (λ a b. AddsAnswer a row.now b) (state S.Store tx.old.conn.now)
         (state S.Store tx.new.conn.now)) }
 {
     in_range(row);
@@ -312,7 +314,7 @@ pub(crate) fn add_answer<S: Alter>(
 ) -> Result<(), StoreFault>
     requires hall { IsHall (state S.Store conn.old) }
     requires can { Asks (content_of (state S.Store conn.old)) (λ world. CanAddAnswer world row.now) }
-    ensures wrote { Wrote (AddAnswer row.now) (state S.Store conn.old) (state S.Store conn.new) result }
+    ensures wrote { MakesInTables (AddAnswer row.now) (state S.Store conn.old) (state S.Store conn.new) result }
     ensures cause { HasCleanDisk (state S.Store conn.new) → Fails (RunFails ADD_ANSWER.now
         (answer_params row.now) (state S.Store conn.old) (state S.Store conn.new)) result }
 {

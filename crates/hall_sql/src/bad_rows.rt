@@ -6,7 +6,7 @@ ghost use Rattle.sqlite.specs.State.{HasCleanDisk};
 ghost use Rattle.sqlite_value.specs.Order.{column};
 ghost use Rattle.hall_sql.specs.Asked.{IsAskedIn};
 ghost use Rattle.hall_sql.specs.BadRows.{AreBadIn, AreFoundBad, AreNone, AreToldBad, HasTables, no_records};
-ghost use Rattle.hall_sql.specs.Standing.{IsOver, RestedAny};
+ghost use Rattle.hall_sql.specs.Standing.{IsOver, KeptAnyTables};
 ghost use Rattle.hall_sql.specs.Versions.{HasTable};
 ghost use Rattle.hall_sql.specs.declared.tables.HallTable.TheVariants.{People, Puzzles, Rounds, Places, Answers};
 ghost use Rattle.hall_sql.specs.declared.tables.HallTable.TheVariants.{Protests, Testers};
@@ -98,7 +98,7 @@ fn bad_in<S: Alter, T: Record + Drop>(
     at: usize,
 ) -> Result<Vec<i64>, StoreFault>
     requires asks { IsOver (IsAskedIn sql.now []) (state S.Store conn.old) }
-    ensures rested { RestedAny (state S.Store conn.old) (state S.Store conn.new) }
+    ensures rested { KeptAnyTables (state S.Store conn.old) (state S.Store conn.new) }
     ensures bad { HasCleanDisk (state S.Store conn.new) → IfOk result (λ ids.
         AreBadIn T.Record.read at sql.now (state S.Store conn.old) (state S.Store conn.new) ids.items) }
 {
@@ -109,7 +109,7 @@ fn bad_in<S: Alter, T: Record + Drop>(
 /// The rowids of those rows of the table of people that are no record.
 fn bad_people<S: Alter>(conn: &mut Connection<S>, alloc: Global) -> Result<Vec<i64>, StoreFault>
     requires has { IsOver (λ schema. HasTable schema People) (state S.Store conn.old) }
-    ensures rested { RestedAny (state S.Store conn.old) (state S.Store conn.new) }
+    ensures rested { KeptAnyTables (state S.Store conn.old) (state S.Store conn.new) }
     ensures bad { HasCleanDisk (state S.Store conn.new) → IfOk result (λ ids.
         AreFoundBad People (state S.Store conn.old) (state S.Store conn.new) ids.items) }
 {
@@ -119,7 +119,7 @@ fn bad_people<S: Alter>(conn: &mut Connection<S>, alloc: Global) -> Result<Vec<i
 /// The rowids of those rows of the table of puzzles that are no record.
 fn bad_puzzles<S: Alter>(conn: &mut Connection<S>, alloc: Global) -> Result<Vec<i64>, StoreFault>
     requires has { IsOver (λ schema. HasTable schema Puzzles) (state S.Store conn.old) }
-    ensures rested { RestedAny (state S.Store conn.old) (state S.Store conn.new) }
+    ensures rested { KeptAnyTables (state S.Store conn.old) (state S.Store conn.new) }
     ensures bad { HasCleanDisk (state S.Store conn.new) → IfOk result (λ ids.
         AreFoundBad Puzzles (state S.Store conn.old) (state S.Store conn.new) ids.items) }
 {
@@ -129,7 +129,7 @@ fn bad_puzzles<S: Alter>(conn: &mut Connection<S>, alloc: Global) -> Result<Vec<
 /// The rowids of those rows of the table of rounds that are no record.
 fn bad_rounds<S: Alter>(conn: &mut Connection<S>, alloc: Global) -> Result<Vec<i64>, StoreFault>
     requires has { IsOver (λ schema. HasTable schema Rounds) (state S.Store conn.old) }
-    ensures rested { RestedAny (state S.Store conn.old) (state S.Store conn.new) }
+    ensures rested { KeptAnyTables (state S.Store conn.old) (state S.Store conn.new) }
     ensures bad { HasCleanDisk (state S.Store conn.new) → IfOk result (λ ids.
         AreFoundBad Rounds (state S.Store conn.old) (state S.Store conn.new) ids.items) }
 {
@@ -139,7 +139,7 @@ fn bad_rounds<S: Alter>(conn: &mut Connection<S>, alloc: Global) -> Result<Vec<i
 /// The rowids of those rows of the table of places of rounds that are no record.
 fn bad_places<S: Alter>(conn: &mut Connection<S>, alloc: Global) -> Result<Vec<i64>, StoreFault>
     requires has { IsOver (λ schema. HasTable schema Places) (state S.Store conn.old) }
-    ensures rested { RestedAny (state S.Store conn.old) (state S.Store conn.new) }
+    ensures rested { KeptAnyTables (state S.Store conn.old) (state S.Store conn.new) }
     ensures bad { HasCleanDisk (state S.Store conn.new) → IfOk result (λ ids.
         AreFoundBad Places (state S.Store conn.old) (state S.Store conn.new) ids.items) }
 {
@@ -149,7 +149,7 @@ fn bad_places<S: Alter>(conn: &mut Connection<S>, alloc: Global) -> Result<Vec<i
 /// The rowids of those rows of the table of answers that are no record.
 fn bad_answers<S: Alter>(conn: &mut Connection<S>, alloc: Global) -> Result<Vec<i64>, StoreFault>
     requires has { IsOver (λ schema. HasTable schema Answers) (state S.Store conn.old) }
-    ensures rested { RestedAny (state S.Store conn.old) (state S.Store conn.new) }
+    ensures rested { KeptAnyTables (state S.Store conn.old) (state S.Store conn.new) }
     ensures bad { HasCleanDisk (state S.Store conn.new) → IfOk result (λ ids.
         AreFoundBad Answers (state S.Store conn.old) (state S.Store conn.new) ids.items) }
 {
@@ -159,7 +159,7 @@ fn bad_answers<S: Alter>(conn: &mut Connection<S>, alloc: Global) -> Result<Vec<
 /// The rowids of those rows of the table of protests that are no record.
 fn bad_protests<S: Alter>(conn: &mut Connection<S>, alloc: Global) -> Result<Vec<i64>, StoreFault>
     requires has { IsOver (λ schema. HasTable schema Protests) (state S.Store conn.old) }
-    ensures rested { RestedAny (state S.Store conn.old) (state S.Store conn.new) }
+    ensures rested { KeptAnyTables (state S.Store conn.old) (state S.Store conn.new) }
     ensures bad { HasCleanDisk (state S.Store conn.new) → IfOk result (λ ids.
         AreFoundBad Protests (state S.Store conn.old) (state S.Store conn.new) ids.items) }
 {
@@ -169,7 +169,7 @@ fn bad_protests<S: Alter>(conn: &mut Connection<S>, alloc: Global) -> Result<Vec
 /// The rowids of those rows of the table of testers that are no record.
 fn bad_testers<S: Alter>(conn: &mut Connection<S>, alloc: Global) -> Result<Vec<i64>, StoreFault>
     requires has { IsOver (λ schema. HasTable schema Testers) (state S.Store conn.old) }
-    ensures rested { RestedAny (state S.Store conn.old) (state S.Store conn.new) }
+    ensures rested { KeptAnyTables (state S.Store conn.old) (state S.Store conn.new) }
     ensures bad { HasCleanDisk (state S.Store conn.new) → IfOk result (λ ids.
         AreFoundBad Testers (state S.Store conn.old) (state S.Store conn.new) ids.items) }
 {
@@ -183,7 +183,7 @@ fn bad_rows_of<S: Alter>(
     table: HallTable,
 ) -> Result<Vec<i64>, StoreFault>
     requires has { IsOver (λ schema. HasTable schema table) (state S.Store conn.old) }
-    ensures rested { RestedAny (state S.Store conn.old) (state S.Store conn.new) }
+    ensures rested { KeptAnyTables (state S.Store conn.old) (state S.Store conn.new) }
     ensures bad { HasCleanDisk (state S.Store conn.new) → IfOk result (λ ids.
         AreFoundBad table (state S.Store conn.old) (state S.Store conn.new) ids.items) }
 {
@@ -215,7 +215,7 @@ pub(crate) fn bad_rows<S: Alter>(
     tables: &[HallTable],
 ) -> Result<Vec<BadRows>, StoreFault>
     requires has { IsOver (HasTables tables.now) (state S.Store conn.old) }
-    ensures rested { RestedAny (state S.Store conn.old) (state S.Store conn.new) }
+    ensures rested { KeptAnyTables (state S.Store conn.old) (state S.Store conn.new) }
     ensures bad { HasCleanDisk (state S.Store conn.new) → IfOk result (λ bad.
         AreToldBad tables.now (state S.Store conn.old) (state S.Store conn.new) bad.items) }
 {

@@ -10,10 +10,10 @@ ghost use Rattle.sqlite.specs.declared.error.Error.TheVariants.{SqliteFailure};
 ghost use Rattle.sqlite.specs.declared.error.ErrorCode.TheVariants.{OutOfMemory};
 ghost use Rattle.hall_store.specs.Store.{Fails};
 ghost use Rattle.hall_store.specs.declared.fault.StoreFault.TheVariants.{Failed};
-ghost use Rattle.hall_sql.specs.Standing.{IsHall, IsOver, Rested, Stayed, RestedAny, Lasts};
+ghost use Rattle.hall_sql.specs.Standing.{IsHall, IsOver, KeptTables, KeptRows, KeptAnyTables, LeadsConnection};
 ghost use Rattle.hall_sql.specs.Asked.{ReturnsNothing};
-ghost use Rattle.hall_sql.specs.Inside.{Carries};
-ghost use Rattle.hall_sql.specs.WriteCause.{Ran, RefusesInside, RefusesToAsk};
+ghost use Rattle.hall_sql.specs.Inside.{LeadsUncommitted};
+ghost use Rattle.hall_sql.specs.WriteCause.{ExecutesOrRefuses, RefusesInside, RefusesToAsk};
 
 use hall_store::StoreFault;
 use sqlite::types::ValueRef;
@@ -44,7 +44,7 @@ pub(crate) fn ask<S: Alter>(
 ) -> Result<Vec<Row>, StoreFault>
     requires plain { IsOver (λ schema. IsPlain (understood schema sql.now)) (state S.Store conn.old) }
     requires quiet { ReturnsNothing sql.now }
-    ensures rested { RestedAny (state S.Store conn.old) (state S.Store conn.new) }
+    ensures rested { KeptAnyTables (state S.Store conn.old) (state S.Store conn.new) }
     ensures serves { HasCleanDisk (state S.Store conn.new) → IfOk result
         (λ _. IsTrue (state S.Store conn.new).is_open) }
     ensures shown { HasCleanDisk (state S.Store conn.new) → IfOk result
@@ -65,12 +65,12 @@ pub(crate) fn run<S: Alter>(
     params: &[ValueRef<'_>],
 ) -> Result<usize, StoreFault>
     requires hall { IsHall (state S.Store conn.old) }
-    ensures lasts { Lasts (state S.Store conn.old) (state S.Store conn.new) }
-    ensures refused { OnErr result (Stayed (state S.Store conn.old) (state S.Store conn.new)) }
+    ensures lasts { LeadsConnection (state S.Store conn.old) (state S.Store conn.new) }
+    ensures refused { OnErr result (KeptRows (state S.Store conn.old) (state S.Store conn.new)) }
     ensures survives { Survives (state S.Store conn.old) (state S.Store conn.new)
         (CommitsBy sql.now (bound params.now) (state S.Store conn.old)) }
     ensures runs { HasCleanDisk (state S.Store conn.new) →
-        Ran sql.now (bound params.now) (state S.Store conn.old) (state S.Store conn.new) result }
+        ExecutesOrRefuses sql.now (bound params.now) (state S.Store conn.old) (state S.Store conn.new) result }
 {
     match conn.execute(sql, params) {
         Ok(count) => Ok(count),
@@ -85,7 +85,7 @@ pub(crate) fn ask_in<S: Alter>(
     params: &[ValueRef<'_>],
 ) -> Result<Vec<Row>, StoreFault>
     ensures same_reference { tx.new.conn.ghost_name ≡ tx.old.conn.ghost_name }
-    ensures carries { Carries (state S.Store tx.old.conn.now) (state S.Store tx.new.conn.now) }
+    ensures carries { LeadsUncommitted (state S.Store tx.old.conn.now) (state S.Store tx.new.conn.now) }
     ensures shown { HasCleanDisk (state S.Store tx.new.conn.now) → IfOk result (λ rows.
         Shown sql.now (bound params.now) (state S.Store tx.old.conn.now) (state S.Store tx.new.conn.now) rows.items) }
     ensures cause { HasCleanDisk (state S.Store tx.new.conn.now) → Fails (RefusesToAsk sql.now (bound params.now)
@@ -104,7 +104,7 @@ pub(crate) fn run_in<S: Alter>(
     params: &[ValueRef<'_>],
 ) -> Result<usize, StoreFault>
     ensures same_reference { tx.new.conn.ghost_name ≡ tx.old.conn.ghost_name }
-    ensures carries { Carries (state S.Store tx.old.conn.now) (state S.Store tx.new.conn.now) }
+    ensures carries { LeadsUncommitted (state S.Store tx.old.conn.now) (state S.Store tx.new.conn.now) }
     ensures mode { HasCleanDisk (state S.Store tx.new.conn.now) → IsTrue (state S.Store tx.old.conn.now).in_transaction
         → OnOk result ((state S.Store tx.new.conn.now).in_transaction ≡ true) }
     ensures runs { HasCleanDisk (state S.Store tx.new.conn.now) → IsTrue (state S.Store tx.old.conn.now).in_transaction

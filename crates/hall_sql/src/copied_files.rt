@@ -5,7 +5,7 @@ ghost use Rattle.sqlite.specs.WalFiles.{image_at};
 ghost use Rattle.sqlite.specs.Held.{state};
 ghost use Rattle.sqlite.specs.Files.{file_state};
 ghost use Rattle.hall_sql.specs.Copied.{AreCopies};
-ghost use Rattle.hall_sql.specs.Opened.{IsFound};
+ghost use Rattle.hall_sql.specs.Opened.{IsImageFound};
 ghost use Rattle.hall_sql.specs.PathCalls.{named, noted};
 
 use crate::copied::Copied;
@@ -154,7 +154,7 @@ fn open_copies<B: Start>(
     files: Files<Copied<B>>,
 ) -> Result<CopiedConnection<B>, Error>
     requires { AreCopies files }
-    ensures found { IfOk result (λ conn. IsFound (image_at B.Start) (file_state conn)) }
+    ensures found { IfOk result (λ conn. IsImageFound (image_at B.Start) (file_state conn)) }
     ensures named { IfErr result (λ e. IsTrue (is_open_error e)) }
 {
     let seed = had(RandomState::new(rt))?.hash_one(&0u8);
@@ -169,7 +169,7 @@ fn read_database<B: Start>(
     rt: &HostRuntime,
     path: &str,
 ) -> Result<(File, CopiedConnection<B>), Error>
-    ensures found { IfOk result (λ it. IsFound (image_at B.Start) (file_state it.1)) }
+    ensures found { IfOk result (λ it. IsImageFound (image_at B.Start) (file_state it.1)) }
     ensures named { IfErr result (λ e. IsTrue (is_open_error e)) }
 {
     let (file, files) = had(read_files(rt, path))?;
@@ -183,7 +183,7 @@ fn ask_copy<B: Start>(
     path: &str,
 ) -> (Noted, Result<(File, CopiedConnection<B>), Error>)
     ensures path { noted result.0 ≡ path.now }
-    ensures found { IfOk result.1 (λ it. IsFound (image_at B.Start) (file_state it.1)) }
+    ensures found { IfOk result.1 (λ it. IsImageFound (image_at B.Start) (file_state it.1)) }
     ensures refused { IfErr result.1 (λ error. IsTrue (is_open_error error)) }
 {
     (note(path), read_database(rt, path))

@@ -14,7 +14,7 @@ ghost use Rattle.hall_sql.specs.Counts.{IsRead, AreReadAs, AreSoMany};
 ghost use Rattle.hall_sql.specs.Rows.{IsAnswerKeyIn, answer_in, protest_in};
 ghost use Rattle.hall_policy.specs.declared.record.AnswerKey.{AnswerKey as KeyColumns};
 ghost use Rattle.sqlite.specs.declared.types.Value.TheVariants.{Text};
-ghost use Rattle.hall_sql.specs.Standing.{IsHall, Rested};
+ghost use Rattle.hall_sql.specs.Standing.{IsHall, KeptTables};
 ghost use Rattle.hall_sql.specs.Values.{kind_in};
 
 use crate::calls::ask;
@@ -140,7 +140,7 @@ pub(crate) fn count<S: Alter, T: Counted>(
 ) -> Result<u64, StoreFault>
     requires asks { IsAsked sql.now (bound params.now) }
     requires hall { IsHall (state S.Store conn.old) }
-    ensures rested { Rested (state S.Store conn.old) (state S.Store conn.new) }
+    ensures rested { KeptTables (state S.Store conn.old) (state S.Store conn.new) }
     ensures counted { HasCleanDisk (state S.Store conn.new) → IfOk result (λ count.
         AreSoMany T.Counted.counts sql.now (bound params.now) (state S.Store conn.old) (state S.Store conn.new) count) }
     ensures cause { HasCleanDisk (state S.Store conn.new) → Fails (ReadFails T.Counted.counts sql.now

@@ -7,7 +7,8 @@ ghost use Rattle.sqlite.specs.State.{HasCleanDisk};
 ghost use Rattle.hall_store.specs.Store.{Fails, Fed, IsListing, is_in, protests_in};
 ghost use Rattle.hall_sql.specs.Asked.{IsAsked};
 ghost use Rattle.hall_sql.specs.Cause.{FeedFails};
-ghost use Rattle.hall_sql.specs.Standing.{AddsNoOutcome, IsHall, Rests, Rested, content_of, Lasts};
+ghost use Rattle.hall_sql.specs.Standing.{AddsNoOutcome, IsHall, KeptOrRolledBack, KeptTables, content_of};
+ghost use Rattle.hall_sql.specs.Standing.{LeadsConnection};
 ghost use Rattle.hall_sql.specs.Feed.{Steps, StepFails, FedRows};
 ghost use Rattle.hall_sql.specs.Rows.{answer_in, protest_in};
 ghost use Rattle.hall_sql.specs.Whole.{AreRecords};
@@ -38,10 +39,10 @@ fn step<S: Alter, K: Sink<T>, T: Record + Drop>(
     sink: &mut K,
 ) -> Result<bool, StoreFault>
     ensures same_reference { rows.new.conn.ghost_name ≡ rows.old.conn.ghost_name }
-    ensures lasts { Lasts (state S.Store rows.old.conn.now) (state S.Store rows.new.conn.now) }
+    ensures lasts { LeadsConnection (state S.Store rows.old.conn.now) (state S.Store rows.new.conn.now) }
     ensures stops { AddsNoOutcome (state S.Store rows.old.conn.now) (state S.Store rows.new.conn.now) }
     ensures rests { HasCleanDisk (state S.Store rows.new.conn.now) →
-        Rests (state S.Store rows.old.conn.now) (state S.Store rows.new.conn.now) }
+        KeptOrRolledBack (state S.Store rows.old.conn.now) (state S.Store rows.new.conn.now) }
     ensures stepped { IfOk result
         (Steps S.Store T.read K.takes rows.old.conn.now rows.new.conn.now sink.old sink.new) }
     ensures same { OnErr result (sink.new ≡ sink.old) }
@@ -68,7 +69,7 @@ fn feed<S: Alter, K: Sink<T>, T: Record + Drop>(
 ) -> Result<(), StoreFault>
     requires asks { IsAsked sql.now (bound params.now) }
     requires hall { IsHall (state S.Store conn.old) }
-    ensures rested { Rested (state S.Store conn.old) (state S.Store conn.new) }
+    ensures rested { KeptTables (state S.Store conn.old) (state S.Store conn.new) }
     ensures fed { FedRows S.Store T.read K.takes sql.now (bound params.now)
         (state S.Store conn.old) (state S.Store conn.new) sink.old result sink.new }
     ensures cause { HasCleanDisk (state S.Store conn.new) → Fails (FeedFails T.read K.takes K.refuses sql.now
@@ -96,7 +97,7 @@ pub(crate) fn feed_answers<S: Alter, K: Sink<AnswerRow>>(
     sink: &mut K,
 ) -> Result<(), StoreFault>
     requires hall { IsHall (state S.Store conn.old) }
-    ensures rested { Rested (state S.Store conn.old) (state S.Store conn.new) }
+    ensures rested { KeptTables (state S.Store conn.old) (state S.Store conn.new) }
     ensures fed { Fed K.takes (λ world rows. IsListing world (is_in round.now) rows)
         (content_of (state S.Store conn.old)) (content_of (state S.Store conn.new)) sink.old result sink.new }
     ensures whole { HasCleanDisk (state S.Store conn.new) → IfOk result (λ _.
@@ -117,7 +118,7 @@ pub(crate) fn feed_protests<S: Alter, K: Sink<ProtestRow>>(
     sink: &mut K,
 ) -> Result<(), StoreFault>
     requires hall { IsHall (state S.Store conn.old) }
-    ensures rested { Rested (state S.Store conn.old) (state S.Store conn.new) }
+    ensures rested { KeptTables (state S.Store conn.old) (state S.Store conn.new) }
     ensures fed { Fed K.takes (λ world rows. rows ≡ protests_in world round.now)
         (content_of (state S.Store conn.old)) (content_of (state S.Store conn.new)) sink.old result sink.new }
     ensures whole { HasCleanDisk (state S.Store conn.new) → IfOk result (λ _.

@@ -6,8 +6,8 @@ ghost use Rattle.sqlite.specs.State.{HasCleanDisk};
 ghost use Rattle.hall_policy.specs.Sink.{HasTaken};
 ghost use Rattle.hall_store.specs.Store.{Leads};
 ghost use Rattle.hall_sql.specs.Fill.{AreFilled, AddsAnswer, AddsHead, AddsPlace, AddsProtest, AddsPuzzle, Fills, PutsPerson};
-ghost use Rattle.hall_sql.specs.Inside.{Carries, Did};
-ghost use Rattle.hall_sql.specs.Standing.{AddsOutcomes, IsHall, Stayed, content_of};
+ghost use Rattle.hall_sql.specs.Inside.{LeadsUncommitted, MakesInside};
+ghost use Rattle.hall_sql.specs.Standing.{AddsOutcomes, IsHall, KeptRows, content_of};
 
 use crate::calls::{fault_of, live};
 use crate::people::add_person;
@@ -28,10 +28,10 @@ pub(crate) trait Added: Sized {
     /// Adds it under a new key, inside a transaction.
     fn add<S: Alter>(&self, tx: &mut Transaction<'_, S>, alloc: Global) -> Result<(), StoreFault>
         ensures same_reference { tx.new.conn.ghost_name ≡ tx.old.conn.ghost_name }
-        ensures carries { Carries (state S.Store tx.old.conn.now) (state S.Store tx.new.conn.now) }
+        ensures carries { LeadsUncommitted (state S.Store tx.old.conn.now) (state S.Store tx.new.conn.now) }
         ensures done { HasCleanDisk (state S.Store tx.new.conn.now)
             → IsTrue (state S.Store tx.old.conn.now).in_transaction
-            → OnOk result (Did (λ a b. adds a self.now b) (state S.Store tx.old.conn.now)
+            → OnOk result (MakesInside (λ a b. adds a self.now b) (state S.Store tx.old.conn.now)
             (state S.Store tx.new.conn.now)) };
 }
 
@@ -90,9 +90,9 @@ fn add_each<S: Alter, T: Added>(
     records: &[T],
 ) -> Result<(), StoreFault>
     ensures same_reference { tx.new.conn.ghost_name ≡ tx.old.conn.ghost_name }
-    ensures carries { Carries (state S.Store tx.old.conn.now) (state S.Store tx.new.conn.now) }
+    ensures carries { LeadsUncommitted (state S.Store tx.old.conn.now) (state S.Store tx.new.conn.now) }
     ensures done { HasCleanDisk (state S.Store tx.new.conn.now) → IsTrue (state S.Store tx.old.conn.now).in_transaction
-        → OnOk result (Did (λ a b. HasTaken T.adds a records.now b) (state S.Store tx.old.conn.now)
+        → OnOk result (MakesInside (λ a b. HasTaken T.adds a records.now b) (state S.Store tx.old.conn.now)
         (state S.Store tx.new.conn.now)) }
 {
     for record in records {
@@ -108,9 +108,9 @@ fn fill_inside<S: Alter>(
     rows: &Rows,
 ) -> Result<(), StoreFault>
     ensures same_reference { tx.new.conn.ghost_name ≡ tx.old.conn.ghost_name }
-    ensures carries { Carries (state S.Store tx.old.conn.now) (state S.Store tx.new.conn.now) }
+    ensures carries { LeadsUncommitted (state S.Store tx.old.conn.now) (state S.Store tx.new.conn.now) }
     ensures done { HasCleanDisk (state S.Store tx.new.conn.now) → IsTrue (state S.Store tx.old.conn.now).in_transaction
-        → OnOk result (Did (Fills rows.now) (state S.Store tx.old.conn.now) (state S.Store tx.new.conn.now)) }
+        → OnOk result (MakesInside (Fills rows.now) (state S.Store tx.old.conn.now) (state S.Store tx.new.conn.now)) }
 {
     add_each(tx, alloc, rows.people.as_slice())?;
     add_each(tx, alloc, rows.puzzles.as_slice())?;
@@ -134,7 +134,7 @@ pub(crate) fn fill<S: Alter>(
         × Fills rows.now (state S.Store conn.old).now (state S.Store conn.new).now) }
     ensures stops { IsTrue (state S.Store conn.old).is_open
         → AddsOutcomes (AreFilled rows.now (state S.Store conn.old).now) (state S.Store conn.old) (state S.Store conn.new) }
-    ensures refused { OnErr result (Stayed (state S.Store conn.old) (state S.Store conn.new)) }
+    ensures refused { OnErr result (KeptRows (state S.Store conn.old) (state S.Store conn.new)) }
 {
     if !conn.is_autocommit() {
         return Err(StoreFault::Failed);

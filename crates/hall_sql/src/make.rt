@@ -2,10 +2,10 @@
 ghost use Rattle.std.specs.Prelude.{◌≡◌, false, [], IsTrue, OnOk};
 ghost use Rattle.sqlite.specs.Held.{state};
 ghost use Rattle.sqlite.specs.State.{HasCleanDisk};
-ghost use Rattle.hall_sql.specs.Inside.{Carries};
+ghost use Rattle.hall_sql.specs.Inside.{LeadsUncommitted};
 ghost use Rattle.hall_sql.specs.Tables.{no_schema};
 ghost use Rattle.hall_sql.specs.Standing.{MakesAtMost, Readies};
-ghost use Rattle.hall_sql.specs.Made.{Awaits, Grows, HasGrown, schema_before};
+ghost use Rattle.hall_sql.specs.Made.{Awaits, MakesHallTable, HasGrown, schema_before};
 ghost use Rattle.hall_sql.specs.Cause.{IsStoreCause};
 ghost use Rattle.hall_store.specs.Store.{Fails};
 
@@ -17,9 +17,9 @@ use sqlite::{Alter, Connection, Transaction};
 /// Makes the table, with no rows.
 fn make_table<S: Alter>(tx: &mut Transaction<'_, S>, table: HallTable) -> Result<(), StoreFault>
     ensures same_reference { tx.new.conn.ghost_name ≡ tx.old.conn.ghost_name }
-    ensures carries { Carries (state S.Store tx.old.conn.now) (state S.Store tx.new.conn.now) }
+    ensures carries { LeadsUncommitted (state S.Store tx.old.conn.now) (state S.Store tx.new.conn.now) }
     ensures done { HasCleanDisk (state S.Store tx.new.conn.now) → IsTrue (state S.Store tx.old.conn.now).in_transaction
-        → OnOk result (Grows table (state S.Store tx.old.conn.now) (state S.Store tx.new.conn.now)) }
+        → OnOk result (MakesHallTable table (state S.Store tx.old.conn.now) (state S.Store tx.new.conn.now)) }
     ensures cause { HasCleanDisk (state S.Store tx.new.conn.now) → IsTrue (state S.Store tx.old.conn.now).in_transaction
         → tx.old.conn.now.schema ≡ schema_before table
         → Fails (IsStoreCause (state S.Store tx.old.conn.now) (state S.Store tx.new.conn.now)) result }
@@ -34,7 +34,7 @@ fn make_tables<S: Alter>(
     tables: &[HallTable],
 ) -> Result<(), StoreFault>
     ensures same_reference { tx.new.conn.ghost_name ≡ tx.old.conn.ghost_name }
-    ensures carries { Carries (state S.Store tx.old.conn.now) (state S.Store tx.new.conn.now) }
+    ensures carries { LeadsUncommitted (state S.Store tx.old.conn.now) (state S.Store tx.new.conn.now) }
     ensures done { HasCleanDisk (state S.Store tx.new.conn.now) → IsTrue (state S.Store tx.old.conn.now).in_transaction
         → OnOk result (HasGrown tables.now [] (state S.Store tx.old.conn.now) (state S.Store tx.new.conn.now)) }
     ensures cause { HasCleanDisk (state S.Store tx.new.conn.now) → IsTrue (state S.Store tx.old.conn.now).in_transaction

@@ -6,8 +6,8 @@ ghost use Rattle.sqlite.specs.State.{HasCleanDisk};
 ghost use Rattle.hall_policy.specs.World.{World};
 ghost use Rattle.hall_store.specs.Store.{Served};
 ghost use Rattle.hall_sql.specs.AllRead.{AreAllRead};
-ghost use Rattle.hall_sql.specs.Migrate.{IsFoundBeside, Leaves, Migrates, StopsAtWorld, Takes};
-ghost use Rattle.hall_sql.specs.Standing.{IsHall, Rested, content_of};
+ghost use Rattle.hall_sql.specs.Migrate.{IsFoundBeside, Leaves, Migrates, StopsAtWorld, TargetTakes};
+ghost use Rattle.hall_sql.specs.Standing.{IsHall, KeptTables, content_of};
 ghost use Rattle.hall_sql.specs.Tables.{hall_schema};
 ghost use Rattle.hall_sql.specs.WholeRows.{AreRowsOf, IsEmptyIn};
 
@@ -44,7 +44,7 @@ fn compare<T: Alter>(
     rows: &Rows,
 ) -> Result<Found, StoreFault>
     requires hall { IsHall (state T.Store conn.old) }
-    ensures rested { Rested (state T.Store conn.old) (state T.Store conn.new) }
+    ensures rested { KeptTables (state T.Store conn.old) (state T.Store conn.new) }
     ensures served { Served (content_of (state T.Store conn.new)) result
         (λ held found. IsFoundBeside rows.now held found) }
     ensures whole { HasCleanDisk (state T.Store conn.new) → IfOk result (λ _.
@@ -76,7 +76,7 @@ fn fill_counted<T: Alter>(
         → IsTrue (state T.Store conn.old).is_open
         → StopsAtWorld world (state T.Store conn.old) (state T.Store conn.new) }
     ensures takes { (world : World) → AreRowsOf world rows.now → world.testers ≡ empty
-        → Takes world (state T.Store conn.old) (state T.Store conn.new) result }
+        → TargetTakes world (state T.Store conn.old) (state T.Store conn.new) result }
 {
     match rows.count() {
         Some(count) => {
@@ -99,7 +99,7 @@ pub(crate) fn take_rows<T: Alter>(
     ensures stops { (world : World) → AreRowsOf world rows.now → world.testers ≡ empty
         → StopsAtWorld world (state T.Store conn.old) (state T.Store conn.new) }
     ensures takes { (world : World) → AreRowsOf world rows.now → world.testers ≡ empty
-        → Takes world (state T.Store conn.old) (state T.Store conn.new) result }
+        → TargetTakes world (state T.Store conn.old) (state T.Store conn.new) result }
 {
     match compare(conn, alloc, rows)? {
         Found::Nothing => fill_counted(conn, alloc, rows),

@@ -9,8 +9,8 @@ ghost use Rattle.hall_sql.specs.AllRead.{AreAllRead};
 ghost use Rattle.hall_sql.specs.BadRows.{AreNone, AreToldBad};
 ghost use Rattle.hall_sql.specs.Made.{old_tables};
 ghost use Rattle.hall_sql.specs.Migrate.{old_content_of};
-ghost use Rattle.hall_sql.specs.OldStore.{IsTaken};
-ghost use Rattle.hall_sql.specs.Standing.{AddsNoOutcome, HasDeclined, IsTabled, RestedIn};
+ghost use Rattle.hall_sql.specs.OldStore.{IsStoreTaken};
+ghost use Rattle.hall_sql.specs.Standing.{AddsNoOutcome, HasDeclined, IsTabled, KeptTablesIn};
 ghost use Rattle.hall_sql.specs.Tables.{old_schema};
 ghost use Rattle.hall_sql.specs.WholeRows.{AreRowsOf};
 
@@ -58,7 +58,7 @@ impl<S: Alter + Drop> OldStore<S> {
     /// Takes over a connection with the tables of the version before. One with others, or one that is refused, is
     /// handed back as it was.
     pub fn over(mut conn: Connection<S>) -> Result<Taken<S>, Declined<S>>
-        ensures taken { IfOk result (IsTaken S.Store conn) }
+        ensures taken { IfOk result (IsStoreTaken S.Store conn) }
         ensures declined { IfErr result (λ declined. HasDeclined (state S.Store conn) (state S.Store declined.conn)) }
         ensures stops { IfErr result (λ declined. AddsNoOutcome (state S.Store conn) (state S.Store declined.conn)) }
         ensures cause { IfErr result (λ declined. HasCleanDisk (state S.Store declined.conn) → declined.fault ≡ Failed
@@ -96,7 +96,7 @@ impl<S: Alter + Drop> OldStore<S> {
 
     /// The rows of the tables that are no record, table by table.
     pub fn bad_rows(&mut self, alloc: Global) -> Result<Vec<BadRows>, StoreFault>
-        ensures rested { RestedIn old_schema (state S.Store self.old) (state S.Store self.new) }
+        ensures rested { KeptTablesIn old_schema (state S.Store self.old) (state S.Store self.new) }
         ensures bad { HasCleanDisk (state S.Store self.new) → IfOk result (λ bad.
             AreToldBad old_tables (state S.Store self.old) (state S.Store self.new) bad.items) }
         ensures whole { HasCleanDisk (state S.Store self.new) → IfOk result (λ bad.
@@ -107,7 +107,7 @@ impl<S: Alter + Drop> OldStore<S> {
 
     /// All rows of the tables.
     pub(crate) fn read_rows(&mut self, alloc: Global) -> Result<Rows, StoreFault>
-        ensures rested { RestedIn old_schema (state S.Store self.old) (state S.Store self.new) }
+        ensures rested { KeptTablesIn old_schema (state S.Store self.old) (state S.Store self.new) }
         ensures served { Served (old_content_of (state S.Store self.new)) result (λ world rows. AreRowsOf world rows) }
         ensures whole { HasCleanDisk (state S.Store self.new) → IfOk result (λ _.
             AreAllRead old_schema (state S.Store self.old).now.trees) }

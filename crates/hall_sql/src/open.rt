@@ -5,7 +5,7 @@ ghost use Rattle.sqlite.specs.Steps.{over_memory};
 ghost use Rattle.hall_store.specs.Maps.{empty_world};
 ghost use Rattle.hall_store.specs.Store.{Fails};
 ghost use Rattle.hall_sql.specs.Tables.{hall_schema};
-ghost use Rattle.hall_sql.specs.Standing.{IsBare, content_of};
+ghost use Rattle.hall_sql.specs.Standing.{IsBareDatabase, content_of};
 ghost use Rattle.hall_sql.specs.Migrate.{old_content_of};
 ghost use Rattle.hall_sql.specs.Stopped.{IsAtRest, StopsAreFound, StopsFind, StopsHold, StopsLeave};
 ghost use Rattle.hall_sql.specs.Rows.{world_of};
@@ -47,7 +47,7 @@ pub trait PathFiles<S: Alter> {
     ghost use Rattle.sqlite.specs.Recovery.{Image};
     ghost use Rattle.sqlite.specs.Held.{Held, state};
     ghost use Rattle.sqlite.specs.declared.error.Error.{Error};
-    ghost use Rattle.hall_sql.specs.Opened.{IsFound};
+    ghost use Rattle.hall_sql.specs.Opened.{IsImageFound};
 
     /// The log and the database file at a path.
     ghost image_at: { List ℕ → Image };
@@ -82,7 +82,7 @@ pub trait PathFiles<S: Alter> {
     /// The database at the path, which is made where there is none.
     fn open(&mut self, path: &str) -> Result<Connection<S>, Error>
         ensures opened { IfOk result (λ conn. opens self.old path.now conn self.new) }
-        ensures found { IfOk result (λ conn. IsFound (image_at path.now) (state S.Store conn)) }
+        ensures found { IfOk result (λ conn. IsImageFound (image_at path.now) (state S.Store conn)) }
         ensures refused { IfErr result (λ error. refuses self.old path.now error self.new) };
 
     /// Takes a database back, as it was left, and leaves nothing in its place. No body can reach what it is given.
@@ -174,7 +174,7 @@ pub fn open_old<S: Alter + Drop, F: PathFiles<S>>(
 /// The hall's tables in memory, without a row.
 pub fn open_in_memory(alloc: Global) -> Result<SqlStore<MemStore>, StoreFault>
     ensures empty { IfOk result (λ store. (content_of (state over_memory store)).world ≡ empty_world) }
-    ensures bare { IfOk result (λ store. IsBare hall_schema (state over_memory store).now) }
+    ensures bare { IfOk result (λ store. IsBareDatabase hall_schema (state over_memory store).now) }
     ensures cause { Fails ⊥ result }
 {
     let conn = Connection::open_in_memory(alloc)?;

@@ -7,8 +7,8 @@ ghost use Rattle.hall_store.specs.Store.{Served, Fails};
 ghost use Rattle.hall_store.specs.Caller.{IsKeyHolder};
 ghost use Rattle.hall_store.specs.declared.change.Change.TheVariants.{Import};
 ghost use Rattle.hall_sql.specs.Columns.{person_params, roles_code};
-ghost use Rattle.hall_sql.specs.Standing.{IsHall, Rested, RestedAny, Wrote, content_of};
-ghost use Rattle.hall_sql.specs.Inside.{Carries, Did, Changes, Tells, AddsPerson};
+ghost use Rattle.hall_sql.specs.Standing.{IsHall, KeptTables, KeptAnyTables, MakesInTables, content_of};
+ghost use Rattle.hall_sql.specs.Inside.{LeadsUncommitted, MakesInside, Changes, ToldByQuery, AddsPerson};
 ghost use Rattle.sqlite.specs.declared.types.Value.TheVariants.{Text};
 ghost use Rattle.hall_sql.specs.Rows.{person_in};
 ghost use Rattle.hall_sql.specs.Whole.{AreRecords};
@@ -35,7 +35,7 @@ pub(crate) fn person<S: Alter>(
     name: &Name,
 ) -> Result<Option<Person>, StoreFault>
     requires hall { IsHall (state S.Store conn.old) }
-    ensures rested { Rested (state S.Store conn.old) (state S.Store conn.new) }
+    ensures rested { KeptTables (state S.Store conn.old) (state S.Store conn.new) }
     ensures served { Served (content_of (state S.Store conn.new)) result
         (λ world found. found ≡ get world.people name.now) }
     ensures whole { HasCleanDisk (state S.Store conn.new) → IfOk result (λ _.
@@ -58,7 +58,7 @@ pub(crate) fn person_by_key<S: Alter>(
     key: &Key,
 ) -> Result<Option<Person>, StoreFault>
     requires hall { IsHall (state S.Store conn.old) }
-    ensures rested { Rested (state S.Store conn.old) (state S.Store conn.new) }
+    ensures rested { KeptTables (state S.Store conn.old) (state S.Store conn.new) }
     ensures served { Served (content_of (state S.Store conn.new)) result
         (λ world found. IsKeyHolder world key.now found) }
     ensures whole { HasCleanDisk (state S.Store conn.new) → IfOk result (λ _.
@@ -81,7 +81,7 @@ pub(crate) fn all_people<S: Alter>(
     alloc: Global,
 ) -> Result<Vec<Person>, StoreFault>
     requires hall { IsAnyHall (state S.Store conn.old) }
-    ensures rested { RestedAny (state S.Store conn.old) (state S.Store conn.new) }
+    ensures rested { KeptAnyTables (state S.Store conn.old) (state S.Store conn.new) }
     ensures served { Served (content_of (state S.Store conn.new)) result
         (λ world people. people.items ≡ values world.people) }
     ensures whole { HasCleanDisk (state S.Store conn.new) → IfOk result (λ _.
@@ -101,9 +101,9 @@ fn person_in<S: Alter>(
     name: &Name,
 ) -> Result<Option<Person>, StoreFault>
     ensures same_reference { tx.new.conn.ghost_name ≡ tx.old.conn.ghost_name }
-    ensures carries { Carries (state S.Store tx.old.conn.now) (state S.Store tx.new.conn.now) }
+    ensures carries { LeadsUncommitted (state S.Store tx.old.conn.now) (state S.Store tx.new.conn.now) }
     ensures done { HasCleanDisk (state S.Store tx.new.conn.now) → IsTrue (state S.Store tx.old.conn.now).in_transaction
-        → IfOk result (λ found. Did (Tells (λ world. found ≡ get world.people name.now))
+        → IfOk result (λ found. MakesInside (ToldByQuery (λ world. found ≡ get world.people name.now))
         (state S.Store tx.old.conn.now) (state S.Store tx.new.conn.now)) }
     ensures cause { InsideFails (state S.Store tx.old.conn.now) (state S.Store tx.new.conn.now)
         (IsStoreCause (state S.Store tx.old.conn.now) (state S.Store tx.new.conn.now)
@@ -133,9 +133,10 @@ pub(crate) fn add_person<S: Alter>(
     person: &Person,
 ) -> Result<(), StoreFault>
     ensures same_reference { tx.new.conn.ghost_name ≡ tx.old.conn.ghost_name }
-    ensures carries { Carries (state S.Store tx.old.conn.now) (state S.Store tx.new.conn.now) }
+    ensures carries { LeadsUncommitted (state S.Store tx.old.conn.now) (state S.Store tx.new.conn.now) }
     ensures done { HasCleanDisk (state S.Store tx.new.conn.now) → IsTrue (state S.Store tx.old.conn.now).in_transaction
-        → OnOk result (Did (AddsPerson person.now) (state S.Store tx.old.conn.now) (state S.Store tx.new.conn.now)) }
+        → OnOk result (MakesInside (AddsPerson person.now) (state S.Store tx.old.conn.now)
+        (state S.Store tx.new.conn.now)) }
     ensures cause { InsideFails (state S.Store tx.old.conn.now) (state S.Store tx.new.conn.now)
         (RunFails ADD_PERSON.now (person_params person.now) (state S.Store tx.old.conn.now)
         (state S.Store tx.new.conn.now)) result }
@@ -160,12 +161,12 @@ fn import_one<S: Alter>(
     person: &Person,
 ) -> Result<(), StoreFault>
     ensures same_reference { tx.new.conn.ghost_name ≡ tx.old.conn.ghost_name }
-    ensures carries { Carries (state S.Store tx.old.conn.now) (state S.Store tx.new.conn.now) }
+    ensures carries { LeadsUncommitted (state S.Store tx.old.conn.now) (state S.Store tx.new.conn.now) }
     ensures done { HasCleanDisk (state S.Store tx.new.conn.now) → IsTrue (state S.Store tx.old.conn.now).in_transaction
-        → OnOk result (Did (Changes (Import (person.now ∷ [])))
+        → OnOk result (MakesInside (Changes (Import (person.now ∷ [])))
         (state S.Store tx.old.conn.now) (state S.Store tx.new.conn.now)) }
     ensures row { HasCleanDisk (state S.Store tx.new.conn.now) → IsTrue (state S.Store tx.old.conn.now).in_transaction
-        → OnOk result (Did (ImportsOne person.now)
+        → OnOk result (MakesInside (ImportsOne person.now)
         (state S.Store tx.old.conn.now) (state S.Store tx.new.conn.now)) }
     ensures cause { InsideFails (state S.Store tx.old.conn.now) (state S.Store tx.new.conn.now)
         (IsStoreCause (state S.Store tx.old.conn.now) (state S.Store tx.new.conn.now)
@@ -184,9 +185,9 @@ fn import_all<S: Alter>(
     people: &[Person],
 ) -> Result<(), StoreFault>
     ensures same_reference { tx.new.conn.ghost_name ≡ tx.old.conn.ghost_name }
-    ensures carries { Carries (state S.Store tx.old.conn.now) (state S.Store tx.new.conn.now) }
+    ensures carries { LeadsUncommitted (state S.Store tx.old.conn.now) (state S.Store tx.new.conn.now) }
     ensures done { HasCleanDisk (state S.Store tx.new.conn.now) → IsTrue (state S.Store tx.old.conn.now).in_transaction
-        → OnOk result (Did (Changes (Import people.now))
+        → OnOk result (MakesInside (Changes (Import people.now))
         (state S.Store tx.old.conn.now) (state S.Store tx.new.conn.now)) }
     ensures cause { InsideFails (state S.Store tx.old.conn.now) (state S.Store tx.new.conn.now)
         (ImportFails S.Store people.now (state S.Store tx.old.conn.now) (state S.Store tx.new.conn.now)) result }
@@ -204,7 +205,7 @@ pub(crate) fn import<S: Alter>(
     people: &People,
 ) -> Result<(), StoreFault>
     requires hall { IsHall (state S.Store conn.old) }
-    ensures wrote { Wrote (Import people.now) (state S.Store conn.old) (state S.Store conn.new) result }
+    ensures wrote { MakesInTables (Import people.now) (state S.Store conn.old) (state S.Store conn.new) result }
     ensures cause { HasCleanDisk (state S.Store conn.new) → Fails (ImportFails S.Store people.now
         (state S.Store conn.old) (state S.Store conn.new)) result }
 {

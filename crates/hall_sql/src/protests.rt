@@ -12,15 +12,16 @@ ghost use Rattle.hall_store.specs.Change.{CanAddProtest};
 ghost use Rattle.hall_store.specs.declared.change.Change.TheVariants.{AddProtest, RuleProtest};
 ghost use Rattle.sqlite.specs.Values.{bound};
 ghost use Rattle.hall_sql.specs.Fill.{AddsProtest};
-ghost use Rattle.hall_sql.specs.Inside.{Carries, Did};
+ghost use Rattle.hall_sql.specs.Inside.{LeadsUncommitted, MakesInside};
 ghost use Rattle.hall_sql.specs.Columns.{protest_params, ruling_code, ruling_params, IsAlone};
-ghost use Rattle.hall_sql.specs.Standing.{IsHall, Rested, Stayed, RestedAny, Wrote, content_of, Lasts};
+ghost use Rattle.hall_sql.specs.Standing.{IsHall, KeptTables, KeptRows, KeptAnyTables, MakesInTables, content_of};
+ghost use Rattle.hall_sql.specs.Standing.{LeadsConnection};
 ghost use Rattle.sqlite.specs.declared.types.Value.TheVariants.{Text};
 ghost use Rattle.hall_sql.specs.Rows.{protest_in};
 ghost use Rattle.hall_sql.specs.Whole.{AreRecords};
 ghost use Rattle.hall_sql.specs.Cause.{ReadFails, FindFails};
 ghost use Rattle.hall_sql.specs.Versions.{IsAnyHall};
-ghost use Rattle.hall_sql.specs.WriteCause.{Ran, RunFails, RuleFails};
+ghost use Rattle.hall_sql.specs.WriteCause.{ExecutesOrRefuses, RunFails, RuleFails};
 
 use crate::calls::{run, run_in};
 use crate::counts::count;
@@ -42,7 +43,7 @@ pub(crate) fn protest<S: Alter>(
     key: &ProtestKey,
 ) -> Result<Option<ProtestRow>, StoreFault>
     requires hall { IsHall (state S.Store conn.old) }
-    ensures rested { Rested (state S.Store conn.old) (state S.Store conn.new) }
+    ensures rested { KeptTables (state S.Store conn.old) (state S.Store conn.new) }
     ensures served { Served (content_of (state S.Store conn.new)) result
         (λ world found. found ≡ get world.protests key.now) }
     ensures alone { HasCleanDisk (state S.Store conn.new) → IfOk result
@@ -76,7 +77,7 @@ pub(crate) fn protests_of<S: Alter>(
     round: &RoundId,
 ) -> Result<Vec<ProtestRow>, StoreFault>
     requires hall { IsHall (state S.Store conn.old) }
-    ensures rested { Rested (state S.Store conn.old) (state S.Store conn.new) }
+    ensures rested { KeptTables (state S.Store conn.old) (state S.Store conn.new) }
     ensures served { Served (content_of (state S.Store conn.new)) result
         (λ world rows. rows.items ≡ protests_of world entrant.now round.now) }
     ensures whole { HasCleanDisk (state S.Store conn.new) → IfOk result (λ _.
@@ -102,7 +103,7 @@ pub(crate) fn protests_made<S: Alter>(
     round: &RoundId,
 ) -> Result<u64, StoreFault>
     requires hall { IsHall (state S.Store conn.old) }
-    ensures rested { Rested (state S.Store conn.old) (state S.Store conn.new) }
+    ensures rested { KeptTables (state S.Store conn.old) (state S.Store conn.new) }
     ensures served { Served (content_of (state S.Store conn.new)) result
         (λ world count. count ≡ protests_made world entrant.now round.now) }
     ensures whole { HasCleanDisk (state S.Store conn.new) → IfOk result (λ _.
@@ -128,7 +129,7 @@ pub(crate) fn protests_in<S: Alter>(
     round: &RoundId,
 ) -> Result<Vec<ProtestRow>, StoreFault>
     requires hall { IsHall (state S.Store conn.old) }
-    ensures rested { Rested (state S.Store conn.old) (state S.Store conn.new) }
+    ensures rested { KeptTables (state S.Store conn.old) (state S.Store conn.new) }
     ensures served { Served (content_of (state S.Store conn.new)) result
         (λ world rows. rows.items ≡ protests_in world round.now) }
     ensures whole { HasCleanDisk (state S.Store conn.new) → IfOk result (λ _.
@@ -153,7 +154,7 @@ pub(crate) fn all_protests<S: Alter>(
     alloc: Global,
 ) -> Result<Vec<ProtestRow>, StoreFault>
     requires hall { IsAnyHall (state S.Store conn.old) }
-    ensures rested { RestedAny (state S.Store conn.old) (state S.Store conn.new) }
+    ensures rested { KeptAnyTables (state S.Store conn.old) (state S.Store conn.new) }
     ensures served { Served (content_of (state S.Store conn.new)) result
         (λ world rows. rows.items ≡ values world.protests) }
     ensures whole { HasCleanDisk (state S.Store conn.new) → IfOk result (λ _.
@@ -185,7 +186,7 @@ pub(crate) fn has_open_protest<S: Alter>(
     round: &RoundId,
 ) -> Result<bool, StoreFault>
     requires hall { IsHall (state S.Store conn.old) }
-    ensures rested { Rested (state S.Store conn.old) (state S.Store conn.new) }
+    ensures rested { KeptTables (state S.Store conn.old) (state S.Store conn.new) }
     ensures served { Served (content_of (state S.Store conn.new)) result
         (λ world found. IsTrue found ↔ IsProtestOpen world round.now) }
     ensures whole { HasCleanDisk (state S.Store conn.new) → IfOk result (λ _.
@@ -256,12 +257,13 @@ fn columns(row: &ProtestRow) -> [ValueRef<'_>; 7]
 /// Writes the columns of a protest.
 fn write<S: Alter>(conn: &mut Connection<S>, row: &ProtestRow) -> Result<usize, StoreFault>
     requires hall { IsHall (state S.Store conn.old) }
-    ensures lasts { Lasts (state S.Store conn.old) (state S.Store conn.new) }
-    ensures refused { OnErr result (Stayed (state S.Store conn.old) (state S.Store conn.new)) }
+    ensures lasts { LeadsConnection (state S.Store conn.old) (state S.Store conn.new) }
+    ensures refused { OnErr result (KeptRows (state S.Store conn.old) (state S.Store conn.new)) }
     ensures survives { Survives (state S.Store conn.old) (state S.Store conn.new)
         (CommitsBy ADD_PROTEST.now (protest_params row.now) (state S.Store conn.old)) }
     ensures runs { HasCleanDisk (state S.Store conn.new) →
-        Ran ADD_PROTEST.now (protest_params row.now) (state S.Store conn.old) (state S.Store conn.new) result }
+        ExecutesOrRefuses ADD_PROTEST.now (protest_params row.now) (state S.Store conn.old) (state S.Store conn.new)
+        result }
 {
     run(conn, ADD_PROTEST, &columns(row))
 }
@@ -272,9 +274,9 @@ pub(crate) fn add_inside<S: Alter>(
     row: &ProtestRow,
 ) -> Result<(), StoreFault>
     ensures same_reference { tx.new.conn.ghost_name ≡ tx.old.conn.ghost_name }
-    ensures carries { Carries (state S.Store tx.old.conn.now) (state S.Store tx.new.conn.now) }
+    ensures carries { LeadsUncommitted (state S.Store tx.old.conn.now) (state S.Store tx.new.conn.now) }
     ensures done { HasCleanDisk (state S.Store tx.new.conn.now) → IsTrue (state S.Store tx.old.conn.now).in_transaction
-        → OnOk result (Did (λ a b. AddsProtest a row.now b) (state S.Store tx.old.conn.now)
+        → OnOk result (MakesInside (λ a b. AddsProtest a row.now b) (state S.Store tx.old.conn.now)
         (state S.Store tx.new.conn.now)) }
 {
     in_range(row);
@@ -289,7 +291,7 @@ pub(crate) fn add_protest<S: Alter>(
 ) -> Result<(), StoreFault>
     requires hall { IsHall (state S.Store conn.old) }
     requires can { Asks (content_of (state S.Store conn.old)) (λ world. CanAddProtest world row.now) }
-    ensures wrote { Wrote (AddProtest row.now) (state S.Store conn.old) (state S.Store conn.new) result }
+    ensures wrote { MakesInTables (AddProtest row.now) (state S.Store conn.old) (state S.Store conn.new) result }
     ensures cause { HasCleanDisk (state S.Store conn.new) → Fails (RunFails ADD_PROTEST.now
         (protest_params row.now) (state S.Store conn.old) (state S.Store conn.new)) result }
 {
@@ -312,11 +314,12 @@ fn write_ruling<S: Alter>(
 ) -> Result<usize, StoreFault>
     requires hall { IsHall (state S.Store conn.old) }
     ensures in_range { IfSome ruling.now IsRuling }
-    ensures lasts { Lasts (state S.Store conn.old) (state S.Store conn.new) }
-    ensures refused { OnErr result (Stayed (state S.Store conn.old) (state S.Store conn.new)) }
+    ensures lasts { LeadsConnection (state S.Store conn.old) (state S.Store conn.new) }
+    ensures refused { OnErr result (KeptRows (state S.Store conn.old) (state S.Store conn.new)) }
     ensures survives { Survives (state S.Store conn.old) (state S.Store conn.new)
         (CommitsBy RULE_PROTEST.now (ruling_params key.now ruling.now) (state S.Store conn.old)) }
-    ensures runs { HasCleanDisk (state S.Store conn.new) → Ran RULE_PROTEST.now (ruling_params key.now ruling.now)
+    ensures runs { HasCleanDisk (state S.Store conn.new)
+        → ExecutesOrRefuses RULE_PROTEST.now (ruling_params key.now ruling.now)
         (state S.Store conn.old) (state S.Store conn.new) result }
 {
     run(
@@ -341,7 +344,8 @@ fn rule_found<S: Alter>(
 ) -> Result<(), StoreFault>
     requires hall { IsHall (state S.Store conn.old) }
     requires alone { HasCleanDisk (state S.Store conn.old) → IsAlone key.now (state S.Store conn.old) row.now }
-    ensures wrote { Wrote (RuleProtest key.now ruling) (state S.Store conn.old) (state S.Store conn.new) result }
+    ensures wrote { MakesInTables (RuleProtest key.now ruling) (state S.Store conn.old) (state S.Store conn.new)
+        result }
     ensures cause { HasCleanDisk (state S.Store conn.new) → Fails (RunFails RULE_PROTEST.now
         (ruling_params key.now (Some ruling)) (state S.Store conn.old) (state S.Store conn.new)) result }
 {
@@ -360,7 +364,8 @@ pub(crate) fn rule_protest<S: Alter>(
     ruling: Ruling,
 ) -> Result<(), StoreFault>
     requires hall { IsHall (state S.Store conn.old) }
-    ensures wrote { Wrote (RuleProtest key.now ruling) (state S.Store conn.old) (state S.Store conn.new) result }
+    ensures wrote { MakesInTables (RuleProtest key.now ruling) (state S.Store conn.old) (state S.Store conn.new)
+        result }
     ensures cause { HasCleanDisk (state S.Store conn.new) → Fails (RuleFails key.now ruling
         (state S.Store conn.old) (state S.Store conn.new)) result }
 {

@@ -11,16 +11,18 @@ ghost use Rattle.hall_policy.specs.Ranges.{IsPuzzleKey, IsState};
 ghost use Rattle.hall_store.specs.declared.change.Change.TheVariants.{PutPuzzle, SetState};
 ghost use Rattle.sqlite.specs.Values.{bound};
 ghost use Rattle.hall_sql.specs.Fill.{AddsPuzzle};
-ghost use Rattle.hall_sql.specs.Inside.{Carries, Did};
+ghost use Rattle.hall_sql.specs.Inside.{LeadsUncommitted, MakesInside};
 ghost use Rattle.hall_sql.specs.PuzzleText.{HasPuzzleRow};
 ghost use Rattle.hall_sql.specs.Columns.{puzzle_params, HasSoMany, state_code, solution_of};
-ghost use Rattle.hall_sql.specs.Standing.{IsHall, Rested, Stayed, RestedAny, Wrote, content_of, Lasts};
+ghost use Rattle.hall_sql.specs.Standing.{IsHall, KeptTables, KeptRows, KeptAnyTables, MakesInTables, content_of};
+ghost use Rattle.hall_sql.specs.Standing.{LeadsConnection};
 ghost use Rattle.sqlite.specs.declared.types.Value.TheVariants.{Text};
 ghost use Rattle.hall_sql.specs.Rows.{puzzle_row_in};
 ghost use Rattle.hall_sql.specs.Whole.{AreRecords};
 ghost use Rattle.hall_sql.specs.Cause.{IsStoreCause, ReadFails, FindFails};
 ghost use Rattle.hall_sql.specs.Versions.{IsAnyHall};
-ghost use Rattle.hall_sql.specs.WriteCause.{Ran, RunFails, PuzzleIsRefused, PutPuzzleFails, SetStateFails};
+ghost use Rattle.hall_sql.specs.WriteCause.{ExecutesOrRefuses, RunFails, PuzzleIsRefused, PutPuzzleFails};
+ghost use Rattle.hall_sql.specs.WriteCause.{SetStateFails};
 
 use crate::calls::{ask, run, run_in};
 use crate::reads::{find, read, read_any};
@@ -42,7 +44,7 @@ pub(crate) fn puzzle<S: Alter>(
     key: &PuzzleKey,
 ) -> Result<Option<PuzzleRow>, StoreFault>
     requires hall { IsHall (state S.Store conn.old) }
-    ensures rested { Rested (state S.Store conn.old) (state S.Store conn.new) }
+    ensures rested { KeptTables (state S.Store conn.old) (state S.Store conn.new) }
     ensures served { Served (content_of (state S.Store conn.new)) result
         (λ world found. found ≡ get world.puzzles key.now) }
     ensures whole { HasCleanDisk (state S.Store conn.new) → IfOk result (λ _.
@@ -70,7 +72,7 @@ pub(crate) fn all_puzzles<S: Alter>(
     alloc: Global,
 ) -> Result<Vec<PuzzleRow>, StoreFault>
     requires hall { IsAnyHall (state S.Store conn.old) }
-    ensures rested { RestedAny (state S.Store conn.old) (state S.Store conn.new) }
+    ensures rested { KeptAnyTables (state S.Store conn.old) (state S.Store conn.new) }
     ensures served { Served (content_of (state S.Store conn.new)) result
         (λ world rows. rows.items ≡ values world.puzzles) }
     ensures whole { HasCleanDisk (state S.Store conn.new) → IfOk result (λ _.
@@ -95,7 +97,7 @@ pub(crate) fn puzzles_of<S: Alter>(
     author: &Name,
 ) -> Result<Vec<PuzzleRow>, StoreFault>
     requires hall { IsHall (state S.Store conn.old) }
-    ensures rested { Rested (state S.Store conn.old) (state S.Store conn.new) }
+    ensures rested { KeptTables (state S.Store conn.old) (state S.Store conn.new) }
     ensures served { Served (content_of (state S.Store conn.new)) result
         (λ world rows. rows.items ≡ puzzles_of world author.now) }
     ensures whole { HasCleanDisk (state S.Store conn.new) → IfOk result (λ _.
@@ -116,7 +118,7 @@ pub(crate) fn puzzles_put<S: Alter>(
     author: &Name,
 ) -> Result<u64, StoreFault>
     requires hall { IsHall (state S.Store conn.old) }
-    ensures rested { Rested (state S.Store conn.old) (state S.Store conn.new) }
+    ensures rested { KeptTables (state S.Store conn.old) (state S.Store conn.new) }
     ensures served { Served (content_of (state S.Store conn.new)) result
         (λ world count. count ≡ puzzles_put world author.now) }
     ensures whole { HasCleanDisk (state S.Store conn.new) → IfOk result (λ _.
@@ -167,7 +169,7 @@ const LOOK_PUZZLE: &str = "SELECT author FROM puzzles WHERE author = ?1 AND labe
 /// How many rows stand under the key: none or one.
 fn look<S: Alter>(conn: &mut Connection<S>, key: &PuzzleKey) -> Result<usize, StoreFault>
     requires hall { IsHall (state S.Store conn.old) }
-    ensures rested { Rested (state S.Store conn.old) (state S.Store conn.new) }
+    ensures rested { KeptTables (state S.Store conn.old) (state S.Store conn.new) }
     ensures serves { HasCleanDisk (state S.Store conn.new) → IfOk result
         (λ _. IsTrue (state S.Store conn.new).is_open) }
     ensures found { HasCleanDisk (state S.Store conn.new) → IfOk result
@@ -215,12 +217,13 @@ fn write<S: Alter>(
 ) -> Result<usize, StoreFault>
     requires hall { IsHall (state S.Store conn.old) }
     ensures in_range { IsState row.now.state }
-    ensures lasts { Lasts (state S.Store conn.old) (state S.Store conn.new) }
-    ensures refused { OnErr result (Stayed (state S.Store conn.old) (state S.Store conn.new)) }
+    ensures lasts { LeadsConnection (state S.Store conn.old) (state S.Store conn.new) }
+    ensures refused { OnErr result (KeptRows (state S.Store conn.old) (state S.Store conn.new)) }
     ensures survives { Survives (state S.Store conn.old) (state S.Store conn.new)
         (CommitsBy sql.now (puzzle_params text.now row.now) (state S.Store conn.old)) }
     ensures runs { HasCleanDisk (state S.Store conn.new) →
-        Ran sql.now (puzzle_params text.now row.now) (state S.Store conn.old) (state S.Store conn.new) result }
+        ExecutesOrRefuses sql.now (puzzle_params text.now row.now) (state S.Store conn.old) (state S.Store conn.new)
+        result }
 {
     run(conn, sql, &columns(row, text))
 }
@@ -232,9 +235,9 @@ pub(crate) fn add_inside<S: Alter>(
     row: &PuzzleRow,
 ) -> Result<(), StoreFault>
     ensures same_reference { tx.new.conn.ghost_name ≡ tx.old.conn.ghost_name }
-    ensures carries { Carries (state S.Store tx.old.conn.now) (state S.Store tx.new.conn.now) }
+    ensures carries { LeadsUncommitted (state S.Store tx.old.conn.now) (state S.Store tx.new.conn.now) }
     ensures done { HasCleanDisk (state S.Store tx.new.conn.now) → IsTrue (state S.Store tx.old.conn.now).in_transaction
-        → OnOk result (Did (λ a b. AddsPuzzle a row.now b) (state S.Store tx.old.conn.now)
+        → OnOk result (MakesInside (λ a b. AddsPuzzle a row.now b) (state S.Store tx.old.conn.now)
         (state S.Store tx.new.conn.now)) }
 {
     in_range(&row.key);
@@ -253,7 +256,7 @@ fn put_new<S: Alter>(
     requires spells { SpellsText text.now row.now.puzzle }
     requires canonical { CanonicalText text.now row.now.puzzle }
     requires found { HasCleanDisk (state S.Store conn.old) → HasSoMany row.now.key (state S.Store conn.old) 0 }
-    ensures wrote { Wrote (PutPuzzle row.now) (state S.Store conn.old) (state S.Store conn.new) result }
+    ensures wrote { MakesInTables (PutPuzzle row.now) (state S.Store conn.old) (state S.Store conn.new) result }
     ensures text { HasCleanDisk (state S.Store conn.new)
         → OnOk result (HasPuzzleRow row.now (state S.Store conn.new).now) }
     ensures cause { HasCleanDisk (state S.Store conn.new) → Fails (RunFails ADD_PUZZLE.now
@@ -276,7 +279,7 @@ fn put_over<S: Alter>(
     requires spells { SpellsText text.now row.now.puzzle }
     requires canonical { CanonicalText text.now row.now.puzzle }
     requires found { HasCleanDisk (state S.Store conn.old) → HasSoMany row.now.key (state S.Store conn.old) 1 }
-    ensures wrote { Wrote (PutPuzzle row.now) (state S.Store conn.old) (state S.Store conn.new) result }
+    ensures wrote { MakesInTables (PutPuzzle row.now) (state S.Store conn.old) (state S.Store conn.new) result }
     ensures text { HasCleanDisk (state S.Store conn.new)
         → OnOk result (HasPuzzleRow row.now (state S.Store conn.new).now) }
     ensures cause { HasCleanDisk (state S.Store conn.new) → Fails (RunFails REPLACE_PUZZLE.now
@@ -300,7 +303,7 @@ fn put_found<S: Alter>(
     requires spells { SpellsText text.now row.now.puzzle }
     requires canonical { CanonicalText text.now row.now.puzzle }
     requires found { HasCleanDisk (state S.Store conn.old) → HasSoMany row.now.key (state S.Store conn.old) count }
-    ensures wrote { Wrote (PutPuzzle row.now) (state S.Store conn.old) (state S.Store conn.new) result }
+    ensures wrote { MakesInTables (PutPuzzle row.now) (state S.Store conn.old) (state S.Store conn.new) result }
     ensures text { HasCleanDisk (state S.Store conn.new)
         → OnOk result (HasPuzzleRow row.now (state S.Store conn.new).now) }
     ensures cause { HasCleanDisk (state S.Store conn.new) → Fails (IsStoreCause (state S.Store conn.old)
@@ -320,7 +323,7 @@ pub(crate) fn put_puzzle<S: Alter>(
     row: &PuzzleRow,
 ) -> Result<(), StoreFault>
     requires hall { IsHall (state S.Store conn.old) }
-    ensures wrote { Wrote (PutPuzzle row.now) (state S.Store conn.old) (state S.Store conn.new) result }
+    ensures wrote { MakesInTables (PutPuzzle row.now) (state S.Store conn.old) (state S.Store conn.new) result }
     ensures text { HasCleanDisk (state S.Store conn.new)
         → OnOk result (HasPuzzleRow row.now (state S.Store conn.new).now) }
     ensures cause { HasCleanDisk (state S.Store conn.new) → Fails (PutPuzzleFails row.now
@@ -339,7 +342,8 @@ fn put_state<S: Alter>(
     known: PuzzleState,
 ) -> Result<(), StoreFault>
     requires hall { IsHall (state S.Store conn.old) }
-    ensures wrote { Wrote (PutPuzzle (record row { state = known })) (state S.Store conn.old) (state S.Store conn.new)
+    ensures wrote { MakesInTables (PutPuzzle (record row { state = known })) (state S.Store conn.old)
+        (state S.Store conn.new)
         result }
     ensures cause { HasCleanDisk (state S.Store conn.new) → Fails (PutPuzzleFails
         (record row { state = known }) (state S.Store conn.old) (state S.Store conn.new)) result }
@@ -360,7 +364,7 @@ pub(crate) fn set_state<S: Alter>(
     known: PuzzleState,
 ) -> Result<(), StoreFault>
     requires hall { IsHall (state S.Store conn.old) }
-    ensures wrote { Wrote (SetState key.now known) (state S.Store conn.old) (state S.Store conn.new) result }
+    ensures wrote { MakesInTables (SetState key.now known) (state S.Store conn.old) (state S.Store conn.new) result }
     ensures cause { HasCleanDisk (state S.Store conn.new) → Fails (SetStateFails key.now known
         (state S.Store conn.old) (state S.Store conn.new)) result }
 {

@@ -4,7 +4,7 @@ ghost use Rattle.sqlite.specs.Values.{bound};
 ghost use Rattle.sqlite.specs.Held.{state};
 ghost use Rattle.sqlite.specs.State.{HasCleanDisk};
 ghost use Rattle.hall_store.specs.Store.{Fails};
-ghost use Rattle.hall_sql.specs.Standing.{IsHall, IsOver, Rested, RestedAny};
+ghost use Rattle.hall_sql.specs.Standing.{IsHall, IsOver, KeptTables, KeptAnyTables};
 ghost use Rattle.hall_sql.specs.Asked.{IsAsked, IsAskedIn};
 ghost use Rattle.hall_sql.specs.Cause.{ReadFails, FindFails, AreRead, IsFound};
 
@@ -23,7 +23,7 @@ pub(crate) fn read_any<S: Alter, T: Record + Drop>(
     params: &[ValueRef<'_>],
 ) -> Result<Vec<T>, StoreFault>
     requires asks { IsOver (IsAskedIn sql.now (bound params.now)) (state S.Store conn.old) }
-    ensures rested { RestedAny (state S.Store conn.old) (state S.Store conn.new) }
+    ensures rested { KeptAnyTables (state S.Store conn.old) (state S.Store conn.new) }
     ensures read { HasCleanDisk (state S.Store conn.new) → IfOk result (λ records.
         AreRead T.Record.read sql.now (bound params.now) (state S.Store conn.old) (state S.Store conn.new)
         records.items) }
@@ -43,7 +43,7 @@ pub(crate) fn read<S: Alter, T: Record + Drop>(
 ) -> Result<Vec<T>, StoreFault>
     requires asks { IsAsked sql.now (bound params.now) }
     requires hall { IsHall (state S.Store conn.old) }
-    ensures rested { Rested (state S.Store conn.old) (state S.Store conn.new) }
+    ensures rested { KeptTables (state S.Store conn.old) (state S.Store conn.new) }
     ensures read { HasCleanDisk (state S.Store conn.new) → IfOk result (λ records.
         AreRead T.Record.read sql.now (bound params.now) (state S.Store conn.old) (state S.Store conn.new)
         records.items) }
@@ -62,7 +62,7 @@ pub(crate) fn find<S: Alter, T: Record + Drop>(
 ) -> Result<Option<T>, StoreFault>
     requires asks { IsAsked sql.now (bound params.now) }
     requires hall { IsHall (state S.Store conn.old) }
-    ensures rested { Rested (state S.Store conn.old) (state S.Store conn.new) }
+    ensures rested { KeptTables (state S.Store conn.old) (state S.Store conn.new) }
     ensures found { HasCleanDisk (state S.Store conn.new) → IfOk result
         (IsFound T.Record.read sql.now (bound params.now) (state S.Store conn.old) (state S.Store conn.new)) }
     ensures cause { HasCleanDisk (state S.Store conn.new) → Fails

@@ -8,12 +8,12 @@ ghost use Rattle.hall_policy.specs.Ranges.{IsRound, IsWithin, IsEntry};
 ghost use Rattle.hall_store.specs.Store.{Served};
 ghost use Rattle.hall_store.specs.Change.{flagged};
 ghost use Rattle.hall_store.specs.declared.change.Change.TheVariants.{PutRound, SetRoundFlag};
-ghost use Rattle.hall_sql.specs.Inside.{Carries, Did, Changes};
+ghost use Rattle.hall_sql.specs.Inside.{LeadsUncommitted, MakesInside, Changes};
 ghost use Rattle.hall_sql.specs.Fill.{AddsHead};
 ghost use Rattle.hall_sql.specs.RoundColumns.{mode_code, head_params, place_params, IsHead};
 ghost use Rattle.hall_sql.specs.RoundPuts.{CountsHeads, PutsHead, PutsHeadOver, DropsPlaces, PutsPlace, PutsPlaces};
 ghost use Rattle.hall_sql.specs.RoundPuts.{PutsList, PutsRows};
-ghost use Rattle.hall_sql.specs.Standing.{IsHall, Rested, Wrote, content_of};
+ghost use Rattle.hall_sql.specs.Standing.{IsHall, KeptTables, MakesInTables, content_of};
 ghost use Rattle.sqlite.specs.declared.types.Value.TheVariants.{Text};
 ghost use Rattle.hall_store.specs.Store.{Fails};
 ghost use Rattle.hall_sql.specs.Cause.{IsStoreCause};
@@ -94,7 +94,8 @@ fn set_flag<S: Alter>(
 ) -> Result<(), StoreFault>
     requires hall { IsHall (state S.Store conn.old) }
     requires found { HasCleanDisk (state S.Store conn.old) → IsHead round.id (state S.Store conn.old) round }
-    ensures wrote { Wrote (SetRoundFlag round.id flag) (state S.Store conn.old) (state S.Store conn.new) result }
+    ensures wrote { MakesInTables (SetRoundFlag round.id flag) (state S.Store conn.old) (state S.Store conn.new)
+        result }
     ensures cause { HasCleanDisk (state S.Store conn.new) → Fails (RunFails REPLACE_HEAD.now
         (head_params (flagged flag round)) (state S.Store conn.old) (state S.Store conn.new)) result }
 {
@@ -114,7 +115,7 @@ pub(crate) fn set_round_flag<S: Alter>(
     flag: RoundFlag,
 ) -> Result<(), StoreFault>
     requires hall { IsHall (state S.Store conn.old) }
-    ensures wrote { Wrote (SetRoundFlag id.now flag) (state S.Store conn.old) (state S.Store conn.new) result }
+    ensures wrote { MakesInTables (SetRoundFlag id.now flag) (state S.Store conn.old) (state S.Store conn.new) result }
     ensures cause { HasCleanDisk (state S.Store conn.new) → Fails (SetFlagFails id.now flag
         (state S.Store conn.old) (state S.Store conn.new)) result }
 {
@@ -130,9 +131,9 @@ const LOOK_HEAD: &str = "SELECT id FROM rounds WHERE id = ?1";
 /// How many rows stand under the id: none or one.
 fn look<S: Alter>(tx: &mut Transaction<'_, S>, id: &RoundId) -> Result<usize, StoreFault>
     ensures same_reference { tx.new.conn.ghost_name ≡ tx.old.conn.ghost_name }
-    ensures carries { Carries (state S.Store tx.old.conn.now) (state S.Store tx.new.conn.now) }
+    ensures carries { LeadsUncommitted (state S.Store tx.old.conn.now) (state S.Store tx.new.conn.now) }
     ensures done { HasCleanDisk (state S.Store tx.new.conn.now) → IsTrue (state S.Store tx.old.conn.now).in_transaction
-        → IfOk result (λ count. Did (CountsHeads id.now count) (state S.Store tx.old.conn.now)
+        → IfOk result (λ count. MakesInside (CountsHeads id.now count) (state S.Store tx.old.conn.now)
         (state S.Store tx.new.conn.now)) }
     ensures cause { InsideFails (state S.Store tx.old.conn.now) (state S.Store tx.new.conn.now)
         (IsStoreCause (state S.Store tx.old.conn.now) (state S.Store tx.new.conn.now)) result }
@@ -151,12 +152,12 @@ pub(crate) fn put_new<S: Alter>(
     round: &Round,
 ) -> Result<(), StoreFault>
     ensures same_reference { tx.new.conn.ghost_name ≡ tx.old.conn.ghost_name }
-    ensures carries { Carries (state S.Store tx.old.conn.now) (state S.Store tx.new.conn.now) }
+    ensures carries { LeadsUncommitted (state S.Store tx.old.conn.now) (state S.Store tx.new.conn.now) }
     ensures done { HasCleanDisk (state S.Store tx.new.conn.now) → IsTrue (state S.Store tx.old.conn.now).in_transaction
         → OnOk result (PutsHeadOver 0 round.now (state S.Store tx.old.conn.now)
         (state S.Store tx.new.conn.now)) }
     ensures added { HasCleanDisk (state S.Store tx.new.conn.now) → IsTrue (state S.Store tx.old.conn.now).in_transaction
-        → OnOk result (Did (λ a b. AddsHead a round.now b) (state S.Store tx.old.conn.now)
+        → OnOk result (MakesInside (λ a b. AddsHead a round.now b) (state S.Store tx.old.conn.now)
         (state S.Store tx.new.conn.now)) }
     ensures cause { InsideFails (state S.Store tx.old.conn.now) (state S.Store tx.new.conn.now)
         (RunFails ADD_HEAD.now (head_params round.now) (state S.Store tx.old.conn.now)
@@ -170,7 +171,7 @@ pub(crate) fn put_new<S: Alter>(
 /// Stores the round's head in the place of the one under its id.
 fn put_over<S: Alter>(tx: &mut Transaction<'_, S>, round: &Round) -> Result<(), StoreFault>
     ensures same_reference { tx.new.conn.ghost_name ≡ tx.old.conn.ghost_name }
-    ensures carries { Carries (state S.Store tx.old.conn.now) (state S.Store tx.new.conn.now) }
+    ensures carries { LeadsUncommitted (state S.Store tx.old.conn.now) (state S.Store tx.new.conn.now) }
     ensures done { HasCleanDisk (state S.Store tx.new.conn.now) → IsTrue (state S.Store tx.old.conn.now).in_transaction
         → OnOk result (PutsHeadOver 1 round.now (state S.Store tx.old.conn.now)
         (state S.Store tx.new.conn.now)) }
@@ -186,9 +187,9 @@ fn put_over<S: Alter>(tx: &mut Transaction<'_, S>, round: &Round) -> Result<(), 
 /// Stores the round's head, in the place of the one under its id.
 fn put_head<S: Alter>(tx: &mut Transaction<'_, S>, round: &Round) -> Result<(), StoreFault>
     ensures same_reference { tx.new.conn.ghost_name ≡ tx.old.conn.ghost_name }
-    ensures carries { Carries (state S.Store tx.old.conn.now) (state S.Store tx.new.conn.now) }
+    ensures carries { LeadsUncommitted (state S.Store tx.old.conn.now) (state S.Store tx.new.conn.now) }
     ensures done { HasCleanDisk (state S.Store tx.new.conn.now) → IsTrue (state S.Store tx.old.conn.now).in_transaction
-        → OnOk result (Did (PutsHead round.now) (state S.Store tx.old.conn.now)
+        → OnOk result (MakesInside (PutsHead round.now) (state S.Store tx.old.conn.now)
         (state S.Store tx.new.conn.now)) }
     ensures cause { InsideFails (state S.Store tx.old.conn.now) (state S.Store tx.new.conn.now)
         (IsStoreCause (state S.Store tx.old.conn.now) (state S.Store tx.new.conn.now)
@@ -207,9 +208,9 @@ const DROP_PLACES: &str = "DELETE FROM round_puzzles WHERE round = ?1";
 /// Takes out the places of the round.
 fn drop_places<S: Alter>(tx: &mut Transaction<'_, S>, id: &RoundId) -> Result<(), StoreFault>
     ensures same_reference { tx.new.conn.ghost_name ≡ tx.old.conn.ghost_name }
-    ensures carries { Carries (state S.Store tx.old.conn.now) (state S.Store tx.new.conn.now) }
+    ensures carries { LeadsUncommitted (state S.Store tx.old.conn.now) (state S.Store tx.new.conn.now) }
     ensures done { HasCleanDisk (state S.Store tx.new.conn.now) → IsTrue (state S.Store tx.old.conn.now).in_transaction
-        → OnOk result (Did (DropsPlaces id.now) (state S.Store tx.old.conn.now)
+        → OnOk result (MakesInside (DropsPlaces id.now) (state S.Store tx.old.conn.now)
         (state S.Store tx.new.conn.now)) }
     ensures cause { InsideFails (state S.Store tx.old.conn.now) (state S.Store tx.new.conn.now)
         (RunFails DROP_PLACES.now (Text id.now ∷ []) (state S.Store tx.old.conn.now)
@@ -241,9 +242,9 @@ pub(crate) fn put_place<S: Alter>(
 ) -> Result<(), StoreFault>
     requires numbered { IsWithin 1 99 number }
     ensures same_reference { tx.new.conn.ghost_name ≡ tx.old.conn.ghost_name }
-    ensures carries { Carries (state S.Store tx.old.conn.now) (state S.Store tx.new.conn.now) }
+    ensures carries { LeadsUncommitted (state S.Store tx.old.conn.now) (state S.Store tx.new.conn.now) }
     ensures done { HasCleanDisk (state S.Store tx.new.conn.now) → IsTrue (state S.Store tx.old.conn.now).in_transaction
-        → OnOk result (Did (PutsPlace id.now number entry.now) (state S.Store tx.old.conn.now)
+        → OnOk result (MakesInside (PutsPlace id.now number entry.now) (state S.Store tx.old.conn.now)
         (state S.Store tx.new.conn.now)) }
     ensures cause { InsideFails (state S.Store tx.old.conn.now) (state S.Store tx.new.conn.now)
         (RunFails ADD_PLACE.now (place_params id.now number entry.now)
@@ -272,9 +273,9 @@ fn put_places<S: Alter>(
 ) -> Result<(), StoreFault>
     requires few { length entries.now ≤ 40 }
     ensures same_reference { tx.new.conn.ghost_name ≡ tx.old.conn.ghost_name }
-    ensures carries { Carries (state S.Store tx.old.conn.now) (state S.Store tx.new.conn.now) }
+    ensures carries { LeadsUncommitted (state S.Store tx.old.conn.now) (state S.Store tx.new.conn.now) }
     ensures done { HasCleanDisk (state S.Store tx.new.conn.now) → IsTrue (state S.Store tx.old.conn.now).in_transaction
-        → OnOk result (Did (PutsPlaces id.now entries.now) (state S.Store tx.old.conn.now)
+        → OnOk result (MakesInside (PutsPlaces id.now entries.now) (state S.Store tx.old.conn.now)
         (state S.Store tx.new.conn.now)) }
     ensures cause { InsideFails (state S.Store tx.old.conn.now) (state S.Store tx.new.conn.now)
         (IsStoreCause (state S.Store tx.old.conn.now) (state S.Store tx.new.conn.now)
@@ -296,9 +297,9 @@ fn put_list<S: Alter>(
 ) -> Result<(), StoreFault>
     requires few { length entries.now ≤ 40 }
     ensures same_reference { tx.new.conn.ghost_name ≡ tx.old.conn.ghost_name }
-    ensures carries { Carries (state S.Store tx.old.conn.now) (state S.Store tx.new.conn.now) }
+    ensures carries { LeadsUncommitted (state S.Store tx.old.conn.now) (state S.Store tx.new.conn.now) }
     ensures done { HasCleanDisk (state S.Store tx.new.conn.now) → IsTrue (state S.Store tx.old.conn.now).in_transaction
-        → OnOk result (Did (PutsList id.now entries.now) (state S.Store tx.old.conn.now)
+        → OnOk result (MakesInside (PutsList id.now entries.now) (state S.Store tx.old.conn.now)
         (state S.Store tx.new.conn.now)) }
     ensures cause { InsideFails (state S.Store tx.old.conn.now) (state S.Store tx.new.conn.now)
         (IsStoreCause (state S.Store tx.old.conn.now) (state S.Store tx.new.conn.now)
@@ -311,12 +312,12 @@ fn put_list<S: Alter>(
 /// Stores the round's head, and its list and its testers in the place of those before.
 fn put_inside<S: Alter>(tx: &mut Transaction<'_, S>, row: &RoundRow) -> Result<(), StoreFault>
     ensures same_reference { tx.new.conn.ghost_name ≡ tx.old.conn.ghost_name }
-    ensures carries { Carries (state S.Store tx.old.conn.now) (state S.Store tx.new.conn.now) }
+    ensures carries { LeadsUncommitted (state S.Store tx.old.conn.now) (state S.Store tx.new.conn.now) }
     ensures done { HasCleanDisk (state S.Store tx.new.conn.now) → IsTrue (state S.Store tx.old.conn.now).in_transaction
-        → OnOk result (Did (Changes (PutRound row.now)) (state S.Store tx.old.conn.now)
+        → OnOk result (MakesInside (Changes (PutRound row.now)) (state S.Store tx.old.conn.now)
         (state S.Store tx.new.conn.now)) }
     ensures rows { HasCleanDisk (state S.Store tx.new.conn.now) → IsTrue (state S.Store tx.old.conn.now).in_transaction
-        → OnOk result (Did (PutsRows row.now) (state S.Store tx.old.conn.now)
+        → OnOk result (MakesInside (PutsRows row.now) (state S.Store tx.old.conn.now)
         (state S.Store tx.new.conn.now)) }
     ensures cause { InsideFails (state S.Store tx.old.conn.now) (state S.Store tx.new.conn.now)
         (PutRoundFails row.now (state S.Store tx.old.conn.now) (state S.Store tx.new.conn.now)) result }
@@ -332,7 +333,7 @@ pub(crate) fn put_round<S: Alter>(
     row: &RoundRow,
 ) -> Result<(), StoreFault>
     requires hall { IsHall (state S.Store conn.old) }
-    ensures wrote { Wrote (PutRound row.now) (state S.Store conn.old) (state S.Store conn.new) result }
+    ensures wrote { MakesInTables (PutRound row.now) (state S.Store conn.old) (state S.Store conn.new) result }
     ensures rows { HasCleanDisk (state S.Store conn.new) → OnOk result
         (PutsRows row.now (state S.Store conn.old).now (state S.Store conn.new).now) }
     ensures cause { HasCleanDisk (state S.Store conn.new) → Fails (PutRoundFails row.now

@@ -9,7 +9,7 @@ ghost use Rattle.hall_policy.specs.World.{World, same_text};
 ghost use Rattle.hall_store.specs.Store.{Served, Fails, AreUsing, AreTestersOf, IsRoundKept};
 ghost use Rattle.hall_sql.specs.Places.{is_in_round, ArePlaces, ArePlacesWith, AreListed, AreNumbered};
 ghost use Rattle.hall_sql.specs.RoundColumns.{IsHead};
-ghost use Rattle.hall_sql.specs.Standing.{IsHall, Rested, RestedAny, content_of};
+ghost use Rattle.hall_sql.specs.Standing.{IsHall, KeptTables, KeptAnyTables, content_of};
 ghost use Rattle.hall_sql.specs.Versions.{IsAnyHall};
 ghost use Rattle.sqlite.specs.declared.types.Value.TheVariants.{Text};
 ghost use Rattle.hall_sql.specs.Rows.{place_in, round_in};
@@ -36,7 +36,7 @@ pub(crate) fn rounds<S: Alter>(
     alloc: Global,
 ) -> Result<Vec<Round>, StoreFault>
     requires hall { IsAnyHall (state S.Store conn.old) }
-    ensures rested { RestedAny (state S.Store conn.old) (state S.Store conn.new) }
+    ensures rested { KeptAnyTables (state S.Store conn.old) (state S.Store conn.new) }
     ensures served { Served (content_of (state S.Store conn.new)) result
         (λ world rounds. rounds.items ≡ values world.rounds) }
     ensures whole { HasCleanDisk (state S.Store conn.new) → IfOk result (λ _.
@@ -60,7 +60,7 @@ fn places_with<S: Alter>(
     key: &PuzzleKey,
 ) -> Result<Vec<Place>, StoreFault>
     requires hall { IsHall (state S.Store conn.old) }
-    ensures rested { Rested (state S.Store conn.old) (state S.Store conn.new) }
+    ensures rested { KeptTables (state S.Store conn.old) (state S.Store conn.new) }
     ensures served { Served (content_of (state S.Store conn.new)) result
         (λ world places. ArePlacesWith world key.now places.items) }
     ensures whole { HasCleanDisk (state S.Store conn.new) → IfOk result (λ _.
@@ -89,7 +89,7 @@ pub(crate) fn all_places<S: Alter>(
     alloc: Global,
 ) -> Result<Vec<Place>, StoreFault>
     requires hall { IsAnyHall (state S.Store conn.old) }
-    ensures rested { RestedAny (state S.Store conn.old) (state S.Store conn.new) }
+    ensures rested { KeptAnyTables (state S.Store conn.old) (state S.Store conn.new) }
     ensures served { Served (content_of (state S.Store conn.new)) result
         (λ world places. places.items ≡ entries world.places) }
     ensures whole { HasCleanDisk (state S.Store conn.new) → IfOk result (λ _.
@@ -134,7 +134,7 @@ pub(crate) fn rounds_using<S: Alter>(
     key: &PuzzleKey,
 ) -> Result<Vec<RoundId>, StoreFault>
     requires hall { IsHall (state S.Store conn.old) }
-    ensures rested { Rested (state S.Store conn.old) (state S.Store conn.new) }
+    ensures rested { KeptTables (state S.Store conn.old) (state S.Store conn.new) }
     ensures served { Served (content_of (state S.Store conn.new)) result
         (λ world ids. AreUsing world key.now ids.items) }
     ensures whole { HasCleanDisk (state S.Store conn.new) → IfOk result (λ _.
@@ -160,7 +160,7 @@ pub(crate) fn head<S: Alter>(
     id: &RoundId,
 ) -> Result<Option<Round>, StoreFault>
     requires hall { IsHall (state S.Store conn.old) }
-    ensures rested { Rested (state S.Store conn.old) (state S.Store conn.new) }
+    ensures rested { KeptTables (state S.Store conn.old) (state S.Store conn.new) }
     ensures served { Served (content_of (state S.Store conn.new)) result
         (λ world found. found ≡ get world.rounds id.now) }
     ensures alone { HasCleanDisk (state S.Store conn.new) → IfOk result
@@ -185,7 +185,7 @@ fn places_of<S: Alter>(
     id: &RoundId,
 ) -> Result<Vec<Place>, StoreFault>
     requires hall { IsHall (state S.Store conn.old) }
-    ensures rested { Rested (state S.Store conn.old) (state S.Store conn.new) }
+    ensures rested { KeptTables (state S.Store conn.old) (state S.Store conn.new) }
     ensures served { Served (content_of (state S.Store conn.new)) result
         (λ world places. AreListed world id.now places.items) }
     ensures whole { HasCleanDisk (state S.Store conn.new) → IfOk result (λ _.
@@ -288,7 +288,7 @@ pub(crate) fn round<S: Alter>(
     id: &RoundId,
 ) -> Result<Option<RoundRow>, StoreFault>
     requires hall { IsHall (state S.Store conn.old) }
-    ensures rested { Rested (state S.Store conn.old) (state S.Store conn.new) }
+    ensures rested { KeptTables (state S.Store conn.old) (state S.Store conn.new) }
     ensures served { Served (content_of (state S.Store conn.new)) result
         (λ world found. IsRoundKept world id.now found) }
     ensures whole { HasCleanDisk (state S.Store conn.new) → IfOk result (λ _.

@@ -4,7 +4,7 @@ ghost use Rattle.sqlite.specs.Held.{state};
 ghost use Rattle.sqlite.specs.State.{HasCleanDisk};
 ghost use Rattle.hall_store.specs.Store.{Served};
 ghost use Rattle.hall_sql.specs.AllRead.{AreAllRead};
-ghost use Rattle.hall_sql.specs.Standing.{RestedAny, content_of};
+ghost use Rattle.hall_sql.specs.Standing.{KeptAnyTables, content_of};
 ghost use Rattle.hall_sql.specs.Tables.{old_schema};
 ghost use Rattle.hall_sql.specs.Versions.{IsAnyHall};
 ghost use Rattle.hall_sql.specs.WholeRows.{AreRowsOf, AreSameRows, count_of};
@@ -76,7 +76,7 @@ pub(crate) fn read_rows<S: Alter>(
     alloc: Global,
 ) -> Result<Rows, StoreFault>
     requires hall { IsAnyHall (state S.Store conn.old) }
-    ensures rested { RestedAny (state S.Store conn.old) (state S.Store conn.new) }
+    ensures rested { KeptAnyTables (state S.Store conn.old) (state S.Store conn.new) }
     ensures served { Served (content_of (state S.Store conn.new)) result (λ world rows. AreRowsOf world rows) }
     ensures whole { HasCleanDisk (state S.Store conn.new) → IfOk result (λ _.
         AreAllRead old_schema (state S.Store conn.old).now.trees) }

@@ -4,7 +4,7 @@ ghost use Rattle.sqlite.specs.Held.{state};
 ghost use Rattle.sqlite.specs.State.{HasCleanDisk, IsUnchanged};
 ghost use Rattle.std.specs.List.{AllByRecursion};
 ghost use Rattle.hall_sql.specs.Versions.{HasTable};
-ghost use Rattle.hall_sql.specs.Standing.{AddsNoOutcome, Rests, Lasts};
+ghost use Rattle.hall_sql.specs.Standing.{AddsNoOutcome, KeptOrRolledBack, LeadsConnection};
 ghost use Rattle.hall_sql.specs.Scan.{IsAbove, Scanned, IsTableKeyed, AreScanned};
 ghost use Rattle.hall_sql.specs.AdoptCause.{NextFails, ScanFails};
 ghost use Rattle.hall_store.specs.Store.{Fails};
@@ -27,10 +27,10 @@ fn is_above(last: Option<i64>, id: i64) -> bool
 /// The next rowid, which is above the last. Refused where it is not.
 fn next_id<S: Alter>(rows: &mut Rows<'_, S>, last: Option<i64>) -> Result<Option<i64>, StoreFault>
     ensures same_reference { rows.new.conn.ghost_name ≡ rows.old.conn.ghost_name }
-    ensures lasts { Lasts (state S.Store rows.old.conn.now) (state S.Store rows.new.conn.now) }
+    ensures lasts { LeadsConnection (state S.Store rows.old.conn.now) (state S.Store rows.new.conn.now) }
     ensures stops { AddsNoOutcome (state S.Store rows.old.conn.now) (state S.Store rows.new.conn.now) }
     ensures rests { HasCleanDisk (state S.Store rows.new.conn.now)
-        → Rests (state S.Store rows.old.conn.now) (state S.Store rows.new.conn.now) }
+        → KeptOrRolledBack (state S.Store rows.old.conn.now) (state S.Store rows.new.conn.now) }
     ensures scanned { HasCleanDisk (state S.Store rows.new.conn.now)
         → IfOk result (Scanned S.Store rows.old.conn.now rows.new.conn.now last) }
     ensures cause { HasCleanDisk (state S.Store rows.new.conn.now)
@@ -56,10 +56,10 @@ fn next_id<S: Alter>(rows: &mut Rows<'_, S>, last: Option<i64>) -> Result<Option
 /// Refused where a rowid of the table is no integer or stands twice.
 fn check_rowids<S: Alter>(conn: &mut Connection<S>, table: HallTable) -> Result<(), StoreFault>
     requires schema { HasCleanDisk (state S.Store conn.old) → HasTable conn.old.schema table }
-    ensures lasts { Lasts (state S.Store conn.old) (state S.Store conn.new) }
+    ensures lasts { LeadsConnection (state S.Store conn.old) (state S.Store conn.new) }
     ensures stops { AddsNoOutcome (state S.Store conn.old) (state S.Store conn.new) }
     ensures rests { HasCleanDisk (state S.Store conn.new)
-        → Rests (state S.Store conn.old) (state S.Store conn.new) }
+        → KeptOrRolledBack (state S.Store conn.old) (state S.Store conn.new) }
     ensures scanned { HasCleanDisk (state S.Store conn.new)
         → OnOk result (IsUnchanged (state S.Store conn.old) (state S.Store conn.new)
         × IsTableKeyed (state S.Store conn.old) table) }
@@ -87,10 +87,10 @@ pub(crate) fn check_all_rowids<S: Alter>(
     tables: &[HallTable],
 ) -> Result<(), StoreFault>
     requires schema { HasCleanDisk (state S.Store conn.old) → AllByRecursion (HasTable conn.old.schema) tables.now }
-    ensures lasts { Lasts (state S.Store conn.old) (state S.Store conn.new) }
+    ensures lasts { LeadsConnection (state S.Store conn.old) (state S.Store conn.new) }
     ensures stops { AddsNoOutcome (state S.Store conn.old) (state S.Store conn.new) }
     ensures refused { HasCleanDisk (state S.Store conn.new)
-        → OnErr result (Rests (state S.Store conn.old) (state S.Store conn.new)) }
+        → OnErr result (KeptOrRolledBack (state S.Store conn.old) (state S.Store conn.new)) }
     ensures scanned { HasCleanDisk (state S.Store conn.new)
         → OnOk result (AreScanned tables.now (state S.Store conn.old) (state S.Store conn.new)) }
     ensures cause { HasCleanDisk (state S.Store conn.new)

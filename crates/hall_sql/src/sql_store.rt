@@ -9,8 +9,8 @@ ghost use Rattle.hall_sql.specs.AdoptCause.{AdoptFails};
 ghost use Rattle.hall_sql.specs.AllRead.{AreAllRead};
 ghost use Rattle.hall_sql.specs.BadRows.{AreNone, AreToldBad};
 ghost use Rattle.hall_sql.specs.Made.{all_tables};
-ghost use Rattle.hall_sql.specs.Migrate.{Leaves, StopsAtWorld, Takes};
-ghost use Rattle.hall_sql.specs.Standing.{HasAdopted, HasDeclined, IsHall, MakesAtMost, Rested};
+ghost use Rattle.hall_sql.specs.Migrate.{Leaves, StopsAtWorld, TargetTakes};
+ghost use Rattle.hall_sql.specs.Standing.{HasAdopted, HasDeclined, IsHall, MakesAtMost, KeptTables};
 ghost use Rattle.hall_sql.specs.Tables.{hall_schema};
 ghost use Rattle.hall_sql.specs.WholeRows.{AreRowsOf};
 
@@ -103,7 +103,7 @@ impl<S: Alter + Drop> SqlStore<S> {
 
     /// The rows of the tables that are no record, table by table.
     pub fn bad_rows(&mut self, alloc: Global) -> Result<Vec<BadRows>, StoreFault>
-        ensures rested { Rested (state S.Store self.old) (state S.Store self.new) }
+        ensures rested { KeptTables (state S.Store self.old) (state S.Store self.new) }
         ensures bad { HasCleanDisk (state S.Store self.new) → IfOk result (λ bad.
             AreToldBad all_tables (state S.Store self.old) (state S.Store self.new) bad.items) }
         ensures whole { HasCleanDisk (state S.Store self.new) → IfOk result (λ bad.
@@ -118,7 +118,7 @@ impl<S: Alter + Drop> SqlStore<S> {
         ensures stops { (world : World) → AreRowsOf world rows.now → world.testers ≡ empty
             → StopsAtWorld world (state S.Store self.old) (state S.Store self.new) }
         ensures takes { (world : World) → AreRowsOf world rows.now → world.testers ≡ empty
-            → Takes world (state S.Store self.old) (state S.Store self.new) result }
+            → TargetTakes world (state S.Store self.old) (state S.Store self.new) result }
     {
         take_rows(&mut self.conn, alloc, rows)
     }
@@ -148,7 +148,7 @@ impl<S: Alter + Drop> ReadStore for SqlStore<S> {
     ghost use Rattle.hall_sql.specs.declared.testers.TheConstants.{TESTERS_OF};
     ghost use Rattle.hall_sql.specs.Whole.{AreRecords, IsRoundRead};
     ghost use Rattle.hall_sql.specs.Cause.{ReadFails, FeedFails, FindFails, RoundFails};
-    ghost use Rattle.hall_sql.specs.Standing.{Rested, content_of};
+    ghost use Rattle.hall_sql.specs.Standing.{KeptTables, content_of};
 
     ghost content = { λ s. content_of (state S.Store s) };
 
@@ -161,7 +161,7 @@ impl<S: Alter + Drop> ReadStore for SqlStore<S> {
 
     fn person_by_key(&mut self, alloc: Global, key: &Key) -> Result<Option<Person>, StoreFault>
         ensures kept { Kept (content_of (state S.Store self.old)) (content_of (state S.Store self.new)) }
-        ensures rested { Rested (state S.Store self.old) (state S.Store self.new) }
+        ensures rested { KeptTables (state S.Store self.old) (state S.Store self.new) }
         ensures served { Served (content_of (state S.Store self.new)) result
             (λ world found. IsKeyHolder world key.now found) }
         ensures fault { Fails (Unit {0}) result }
@@ -177,7 +177,7 @@ impl<S: Alter + Drop> ReadStore for SqlStore<S> {
 
     fn person(&mut self, alloc: Global, name: &Name) -> Result<Option<Person>, StoreFault>
         ensures kept { Kept (content_of (state S.Store self.old)) (content_of (state S.Store self.new)) }
-        ensures rested { Rested (state S.Store self.old) (state S.Store self.new) }
+        ensures rested { KeptTables (state S.Store self.old) (state S.Store self.new) }
         ensures served { Served (content_of (state S.Store self.new)) result
             (λ world found. found ≡ get world.people name.now) }
         ensures fault { Fails (Unit {0}) result }
@@ -193,7 +193,7 @@ impl<S: Alter + Drop> ReadStore for SqlStore<S> {
 
     fn people(&mut self, alloc: Global) -> Result<Vec<Person>, StoreFault>
         ensures kept { Kept (content_of (state S.Store self.old)) (content_of (state S.Store self.new)) }
-        ensures rested { Rested (state S.Store self.old) (state S.Store self.new) }
+        ensures rested { KeptTables (state S.Store self.old) (state S.Store self.new) }
         ensures served { Served (content_of (state S.Store self.new)) result
             (λ world people. people.items ≡ values world.people) }
         ensures fault { Fails (Unit {0}) result }
@@ -208,7 +208,7 @@ impl<S: Alter + Drop> ReadStore for SqlStore<S> {
 
     fn puzzle(&mut self, alloc: Global, key: &PuzzleKey) -> Result<Option<PuzzleRow>, StoreFault>
         ensures kept { Kept (content_of (state S.Store self.old)) (content_of (state S.Store self.new)) }
-        ensures rested { Rested (state S.Store self.old) (state S.Store self.new) }
+        ensures rested { KeptTables (state S.Store self.old) (state S.Store self.new) }
         ensures served { Served (content_of (state S.Store self.new)) result
             (λ world found. found ≡ get world.puzzles key.now) }
         ensures fault { Fails (Unit {0}) result }
@@ -225,7 +225,7 @@ impl<S: Alter + Drop> ReadStore for SqlStore<S> {
 
     fn puzzles_of(&mut self, alloc: Global, author: &Name) -> Result<Vec<PuzzleRow>, StoreFault>
         ensures kept { Kept (content_of (state S.Store self.old)) (content_of (state S.Store self.new)) }
-        ensures rested { Rested (state S.Store self.old) (state S.Store self.new) }
+        ensures rested { KeptTables (state S.Store self.old) (state S.Store self.new) }
         ensures served { Served (content_of (state S.Store self.new)) result
             (λ world rows. rows.items ≡ puzzles_of world author.now) }
         ensures fault { Fails (Unit {0}) result }
@@ -241,7 +241,7 @@ impl<S: Alter + Drop> ReadStore for SqlStore<S> {
 
     fn all_puzzles(&mut self, alloc: Global) -> Result<Vec<PuzzleRow>, StoreFault>
         ensures kept { Kept (content_of (state S.Store self.old)) (content_of (state S.Store self.new)) }
-        ensures rested { Rested (state S.Store self.old) (state S.Store self.new) }
+        ensures rested { KeptTables (state S.Store self.old) (state S.Store self.new) }
         ensures served { Served (content_of (state S.Store self.new)) result
             (λ world rows. rows.items ≡ values world.puzzles) }
         ensures fault { Fails (Unit {0}) result }
@@ -256,7 +256,7 @@ impl<S: Alter + Drop> ReadStore for SqlStore<S> {
 
     fn puzzles_put(&mut self, alloc: Global, author: &Name) -> Result<u64, StoreFault>
         ensures kept { Kept (content_of (state S.Store self.old)) (content_of (state S.Store self.new)) }
-        ensures rested { Rested (state S.Store self.old) (state S.Store self.new) }
+        ensures rested { KeptTables (state S.Store self.old) (state S.Store self.new) }
         ensures served { Served (content_of (state S.Store self.new)) result
             (λ world count. count ≡ puzzles_put world author.now) }
         ensures fault { Fails (Unit {0}) result }
@@ -272,7 +272,7 @@ impl<S: Alter + Drop> ReadStore for SqlStore<S> {
 
     fn round(&mut self, alloc: Global, id: &RoundId) -> Result<Option<RoundRow>, StoreFault>
         ensures kept { Kept (content_of (state S.Store self.old)) (content_of (state S.Store self.new)) }
-        ensures rested { Rested (state S.Store self.old) (state S.Store self.new) }
+        ensures rested { KeptTables (state S.Store self.old) (state S.Store self.new) }
         ensures served { Served (content_of (state S.Store self.new)) result
             (λ world found. IsRoundKept world id.now found) }
         ensures fault { Fails (Unit {0}) result }
@@ -286,7 +286,7 @@ impl<S: Alter + Drop> ReadStore for SqlStore<S> {
 
     fn testers_of(&mut self, alloc: Global, id: &RoundId) -> Result<Vec<Name>, StoreFault>
         ensures kept { Kept (content_of (state S.Store self.old)) (content_of (state S.Store self.new)) }
-        ensures rested { Rested (state S.Store self.old) (state S.Store self.new) }
+        ensures rested { KeptTables (state S.Store self.old) (state S.Store self.new) }
         ensures served { Served (content_of (state S.Store self.new)) result
             (λ world names. AreTestersOf world id.now names.items) }
         ensures fault { Fails (Unit {0}) result }
@@ -302,7 +302,7 @@ impl<S: Alter + Drop> ReadStore for SqlStore<S> {
 
     fn rounds(&mut self, alloc: Global) -> Result<Vec<Round>, StoreFault>
         ensures kept { Kept (content_of (state S.Store self.old)) (content_of (state S.Store self.new)) }
-        ensures rested { Rested (state S.Store self.old) (state S.Store self.new) }
+        ensures rested { KeptTables (state S.Store self.old) (state S.Store self.new) }
         ensures served { Served (content_of (state S.Store self.new)) result
             (λ world rounds. rounds.items ≡ values world.rounds) }
         ensures fault { Fails (Unit {0}) result }
@@ -317,7 +317,7 @@ impl<S: Alter + Drop> ReadStore for SqlStore<S> {
 
     fn rounds_using(&mut self, alloc: Global, key: &PuzzleKey) -> Result<Vec<RoundId>, StoreFault>
         ensures kept { Kept (content_of (state S.Store self.old)) (content_of (state S.Store self.new)) }
-        ensures rested { Rested (state S.Store self.old) (state S.Store self.new) }
+        ensures rested { KeptTables (state S.Store self.old) (state S.Store self.new) }
         ensures served { Served (content_of (state S.Store self.new)) result
             (λ world ids. AreUsing world key.now ids.items) }
         ensures fault { Fails (Unit {0}) result }
@@ -334,7 +334,7 @@ impl<S: Alter + Drop> ReadStore for SqlStore<S> {
 
     fn answer(&mut self, alloc: Global, key: &AnswerKey) -> Result<Option<AnswerRow>, StoreFault>
         ensures kept { Kept (content_of (state S.Store self.old)) (content_of (state S.Store self.new)) }
-        ensures rested { Rested (state S.Store self.old) (state S.Store self.new) }
+        ensures rested { KeptTables (state S.Store self.old) (state S.Store self.new) }
         ensures served { Served (content_of (state S.Store self.new)) result
             (λ world found. found ≡ get world.answers key.now) }
         ensures fault { Fails (Unit {0}) result }
@@ -358,7 +358,7 @@ impl<S: Alter + Drop> ReadStore for SqlStore<S> {
         number: PuzzleNumber,
     ) -> Result<u64, StoreFault>
         ensures kept { Kept (content_of (state S.Store self.old)) (content_of (state S.Store self.new)) }
-        ensures rested { Rested (state S.Store self.old) (state S.Store self.new) }
+        ensures rested { KeptTables (state S.Store self.old) (state S.Store self.new) }
         ensures served { Served (content_of (state S.Store self.new)) result
             (λ world count. count ≡ answers_given world entrant.now round.now number) }
         ensures fault { Fails (Unit {0}) result }
@@ -382,7 +382,7 @@ impl<S: Alter + Drop> ReadStore for SqlStore<S> {
         n: AnswerNumber,
     ) -> Result<bool, StoreFault>
         ensures kept { Kept (content_of (state S.Store self.old)) (content_of (state S.Store self.new)) }
-        ensures rested { Rested (state S.Store self.old) (state S.Store self.new) }
+        ensures rested { KeptTables (state S.Store self.old) (state S.Store self.new) }
         ensures served { Served (content_of (state S.Store self.new)) result
             (λ world taken. IsTrue taken ↔ IsNumberTaken world entrant.now round.now number n) }
         ensures fault { Fails (Unit {0}) result }
@@ -405,7 +405,7 @@ impl<S: Alter + Drop> ReadStore for SqlStore<S> {
         round: &RoundId,
     ) -> Result<Vec<AnswerRow>, StoreFault>
         ensures kept { Kept (content_of (state S.Store self.old)) (content_of (state S.Store self.new)) }
-        ensures rested { Rested (state S.Store self.old) (state S.Store self.new) }
+        ensures rested { KeptTables (state S.Store self.old) (state S.Store self.new) }
         ensures served { Served (content_of (state S.Store self.new)) result
             (λ world rows. IsListing world (is_of entrant.now round.now) rows.items) }
         ensures fault { Fails (Unit {0}) result }
@@ -421,7 +421,7 @@ impl<S: Alter + Drop> ReadStore for SqlStore<S> {
 
     fn answers_in(&mut self, alloc: Global, round: &RoundId) -> Result<Vec<AnswerRow>, StoreFault>
         ensures kept { Kept (content_of (state S.Store self.old)) (content_of (state S.Store self.new)) }
-        ensures rested { Rested (state S.Store self.old) (state S.Store self.new) }
+        ensures rested { KeptTables (state S.Store self.old) (state S.Store self.new) }
         ensures served { Served (content_of (state S.Store self.new)) result
             (λ world rows. IsListing world (is_in round.now) rows.items) }
         ensures fault { Fails (Unit {0}) result }
@@ -442,7 +442,7 @@ impl<S: Alter + Drop> ReadStore for SqlStore<S> {
         sink: &mut K,
     ) -> Result<(), StoreFault>
         ensures kept { Kept (content_of (state S.Store self.old)) (content_of (state S.Store self.new)) }
-        ensures rested { Rested (state S.Store self.old) (state S.Store self.new) }
+        ensures rested { KeptTables (state S.Store self.old) (state S.Store self.new) }
         ensures fed { Fed K.takes (λ world rows. IsListing world (is_in round.now) rows)
             (content_of (state S.Store self.old)) (content_of (state S.Store self.new)) sink.old result sink.new }
         ensures fault { IfErr result (λ fault. fault ≡ Failed → Unit {0} ⊎ IsRefusedNext K.takes K.refuses
@@ -465,7 +465,7 @@ impl<S: Alter + Drop> ReadStore for SqlStore<S> {
         round: &RoundId,
     ) -> Result<bool, StoreFault>
         ensures kept { Kept (content_of (state S.Store self.old)) (content_of (state S.Store self.new)) }
-        ensures rested { Rested (state S.Store self.old) (state S.Store self.new) }
+        ensures rested { KeptTables (state S.Store self.old) (state S.Store self.new) }
         ensures served { Served (content_of (state S.Store self.new)) result
             (λ world found. IsTrue found ↔ HasSubmitted world entrant.now round.now) }
         ensures fault { Fails (Unit {0}) result }
@@ -481,7 +481,7 @@ impl<S: Alter + Drop> ReadStore for SqlStore<S> {
 
     fn protest(&mut self, alloc: Global, key: &ProtestKey) -> Result<Option<ProtestRow>, StoreFault>
         ensures kept { Kept (content_of (state S.Store self.old)) (content_of (state S.Store self.new)) }
-        ensures rested { Rested (state S.Store self.old) (state S.Store self.new) }
+        ensures rested { KeptTables (state S.Store self.old) (state S.Store self.new) }
         ensures served { Served (content_of (state S.Store self.new)) result
             (λ world found. found ≡ get world.protests key.now) }
         ensures fault { Fails (Unit {0}) result }
@@ -503,7 +503,7 @@ impl<S: Alter + Drop> ReadStore for SqlStore<S> {
         round: &RoundId,
     ) -> Result<u64, StoreFault>
         ensures kept { Kept (content_of (state S.Store self.old)) (content_of (state S.Store self.new)) }
-        ensures rested { Rested (state S.Store self.old) (state S.Store self.new) }
+        ensures rested { KeptTables (state S.Store self.old) (state S.Store self.new) }
         ensures served { Served (content_of (state S.Store self.new)) result
             (λ world count. count ≡ protests_made world entrant.now round.now) }
         ensures fault { Fails (Unit {0}) result }
@@ -519,7 +519,7 @@ impl<S: Alter + Drop> ReadStore for SqlStore<S> {
 
     fn has_open_protest(&mut self, alloc: Global, round: &RoundId) -> Result<bool, StoreFault>
         ensures kept { Kept (content_of (state S.Store self.old)) (content_of (state S.Store self.new)) }
-        ensures rested { Rested (state S.Store self.old) (state S.Store self.new) }
+        ensures rested { KeptTables (state S.Store self.old) (state S.Store self.new) }
         ensures served { Served (content_of (state S.Store self.new)) result
             (λ world found. IsTrue found ↔ IsProtestOpen world round.now) }
         ensures fault { Fails (Unit {0}) result }
@@ -540,7 +540,7 @@ impl<S: Alter + Drop> ReadStore for SqlStore<S> {
         round: &RoundId,
     ) -> Result<Vec<ProtestRow>, StoreFault>
         ensures kept { Kept (content_of (state S.Store self.old)) (content_of (state S.Store self.new)) }
-        ensures rested { Rested (state S.Store self.old) (state S.Store self.new) }
+        ensures rested { KeptTables (state S.Store self.old) (state S.Store self.new) }
         ensures served { Served (content_of (state S.Store self.new)) result
             (λ world rows. rows.items ≡ protests_of world entrant.now round.now) }
         ensures fault { Fails (Unit {0}) result }
@@ -556,7 +556,7 @@ impl<S: Alter + Drop> ReadStore for SqlStore<S> {
 
     fn protests_in(&mut self, alloc: Global, round: &RoundId) -> Result<Vec<ProtestRow>, StoreFault>
         ensures kept { Kept (content_of (state S.Store self.old)) (content_of (state S.Store self.new)) }
-        ensures rested { Rested (state S.Store self.old) (state S.Store self.new) }
+        ensures rested { KeptTables (state S.Store self.old) (state S.Store self.new) }
         ensures served { Served (content_of (state S.Store self.new)) result
             (λ world rows. rows.items ≡ protests_in world round.now) }
         ensures fault { Fails (Unit {0}) result }
@@ -577,7 +577,7 @@ impl<S: Alter + Drop> ReadStore for SqlStore<S> {
         sink: &mut K,
     ) -> Result<(), StoreFault>
         ensures kept { Kept (content_of (state S.Store self.old)) (content_of (state S.Store self.new)) }
-        ensures rested { Rested (state S.Store self.old) (state S.Store self.new) }
+        ensures rested { KeptTables (state S.Store self.old) (state S.Store self.new) }
         ensures fed { Fed K.takes (λ world rows. rows ≡ protests_in world round.now)
             (content_of (state S.Store self.old)) (content_of (state S.Store self.new)) sink.old result sink.new }
         ensures fault { IfErr result (λ fault. fault ≡ Failed → Unit {0} ⊎ IsRefusedNext K.takes K.refuses
@@ -602,7 +602,7 @@ impl<S: Alter + Drop> WholeStore for SqlStore<S> {
     ghost use Rattle.hall_store.specs.Store.{Kept, Served, Fails};
     ghost use Rattle.hall_sql.specs.Cause.{ReadFails};
     ghost use Rattle.hall_sql.specs.Rows.{answer_in, place_in, protest_in, tester_in};
-    ghost use Rattle.hall_sql.specs.Standing.{Rested, content_of};
+    ghost use Rattle.hall_sql.specs.Standing.{KeptTables, content_of};
     ghost use Rattle.hall_sql.specs.declared.answers.TheConstants.{ALL_ANSWERS};
     ghost use Rattle.hall_sql.specs.declared.protests.TheConstants.{ALL_PROTESTS};
     ghost use Rattle.hall_sql.specs.declared.rounds.TheConstants.{ALL_PLACES};
@@ -612,7 +612,7 @@ impl<S: Alter + Drop> WholeStore for SqlStore<S> {
 
     fn all_places(&mut self, alloc: Global) -> Result<Vec<Place>, StoreFault>
         ensures kept { Kept (content_of (state S.Store self.old)) (content_of (state S.Store self.new)) }
-        ensures rested { Rested (state S.Store self.old) (state S.Store self.new) }
+        ensures rested { KeptTables (state S.Store self.old) (state S.Store self.new) }
         ensures served { Served (content_of (state S.Store self.new)) result
             (λ world places. places.items ≡ entries world.places) }
         ensures fault { Fails (Unit {0}) result }
@@ -624,7 +624,7 @@ impl<S: Alter + Drop> WholeStore for SqlStore<S> {
 
     fn all_testers(&mut self, alloc: Global) -> Result<Vec<Tester>, StoreFault>
         ensures kept { Kept (content_of (state S.Store self.old)) (content_of (state S.Store self.new)) }
-        ensures rested { Rested (state S.Store self.old) (state S.Store self.new) }
+        ensures rested { KeptTables (state S.Store self.old) (state S.Store self.new) }
         ensures served { Served (content_of (state S.Store self.new)) result
             (λ world testers. testers.items ≡ entries world.testers) }
         ensures fault { Fails (Unit {0}) result }
@@ -636,7 +636,7 @@ impl<S: Alter + Drop> WholeStore for SqlStore<S> {
 
     fn all_answers(&mut self, alloc: Global) -> Result<Vec<AnswerRow>, StoreFault>
         ensures kept { Kept (content_of (state S.Store self.old)) (content_of (state S.Store self.new)) }
-        ensures rested { Rested (state S.Store self.old) (state S.Store self.new) }
+        ensures rested { KeptTables (state S.Store self.old) (state S.Store self.new) }
         ensures served { Served (content_of (state S.Store self.new)) result
             (λ world rows. rows.items ≡ values world.answers) }
         ensures fault { Fails (Unit {0}) result }
@@ -648,7 +648,7 @@ impl<S: Alter + Drop> WholeStore for SqlStore<S> {
 
     fn all_protests(&mut self, alloc: Global) -> Result<Vec<ProtestRow>, StoreFault>
         ensures kept { Kept (content_of (state S.Store self.old)) (content_of (state S.Store self.new)) }
-        ensures rested { Rested (state S.Store self.old) (state S.Store self.new) }
+        ensures rested { KeptTables (state S.Store self.old) (state S.Store self.new) }
         ensures served { Served (content_of (state S.Store self.new)) result
             (λ world rows. rows.items ≡ values world.protests) }
         ensures fault { Fails (Unit {0}) result }
@@ -675,10 +675,10 @@ impl<S: Alter + Drop> Store for SqlStore<S> {
     ghost use Rattle.hall_sql.specs.WriteCause.{ImportFails, PutPuzzleFails, PutRoundFails, RuleFails, RunFails};
     ghost use Rattle.hall_sql.specs.WriteCause.{SetFlagFails, SetStateFails};
     ghost use Rattle.hall_sql.specs.RoundPuts.{PutsRows};
-    ghost use Rattle.hall_sql.specs.Standing.{Wrote, content_of};
+    ghost use Rattle.hall_sql.specs.Standing.{MakesInTables, content_of};
 
     fn import(&mut self, alloc: Global, people: &People) -> Result<(), StoreFault>
-        ensures wrote { Wrote (Import people.now) (state S.Store self.old) (state S.Store self.new) result }
+        ensures wrote { MakesInTables (Import people.now) (state S.Store self.old) (state S.Store self.new) result }
         ensures cause { HasCleanDisk (state S.Store self.new) → Fails
             (ImportFails S.Store people.now (state S.Store self.old) (state S.Store self.new)) result }
     {
@@ -686,7 +686,7 @@ impl<S: Alter + Drop> Store for SqlStore<S> {
     }
 
     fn put_puzzle(&mut self, alloc: Global, row: PuzzleRow) -> Result<(), StoreFault>
-        ensures wrote { Wrote (PutPuzzle row) (state S.Store self.old) (state S.Store self.new) result }
+        ensures wrote { MakesInTables (PutPuzzle row) (state S.Store self.old) (state S.Store self.new) result }
         ensures text { HasCleanDisk (state S.Store self.new)
             → OnOk result (HasPuzzleRow row (state S.Store self.new).now) }
         ensures cause { HasCleanDisk (state S.Store self.new) → Fails
@@ -701,7 +701,8 @@ impl<S: Alter + Drop> Store for SqlStore<S> {
         key: &PuzzleKey,
         known: PuzzleState,
     ) -> Result<(), StoreFault>
-        ensures wrote { Wrote (SetState key.now known) (state S.Store self.old) (state S.Store self.new) result }
+        ensures wrote { MakesInTables (SetState key.now known) (state S.Store self.old) (state S.Store self.new)
+            result }
         ensures cause { HasCleanDisk (state S.Store self.new) → Fails
             (SetStateFails key.now known (state S.Store self.old) (state S.Store self.new)) result }
     {
@@ -709,7 +710,7 @@ impl<S: Alter + Drop> Store for SqlStore<S> {
     }
 
     fn put_round(&mut self, _alloc: Global, row: RoundRow) -> Result<(), StoreFault>
-        ensures wrote { Wrote (PutRound row) (state S.Store self.old) (state S.Store self.new) result }
+        ensures wrote { MakesInTables (PutRound row) (state S.Store self.old) (state S.Store self.new) result }
         ensures rows { HasCleanDisk (state S.Store self.new) → OnOk result
             (PutsRows row (state S.Store self.old).now (state S.Store self.new).now) }
         ensures cause { HasCleanDisk (state S.Store self.new) → Fails
@@ -724,7 +725,8 @@ impl<S: Alter + Drop> Store for SqlStore<S> {
         id: &RoundId,
         flag: RoundFlag,
     ) -> Result<(), StoreFault>
-        ensures wrote { Wrote (SetRoundFlag id.now flag) (state S.Store self.old) (state S.Store self.new) result }
+        ensures wrote { MakesInTables (SetRoundFlag id.now flag) (state S.Store self.old) (state S.Store self.new)
+            result }
         ensures cause { HasCleanDisk (state S.Store self.new) → Fails
             (SetFlagFails id.now flag (state S.Store self.old) (state S.Store self.new)) result }
     {
@@ -733,7 +735,7 @@ impl<S: Alter + Drop> Store for SqlStore<S> {
 
     fn add_answer(&mut self, _alloc: Global, row: AnswerRow) -> Result<(), StoreFault>
         requires { Asks (content_of (state S.Store self.old)) (λ world. CanAddAnswer world row) }
-        ensures wrote { Wrote (AddAnswer row) (state S.Store self.old) (state S.Store self.new) result }
+        ensures wrote { MakesInTables (AddAnswer row) (state S.Store self.old) (state S.Store self.new) result }
         ensures cause { HasCleanDisk (state S.Store self.new) → Fails
             (RunFails ADD_ANSWER.now (answer_params row) (state S.Store self.old) (state S.Store self.new)) result }
     {
@@ -742,7 +744,7 @@ impl<S: Alter + Drop> Store for SqlStore<S> {
 
     fn add_protest(&mut self, _alloc: Global, row: ProtestRow) -> Result<(), StoreFault>
         requires { Asks (content_of (state S.Store self.old)) (λ world. CanAddProtest world row) }
-        ensures wrote { Wrote (AddProtest row) (state S.Store self.old) (state S.Store self.new) result }
+        ensures wrote { MakesInTables (AddProtest row) (state S.Store self.old) (state S.Store self.new) result }
         ensures cause { HasCleanDisk (state S.Store self.new) → Fails
             (RunFails ADD_PROTEST.now (protest_params row) (state S.Store self.old) (state S.Store self.new)) result }
     {
@@ -755,7 +757,8 @@ impl<S: Alter + Drop> Store for SqlStore<S> {
         key: &ProtestKey,
         ruling: Ruling,
     ) -> Result<(), StoreFault>
-        ensures wrote { Wrote (RuleProtest key.now ruling) (state S.Store self.old) (state S.Store self.new) result }
+        ensures wrote { MakesInTables (RuleProtest key.now ruling) (state S.Store self.old) (state S.Store self.new)
+            result }
         ensures cause { HasCleanDisk (state S.Store self.new) → Fails
             (RuleFails key.now ruling (state S.Store self.old) (state S.Store self.new)) result }
     {

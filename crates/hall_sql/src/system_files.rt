@@ -3,7 +3,7 @@ ghost use Rattle.std.specs.Prelude.{◌≡◌, [], IfErr, IfOk, IsTrue};
 ghost use Rattle.sqlite.specs.Opening.{is_open_error};
 ghost use Rattle.sqlite.specs.Files.{file_state};
 ghost use Rattle.sqlite.specs.WalFiles.{image_at};
-ghost use Rattle.hall_sql.specs.Opened.{IsFound};
+ghost use Rattle.hall_sql.specs.Opened.{IsImageFound};
 ghost use Rattle.hall_sql.specs.PathCalls.{named, noted};
 
 use crate::given_back::GivenBack;
@@ -45,7 +45,7 @@ fn ask_database<B: Start>(
     start: B,
 ) -> (Noted, Result<Connection<FileStore<FileFrom<B>>>, Error>)
     ensures path { noted result.0 ≡ path.now }
-    ensures found { IfOk result.1 (λ conn. IsFound (image_at B.Start) (file_state conn)) }
+    ensures found { IfOk result.1 (λ conn. IsImageFound (image_at B.Start) (file_state conn)) }
     ensures refused { IfErr result.1 (λ error. IsTrue (is_open_error error)) }
 {
     match Connection::open_from(rt, path, false, start) {

@@ -7,11 +7,11 @@ ghost use Rattle.sqlite.specs.declared.types.Value.TheVariants.{Text};
 ghost use Rattle.hall_store.specs.Store.{Served, Fails, AreTestersOf};
 ghost use Rattle.hall_store.specs.declared.fault.StoreFault.TheVariants.{Memory};
 ghost use Rattle.hall_sql.specs.Cause.{IsStoreCause, ReadFails};
-ghost use Rattle.hall_sql.specs.Inside.{Carries, Did};
+ghost use Rattle.hall_sql.specs.Inside.{LeadsUncommitted, MakesInside};
 ghost use Rattle.hall_sql.specs.RoundColumns.{tester_params};
 ghost use Rattle.hall_sql.specs.RoundPuts.{DropsTesters, PutsTester, PutsTesters, PutsTesterList};
 ghost use Rattle.hall_sql.specs.Rows.{tester_in};
-ghost use Rattle.hall_sql.specs.Standing.{IsHall, Rested, content_of};
+ghost use Rattle.hall_sql.specs.Standing.{IsHall, KeptTables, content_of};
 ghost use Rattle.hall_sql.specs.Testers.{AreNamed};
 ghost use Rattle.hall_sql.specs.Whole.{AreRecords};
 ghost use Rattle.hall_sql.specs.WriteCause.{RunFails, InsideFails, TesterIsRefused, TesterListIsRefused};
@@ -34,7 +34,7 @@ fn keyed_testers<S: Alter>(
     round: &RoundId,
 ) -> Result<Vec<Tester>, StoreFault>
     requires hall { IsHall (state S.Store conn.old) }
-    ensures rested { Rested (state S.Store conn.old) (state S.Store conn.new) }
+    ensures rested { KeptTables (state S.Store conn.old) (state S.Store conn.new) }
     ensures served { Served (content_of (state S.Store conn.new)) result
         (λ world testers. AreNamed world round.now testers.items) }
     ensures whole { HasCleanDisk (state S.Store conn.new) → IfOk result (λ _.
@@ -69,7 +69,7 @@ pub(crate) fn testers_of<S: Alter>(
     round: &RoundId,
 ) -> Result<Vec<Name>, StoreFault>
     requires hall { IsHall (state S.Store conn.old) }
-    ensures rested { Rested (state S.Store conn.old) (state S.Store conn.new) }
+    ensures rested { KeptTables (state S.Store conn.old) (state S.Store conn.new) }
     ensures served { Served (content_of (state S.Store conn.new)) result
         (λ world names. AreTestersOf world round.now names.items) }
     ensures whole { HasCleanDisk (state S.Store conn.new) → IfOk result (λ _.
@@ -92,7 +92,7 @@ pub(crate) fn all_testers<S: Alter>(
     alloc: Global,
 ) -> Result<Vec<Tester>, StoreFault>
     requires hall { IsHall (state S.Store conn.old) }
-    ensures rested { Rested (state S.Store conn.old) (state S.Store conn.new) }
+    ensures rested { KeptTables (state S.Store conn.old) (state S.Store conn.new) }
     ensures served { Served (content_of (state S.Store conn.new)) result
         (λ world testers. testers.items ≡ entries world.testers) }
     ensures whole { HasCleanDisk (state S.Store conn.new) → IfOk result (λ _.
@@ -111,7 +111,7 @@ pub(crate) fn has_testers<S: Alter>(
     alloc: Global,
 ) -> Result<bool, StoreFault>
     requires hall { IsHall (state S.Store conn.old) }
-    ensures rested { Rested (state S.Store conn.old) (state S.Store conn.new) }
+    ensures rested { KeptTables (state S.Store conn.old) (state S.Store conn.new) }
     ensures served { Served (content_of (state S.Store conn.new)) result
         (λ world has. (has ≡ false) ↔ (world.testers ≡ empty)) }
     ensures whole { HasCleanDisk (state S.Store conn.new) → IfOk result (λ _.
@@ -127,9 +127,9 @@ const DROP_TESTERS: &str = "DELETE FROM testers WHERE round = ?1";
 /// Takes out the testers of the round.
 fn drop_testers<S: Alter>(tx: &mut Transaction<'_, S>, round: &RoundId) -> Result<(), StoreFault>
     ensures same_reference { tx.new.conn.ghost_name ≡ tx.old.conn.ghost_name }
-    ensures carries { Carries (state S.Store tx.old.conn.now) (state S.Store tx.new.conn.now) }
+    ensures carries { LeadsUncommitted (state S.Store tx.old.conn.now) (state S.Store tx.new.conn.now) }
     ensures done { HasCleanDisk (state S.Store tx.new.conn.now) → IsTrue (state S.Store tx.old.conn.now).in_transaction
-        → OnOk result (Did (DropsTesters round.now) (state S.Store tx.old.conn.now)
+        → OnOk result (MakesInside (DropsTesters round.now) (state S.Store tx.old.conn.now)
         (state S.Store tx.new.conn.now)) }
     ensures cause { InsideFails (state S.Store tx.old.conn.now) (state S.Store tx.new.conn.now)
         (RunFails DROP_TESTERS.now (Text round.now ∷ []) (state S.Store tx.old.conn.now)
@@ -149,9 +149,9 @@ fn put_tester<S: Alter>(
     name: &Name,
 ) -> Result<(), StoreFault>
     ensures same_reference { tx.new.conn.ghost_name ≡ tx.old.conn.ghost_name }
-    ensures carries { Carries (state S.Store tx.old.conn.now) (state S.Store tx.new.conn.now) }
+    ensures carries { LeadsUncommitted (state S.Store tx.old.conn.now) (state S.Store tx.new.conn.now) }
     ensures done { HasCleanDisk (state S.Store tx.new.conn.now) → IsTrue (state S.Store tx.old.conn.now).in_transaction
-        → OnOk result (Did (PutsTester round.now name.now) (state S.Store tx.old.conn.now)
+        → OnOk result (MakesInside (PutsTester round.now name.now) (state S.Store tx.old.conn.now)
         (state S.Store tx.new.conn.now)) }
     ensures cause { InsideFails (state S.Store tx.old.conn.now) (state S.Store tx.new.conn.now)
         (RunFails ADD_TESTER.now (tester_params round.now name.now)
@@ -169,9 +169,9 @@ fn put_testers<S: Alter>(
 ) -> Result<(), StoreFault>
     requires different { AllPairs (λ a b. ¬ (a ≡ b)) names.now }
     ensures same_reference { tx.new.conn.ghost_name ≡ tx.old.conn.ghost_name }
-    ensures carries { Carries (state S.Store tx.old.conn.now) (state S.Store tx.new.conn.now) }
+    ensures carries { LeadsUncommitted (state S.Store tx.old.conn.now) (state S.Store tx.new.conn.now) }
     ensures done { HasCleanDisk (state S.Store tx.new.conn.now) → IsTrue (state S.Store tx.old.conn.now).in_transaction
-        → OnOk result (Did (PutsTesters round.now names.now) (state S.Store tx.old.conn.now)
+        → OnOk result (MakesInside (PutsTesters round.now names.now) (state S.Store tx.old.conn.now)
         (state S.Store tx.new.conn.now)) }
     ensures cause { InsideFails (state S.Store tx.old.conn.now) (state S.Store tx.new.conn.now)
         (IsStoreCause (state S.Store tx.old.conn.now) (state S.Store tx.new.conn.now)
@@ -191,9 +191,9 @@ pub(crate) fn put_tester_list<S: Alter>(
 ) -> Result<(), StoreFault>
     requires different { AllPairs (λ a b. ¬ (a ≡ b)) names.now }
     ensures same_reference { tx.new.conn.ghost_name ≡ tx.old.conn.ghost_name }
-    ensures carries { Carries (state S.Store tx.old.conn.now) (state S.Store tx.new.conn.now) }
+    ensures carries { LeadsUncommitted (state S.Store tx.old.conn.now) (state S.Store tx.new.conn.now) }
     ensures done { HasCleanDisk (state S.Store tx.new.conn.now) → IsTrue (state S.Store tx.old.conn.now).in_transaction
-        → OnOk result (Did (PutsTesterList round.now names.now) (state S.Store tx.old.conn.now)
+        → OnOk result (MakesInside (PutsTesterList round.now names.now) (state S.Store tx.old.conn.now)
         (state S.Store tx.new.conn.now)) }
     ensures cause { InsideFails (state S.Store tx.old.conn.now) (state S.Store tx.new.conn.now)
         (IsStoreCause (state S.Store tx.old.conn.now) (state S.Store tx.new.conn.now)

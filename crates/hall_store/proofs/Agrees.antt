@@ -22,7 +22,7 @@ use Rattle.hall_store.specs.Store.{Content, Kept, Served, Makes, Fed, IsRoundKep
 use Rattle.hall_store.specs.declared.change.Change.{Change}
 use Rattle.hall_store.specs.declared.change.Change.TheVariants.{RuleProtest}
 use Rattle.hall_store.specs.declared.fault.StoreFault.{StoreFault}
-use Rattle.hall_store.specs.Cache.{Stands, Agrees, IsBounded, IsEmptied, IsNoted}
+use Rattle.hall_store.specs.Cache.{Stands, CacheAgrees, IsBounded, IsEmptied, IsNoted}
 use Rattle.hall_store.specs.declared.cache.Cache.{Cache}
 
 -- the worlds differ in answers and protests at most
@@ -69,7 +69,7 @@ stands_on old new P honest goes stands h =
     let now = goes h was.0 in
     (now.0, now.1 was.1)
 
-agrees_on : (old new : Content) (cache : Cache) → (new.honest → old.honest) → (new.honest → old.serves → new.serves × IsAlike old.world new.world) → Agrees old cache → Agrees new cache
+agrees_on : (old new : Content) (cache : Cache) → (new.honest → old.honest) → (new.honest → old.serves → new.serves × IsAlike old.world new.world) → CacheAgrees old cache → CacheAgrees new cache
 agrees_on old new cache honest goes agrees = record {
   people = λ key person found. stands_on old new (λ world. IsKeyHolder world key (Some person)) honest
       (λ h s. ((goes h s).0, holder_alike old.world new.world (goes h s).1.people key (Some person))) (agrees.people key person found);
@@ -91,7 +91,7 @@ emptied_bounded cache none = record {
 }
 
 -- an empty cache agrees with any store
-pub empty_agrees : (content : Content) (cache : Cache) → IsEmptied cache → Agrees content cache
+pub empty_agrees : (content : Content) (cache : Cache) → IsEmptied cache → CacheAgrees content cache
 empty_agrees content cache none = record {
   people = none_found text_cmp cache.people.entries _ none.people;
   rounds = none_found text_cmp cache.rounds.entries _ none.rounds;
@@ -99,10 +99,10 @@ empty_agrees content cache none = record {
   bounded = emptied_bounded cache none;
 }
 
-settled : {R : Type 0} (result : Result R StoreFault) (old new : Content) (before after : Cache) → Agrees old before
+settled : {R : Type 0} (result : Result R StoreFault) (old new : Content) (before after : Cache) → CacheAgrees old before
     → IfOk result (λ _. after ≡ before) → OnErr result (IsEmptied after)
-    → OnOk result ((new.honest → old.honest) × (new.honest → old.serves → new.serves × IsAlike old.world new.world)) → Agrees new after
-settled (Ok x) old new before after agrees kept forgot goes = subst (Agrees new) (sym kept) (agrees_on old new before goes.0 goes.1 agrees)
+    → OnOk result ((new.honest → old.honest) × (new.honest → old.serves → new.serves × IsAlike old.world new.world)) → CacheAgrees new after
+settled (Ok x) old new before after agrees kept forgot goes = subst (CacheAgrees new) (sym kept) (agrees_on old new before goes.0 goes.1 agrees)
 settled (Err e) old new before after agrees kept forgot goes = empty_agrees new after forgot
 
 goes_read : {R : Type 0} (result : Result R StoreFault) (old new : Content) → Kept old new → OnOk result (new.honest → new.serves)
@@ -115,8 +115,8 @@ serves_told (Ok x) new Means served = λ h. (served h).0
 serves_told (Err e) new Means served = tt
 
 -- after a read
-pub read_agrees : {R : Type 0} (result : Result R StoreFault) (old new : Content) (before after : Cache) (Means : World → R → Type 0) → Agrees old before → Kept old new
-    → Served new result Means → IfOk result (λ _. after ≡ before) → OnErr result (IsEmptied after) → Agrees new after
+pub read_agrees : {R : Type 0} (result : Result R StoreFault) (old new : Content) (before after : Cache) (Means : World → R → Type 0) → CacheAgrees old before → Kept old new
+    → Served new result Means → IfOk result (λ _. after ≡ before) → OnErr result (IsEmptied after) → CacheAgrees new after
 read_agrees result old new before after Means agrees kept served same forgot =
     settled result old new before after agrees same forgot (goes_read result old new kept (serves_told result new Means served))
 
@@ -127,7 +127,7 @@ serves_fed (Err e) Takes AreRows old new sink_before sink_after fed = tt
 
 -- after rows were fed
 pub fed_agrees : {K X : Type 0} (result : Result (Unit {0}) StoreFault) (old new : Content) (before after : Cache) (Takes : K → X → K → Type 0) (AreRows : World → List X → Type 0) (sink_before sink_after : K)
-    → Agrees old before → Kept old new → Fed Takes AreRows old new sink_before result sink_after → IfOk result (λ _. after ≡ before) → OnErr result (IsEmptied after) → Agrees new after
+    → CacheAgrees old before → Kept old new → Fed Takes AreRows old new sink_before result sink_after → IfOk result (λ _. after ≡ before) → OnErr result (IsEmptied after) → CacheAgrees new after
 fed_agrees result old new before after Takes AreRows sink_before sink_after agrees kept fed same forgot =
     settled result old new before after agrees same forgot (goes_read result old new kept (serves_fed result Takes AreRows old new sink_before sink_after fed))
 
@@ -146,8 +146,8 @@ goes_made (Ok x) change old new spares makes = (
 goes_made (Err e) change old new spares makes = tt
 
 -- after a write that leaves people, rounds and puzzles
-pub write_agrees : {R : Type 0} (result : Result R StoreFault) (change : Change) (old new : Content) (before after : Cache) → Spares change → Agrees old before
-    → Makes change old new result → IfOk result (λ _. after ≡ before) → OnErr result (IsEmptied after) → Agrees new after
+pub write_agrees : {R : Type 0} (result : Result R StoreFault) (change : Change) (old new : Content) (before after : Cache) → Spares change → CacheAgrees old before
+    → Makes change old new result → IfOk result (λ _. after ≡ before) → OnErr result (IsEmptied after) → CacheAgrees new after
 write_agrees result change old new before after spares agrees makes same forgot =
     settled result old new before after agrees same forgot (goes_made result change old new spares makes)
 
@@ -177,9 +177,9 @@ noted_each same old new key value P noted own each k x found = elim (noted k x f
   | inr was ↦ each k x was
 ]
 
-module _ (content : Content) (before after : Cache) (agrees : Agrees content before) where
+module _ (content : Content) (before after : Cache) (agrees : CacheAgrees content before) where
   pub noted_person : (key : List ℕ) (person : Person) → IsNoted text_cmp before.people after.people key person → (length before.people.entries ≤ 5000 → length after.people.entries ≤ 5000) → after.rounds ≡ before.rounds → after.puzzles ≡ before.puzzles
-      → Stands content (λ world. IsKeyHolder world key (Some person)) → Agrees content after
+      → Stands content (λ world. IsKeyHolder world key (Some person)) → CacheAgrees content after
   noted_person key person noted few rounds puzzles stands = record {
     people = noted_each same_texts before.people after.people key person _ noted stands agrees.people;
     rounds = subst (λ (m : tree.BTreeMap (List ℕ) RoundRow). Each text_cmp m.entries (λ k x. Stands content (λ world. IsRoundKept world k (Some x)))) (sym rounds) agrees.rounds;
@@ -192,7 +192,7 @@ module _ (content : Content) (before after : Cache) (agrees : Agrees content bef
   }
 
   pub noted_round : (id : List ℕ) (row : RoundRow) → IsNoted text_cmp before.rounds after.rounds id row → (length before.rounds.entries ≤ 1000 → length after.rounds.entries ≤ 1000) → after.people ≡ before.people → after.puzzles ≡ before.puzzles
-      → Stands content (λ world. IsRoundKept world id (Some row)) → Agrees content after
+      → Stands content (λ world. IsRoundKept world id (Some row)) → CacheAgrees content after
   noted_round id row noted few people puzzles stands = record {
     people = subst (λ (m : tree.BTreeMap (List ℕ) Person). Each text_cmp m.entries (λ k x. Stands content (λ world. IsKeyHolder world k (Some x)))) (sym people) agrees.people;
     rounds = noted_each same_texts before.rounds after.rounds id row _ noted stands agrees.rounds;
@@ -205,7 +205,7 @@ module _ (content : Content) (before after : Cache) (agrees : Agrees content bef
   }
 
   pub noted_puzzle : (key : PuzzleKey) (row : PuzzleRow) → IsNoted puzzle_cmp before.puzzles after.puzzles key row → (length before.puzzles.entries ≤ 1000 → length after.puzzles.entries ≤ 1000) → after.people ≡ before.people → after.rounds ≡ before.rounds
-      → Stands content (λ world. get world.puzzles key ≡ Some row) → Agrees content after
+      → Stands content (λ world. get world.puzzles key ≡ Some row) → CacheAgrees content after
   noted_puzzle key row noted few people rounds stands = record {
     people = subst (λ (m : tree.BTreeMap (List ℕ) Person). Each text_cmp m.entries (λ k x. Stands content (λ world. IsKeyHolder world k (Some x)))) (sym people) agrees.people;
     rounds = subst (λ (m : tree.BTreeMap (List ℕ) RoundRow). Each text_cmp m.entries (λ k x. Stands content (λ world. IsRoundKept world k (Some x)))) (sym rounds) agrees.rounds;
@@ -218,6 +218,6 @@ module _ (content : Content) (before after : Cache) (agrees : Agrees content bef
   }
 
 -- after a look into the cache
-pub looked_agrees : (content : Content) (before after : Cache) → Agrees content before → (after ≡ before) ⊎ IsEmptied after → Agrees content after
-looked_agrees content before after agrees (inl same) = subst (Agrees content) (sym same) agrees
+pub looked_agrees : (content : Content) (before after : Cache) → CacheAgrees content before → (after ≡ before) ⊎ IsEmptied after → CacheAgrees content after
+looked_agrees content before after agrees (inl same) = subst (CacheAgrees content) (sym same) agrees
 looked_agrees content before after agrees (inr none) = empty_agrees content after none

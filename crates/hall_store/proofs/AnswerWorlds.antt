@@ -24,8 +24,8 @@ use Rattle.hall_policy.specs.declared.record.AnswerKey.{AnswerKey}
 use Rattle.hall_policy.specs.declared.record.AnswerRow.{AnswerRow}
 use Rattle.hall_policy.proofs.Maps.{put_is_insert_entry, get_is_lookup}
 use Rattle.hall_policy.proofs.Orders.{answer_total, same_answer_keys, text_total, same_texts}
-use Rattle.hall_store.specs.Keyed.{HasAny, agree, answer_in, slot_cmp, slot_of, first_slot, AreKeysDistinct}
-use Rattle.hall_store.specs.Maps.{world_of}
+use Rattle.hall_store.specs.Keyed.{HasAny, agree, answer_entry, slot_cmp, slot_of, first_slot, AreKeysDistinct}
+use Rattle.hall_store.specs.Maps.{world_of_maps}
 use Rattle.hall_store.specs.Change.{CanAddAnswer}
 use Rattle.hall_store.specs.Store.{HasSubmitted, IsListing, IsNumberTaken, listing_cmp, is_in, is_of}
 use Rattle.hall_store.specs.declared.map_store.MapStore.{MapStore}
@@ -87,7 +87,7 @@ key_tested key row =
 
 -- what is found under a key is the one with the token among those to the puzzle
 pub answer_found : (es : List (AnswerSlot × AnswerRow)) (key : AnswerKey) →
-    lookup (is_at (answer_cmp key)) (map answer_in es) ≡ find (has_token key.token) (filter (is_to key) (values_of es))
+    lookup (is_at (answer_cmp key)) (map answer_entry es) ≡ find (has_token key.token) (filter (is_to key) (values_of es))
 answer_found [] key = refl
 answer_found (e ∷ es) key =
     let rest = filter (is_to key) (values_of es) in
@@ -95,8 +95,8 @@ answer_found (e ∷ es) key =
     (λ i. cond (key_tested key e.1 i) (Some e.1) (answer_found es key i))
     ∙ elim (is_to key e.1) as (λ b. cond (b && here) (Some e.1) (find (has_token key.token) rest) ≡ find (has_token key.token) (cond b (e.1 ∷ rest) rest)) [ true ↦ refl | false ↦ refl ]
 
-pub get_answer : (store : MapStore) (key : AnswerKey) → get (world_of store).answers key ≡ find (has_token key.token) (filter (is_to key) (values_of store.answers.entries))
-get_answer store key = get_found answer_total (map answer_in store.answers.entries) key ∙ answer_found store.answers.entries key
+pub get_answer : (store : MapStore) (key : AnswerKey) → get (world_of_maps store).answers key ≡ find (has_token key.token) (filter (is_to key) (values_of store.answers.entries))
+get_answer store key = get_found answer_total (map answer_entry store.answers.entries) key ∙ answer_found store.answers.entries key
 
 -- where a value and the one of two places are in question at once, the first asked may be asked last
 asked_last : {X : Type 0} (a b : Bool) (x y : X) (o : Option X) → (a ≡ true → b ≡ true → ⊥) → cond a (Some x) (cond b (Some y) o) ≡ cond b (Some y) (cond a (Some x) o)
@@ -113,18 +113,18 @@ none_here false x o h = (refl, h)
 -- each answer's key is new among those after it
 abbrev AreKeysNew : List (AnswerSlot × AnswerRow) → Type 0
 AreKeysNew [] = Unit {0}
-AreKeysNew (e ∷ es) = (lookup (is_at (answer_cmp e.1.key)) (map answer_in es) ≡ None) × AreKeysNew es
+AreKeysNew (e ∷ es) = (lookup (is_at (answer_cmp e.1.key)) (map answer_entry es) ≡ None) × AreKeysNew es
 
 abbrev key_in : AnswerSlot × AnswerRow → AnswerKey
 key_in e = e.1.key
 
-new_key : (key : AnswerKey) (es : List (AnswerSlot × AnswerRow)) → AllByRecursion (λ k. is_at (answer_cmp key) k ≡ false) (map key_in es) → lookup (is_at (answer_cmp key)) (map answer_in es) ≡ None
+new_key : (key : AnswerKey) (es : List (AnswerSlot × AnswerRow)) → AllByRecursion (λ k. is_at (answer_cmp key) k ≡ false) (map key_in es) → lookup (is_at (answer_cmp key)) (map answer_entry es) ≡ None
 new_key key [] apart = refl
-new_key key (e ∷ es) apart = ap (λ b. cond b (Some e.1) (lookup (is_at (answer_cmp key)) (map answer_in es))) apart.0 ∙ new_key key es apart.1
+new_key key (e ∷ es) apart = ap (λ b. cond b (Some e.1) (lookup (is_at (answer_cmp key)) (map answer_entry es))) apart.0 ∙ new_key key es apart.1
 
-apart_key : (key : AnswerKey) (es : List (AnswerSlot × AnswerRow)) → lookup (is_at (answer_cmp key)) (map answer_in es) ≡ None → AllByRecursion (λ k. is_at (answer_cmp key) k ≡ false) (map key_in es)
+apart_key : (key : AnswerKey) (es : List (AnswerSlot × AnswerRow)) → lookup (is_at (answer_cmp key)) (map answer_entry es) ≡ None → AllByRecursion (λ k. is_at (answer_cmp key) k ≡ false) (map key_in es)
 apart_key key [] new = tt
-apart_key key (e ∷ es) new = let both = none_here (is_at (answer_cmp key) e.1.key) e.1 (lookup (is_at (answer_cmp key)) (map answer_in es)) new in (both.0, apart_key key es both.1)
+apart_key key (e ∷ es) new = let both = none_here (is_at (answer_cmp key) e.1.key) e.1 (lookup (is_at (answer_cmp key)) (map answer_entry es)) new in (both.0, apart_key key es both.1)
 
 each_new : (es : List (AnswerSlot × AnswerRow)) → AreKeysDistinct es → AreKeysNew es
 each_new [] distinct = tt
@@ -144,51 +144,51 @@ module _ (slot : AnswerSlot) (row : AnswerRow) where
   is_same = is_at (answer_cmp row.key)
 
   -- an answer under a new key, put into a free slot, is found under its key, and the others under theirs
-  put_found : (es : List (AnswerSlot × AnswerRow)) → lookup (is_at (slot_cmp slot)) es ≡ None → lookup is_same (map answer_in es) ≡ None → (q : AnswerKey) →
-      lookup (is_at (answer_cmp q)) (map answer_in (insert_entry slot_cmp es slot row)) ≡ cond (is_same q) (Some row) (lookup (is_at (answer_cmp q)) (map answer_in es))
+  put_found : (es : List (AnswerSlot × AnswerRow)) → lookup (is_at (slot_cmp slot)) es ≡ None → lookup is_same (map answer_entry es) ≡ None → (q : AnswerKey) →
+      lookup (is_at (answer_cmp q)) (map answer_entry (insert_entry slot_cmp es slot row)) ≡ cond (is_same q) (Some row) (lookup (is_at (answer_cmp q)) (map answer_entry es))
   put_found [] free new q = ap (λ b. cond b (Some row) None) ((eq_by_cmp_equiv answer_total).symm q row.key)
   put_found (e ∷ es) free new q =
       let test = is_at (answer_cmp q) in
-      let first = ap (λ b. cond b (Some row) (lookup test (map answer_in (e ∷ es)))) ((eq_by_cmp_equiv answer_total).symm q row.key) in
-      let apart = none_here (is_same e.1.key) e.1 (lookup is_same (map answer_in es)) new in
+      let first = ap (λ b. cond b (Some row) (lookup test (map answer_entry (e ∷ es)))) ((eq_by_cmp_equiv answer_total).symm q row.key) in
+      let apart = none_here (is_same e.1.key) e.1 (lookup is_same (map answer_entry es)) new in
       elim (slot_cmp slot e.0) as (λ r. cond (is_eq r) (Some e.1) (lookup (is_at (slot_cmp slot)) es) ≡ None →
-      lookup test (map answer_in (match_ordering r ((slot, row) ∷ e ∷ es) ((e.0, row) ∷ es) (e ∷ insert_entry slot_cmp es slot row))) ≡ cond (is_same q) (Some row) (lookup test (map answer_in (e ∷ es)))) [
+      lookup test (map answer_entry (match_ordering r ((slot, row) ∷ e ∷ es) ((e.0, row) ∷ es) (e ∷ insert_entry slot_cmp es slot row))) ≡ cond (is_same q) (Some row) (lookup test (map answer_entry (e ∷ es)))) [
         | Less ↦ λ _. first
         | Equal ↦ λ h. absurd (let no : Some e.1 ≡ None = h in cc)
         | Greater ↦ λ h.
             ap (λ (o : Option AnswerRow). cond (test e.1.key) (Some e.1) o) (put_found es h apart.1 q)
-            ∙ asked_last (test e.1.key) (is_same q) e.1 row (lookup test (map answer_in es)) (λ own same.
+            ∙ asked_last (test e.1.key) (is_same q) e.1 row (lookup test (map answer_entry es)) (λ own same.
             let one : row.key ≡ e.1.key = same_answer_keys row.key q (equal_from_test (answer_cmp row.key q) same) ∙ same_answer_keys q e.1.key (equal_from_test (answer_cmp q e.1.key) own) in
             true_not_false (is_same e.1.key) (ap is_same (sym one) ∙ ap is_eq (tied_itself answer_total row.key)) apart.0)
       ] free
 
-  keys_stay_new : (es : List (AnswerSlot × AnswerRow)) → lookup (is_at (slot_cmp slot)) es ≡ None → lookup is_same (map answer_in es) ≡ None → AreKeysNew es → AreKeysNew (insert_entry slot_cmp es slot row)
+  keys_stay_new : (es : List (AnswerSlot × AnswerRow)) → lookup (is_at (slot_cmp slot)) es ≡ None → lookup is_same (map answer_entry es) ≡ None → AreKeysNew es → AreKeysNew (insert_entry slot_cmp es slot row)
   keys_stay_new [] free new are = (refl, tt)
   keys_stay_new (e ∷ es) free new are =
-      let apart = none_here (is_same e.1.key) e.1 (lookup is_same (map answer_in es)) new in
+      let apart = none_here (is_same e.1.key) e.1 (lookup is_same (map answer_entry es)) new in
       elim (slot_cmp slot e.0) as (λ r. cond (is_eq r) (Some e.1) (lookup (is_at (slot_cmp slot)) es) ≡ None → AreKeysNew (match_ordering r ((slot, row) ∷ e ∷ es) ((e.0, row) ∷ es) (e ∷ insert_entry slot_cmp es slot row))) [
         | Less ↦ λ _. (new, are)
         | Equal ↦ λ h. absurd (let no : Some e.1 ≡ None = h in cc)
         | Greater ↦ λ h. (
-          put_found es h apart.1 e.1.key ∙ ap (λ b. cond b (Some row) (lookup (is_at (answer_cmp e.1.key)) (map answer_in es))) apart.0 ∙ are.0,
+          put_found es h apart.1 e.1.key ∙ ap (λ b. cond b (Some row) (lookup (is_at (answer_cmp e.1.key)) (map answer_entry es))) apart.0 ∙ are.0,
           keys_stay_new es h apart.1 are.1,
         )
       ] free
 
-  pub keys_stay_distinct : (es : List (AnswerSlot × AnswerRow)) → lookup (is_at (slot_cmp slot)) es ≡ None → lookup is_same (map answer_in es) ≡ None → AreKeysDistinct es → AreKeysDistinct (insert_entry slot_cmp es slot row)
+  pub keys_stay_distinct : (es : List (AnswerSlot × AnswerRow)) → lookup (is_at (slot_cmp slot)) es ≡ None → lookup is_same (map answer_entry es) ≡ None → AreKeysDistinct es → AreKeysDistinct (insert_entry slot_cmp es slot row)
   keys_stay_distinct es free new distinct = all_distinct (insert_entry slot_cmp es slot row) (keys_stay_new es free new (each_new es distinct))
 
   -- an answer that is put into its own slot
-  pub answer_put : (es : List (AnswerSlot × AnswerRow)) → lookup (is_at (slot_cmp slot)) es ≡ None → lookup is_same (map answer_in es) ≡ None →
-      from_entries {R = answer_cmp} (map answer_in (insert_entry slot_cmp es slot row)) ≡ insert (from_entries (map answer_in es)) row.key row
-  answer_put es free new = inserted answer_total same_answer_keys (map answer_in es) (map answer_in (insert_entry slot_cmp es slot row)) row.key row (put_found es free new)
+  pub answer_put : (es : List (AnswerSlot × AnswerRow)) → lookup (is_at (slot_cmp slot)) es ≡ None → lookup is_same (map answer_entry es) ≡ None →
+      from_entries {R = answer_cmp} (map answer_entry (insert_entry slot_cmp es slot row)) ≡ insert (from_entries (map answer_entry es)) row.key row
+  answer_put es free new = inserted answer_total same_answer_keys (map answer_entry es) (map answer_entry (insert_entry slot_cmp es slot row)) row.key row (put_found es free new)
 
 -- what stands in a slot is found under its key
 kept_found : (es : List (AnswerSlot × AnswerRow)) → AreKeysNew es → (slot : AnswerSlot) (row : AnswerRow) → lookup (is_at (slot_cmp slot)) es ≡ Some row →
-    lookup (is_at (answer_cmp row.key)) (map answer_in es) ≡ Some row
+    lookup (is_at (answer_cmp row.key)) (map answer_entry es) ≡ Some row
 kept_found [] are slot row found = let no : None ≡ Some row = found in absurd (cc)
 kept_found (e ∷ es) are slot row found =
-    let rest = lookup (is_at (answer_cmp row.key)) (map answer_in es) in
+    let rest = lookup (is_at (answer_cmp row.key)) (map answer_entry es) in
     elim (is_at (slot_cmp slot) e.0) as (λ b. cond b (Some e.1) (lookup (is_at (slot_cmp slot)) es) ≡ Some row → cond (is_at (answer_cmp row.key) e.1.key) (Some e.1) rest ≡ Some row) [
       | true ↦ λ h.
           let one : e.1 ≡ row = cc in
@@ -198,16 +198,16 @@ kept_found (e ∷ es) are slot row found =
           let later = kept_found es are.1 slot row h in
           let apart : is_at (answer_cmp row.key) e.1.key ≡ false = not_true (is_at (answer_cmp row.key) e.1.key) (λ yes.
           let one : row.key ≡ e.1.key = same_answer_keys row.key e.1.key (equal_from_test (answer_cmp row.key e.1.key) yes) in
-          let no : None ≡ Some row = sym are.0 ∙ ap (λ (k : AnswerKey). lookup (is_at (answer_cmp k)) (map answer_in es)) (sym one) ∙ later in cc) in
+          let no : None ≡ Some row = sym are.0 ∙ ap (λ (k : AnswerKey). lookup (is_at (answer_cmp k)) (map answer_entry es)) (sym one) ∙ later in cc) in
           ap (λ b. cond b (Some e.1) rest) apart ∙ later
     ] found
 
 -- what is found under a key stands in a slot, and has the key
-found_kept : (es : List (AnswerSlot × AnswerRow)) (key : AnswerKey) (row : AnswerRow) → lookup (is_at (answer_cmp key)) (map answer_in es) ≡ Some row →
+found_kept : (es : List (AnswerSlot × AnswerRow)) (key : AnswerKey) (row : AnswerRow) → lookup (is_at (answer_cmp key)) (map answer_entry es) ≡ Some row →
     (slot : AnswerSlot) × (j : ℕ) × (slice_get es j ≡ Some (slot, row)) × (key ≡ row.key)
 found_kept [] key row found = let no : None ≡ Some row = found in absurd (cc)
 found_kept (e ∷ es) key row found =
-    elim (is_at (answer_cmp key) e.1.key) as (λ b. is_at (answer_cmp key) e.1.key ≡ b → cond b (Some e.1) (lookup (is_at (answer_cmp key)) (map answer_in es)) ≡ Some row →
+    elim (is_at (answer_cmp key) e.1.key) as (λ b. is_at (answer_cmp key) e.1.key ≡ b → cond b (Some e.1) (lookup (is_at (answer_cmp key)) (map answer_entry es)) ≡ Some row →
     (slot : AnswerSlot) × (j : ℕ) × (slice_get (e ∷ es) j ≡ Some (slot, row)) × (key ≡ row.key)) [
       | true ↦ λ yes h.
           let one : e.1 ≡ row = cc in
@@ -267,7 +267,7 @@ module _ {K X : Type 0} {R : K → K → Ordering} (o : IsTotalOrder R) (same : 
       IsPermutation-trans (filter p (e.1 ∷ values_of es)) (filter p (e.1 ∷ values_of before)) (passing (entries (from_entries {R = R} (e ∷ es)))) one
       (subst (λ (fs : List (K × X)). IsPermutation (filter p (e.1 ∷ values_of before)) (passing fs)) (sym made) (put_among before e.0 e.1 gone))
 
-keys_new : (es : List (AnswerSlot × AnswerRow)) → AreKeysNew es → AreNew answer_total same_answer_keys (λ _. true) (map answer_in es)
+keys_new : (es : List (AnswerSlot × AnswerRow)) → AreKeysNew es → AreNew answer_total same_answer_keys (λ _. true) (map answer_entry es)
 keys_new [] are = tt
 keys_new (e ∷ es) are = (are.0, keys_new es are.1)
 
@@ -277,7 +277,7 @@ grouped true false c = refl
 grouped false true c = refl
 grouped false false c = refl
 
-values_in : (es : List (AnswerSlot × AnswerRow)) → values_of (map answer_in es) ≡ values_of es
+values_in : (es : List (AnswerSlot × AnswerRow)) → values_of (map answer_entry es) ≡ values_of es
 values_in [] = refl
 values_in (e ∷ es) = ap (λ rows. e.1 ∷ rows) (values_in es)
 
@@ -344,12 +344,12 @@ module _ (store : MapStore) where
   rows = values_of store.answers.entries
 
   abbrev world : World
-  world = world_of store
+  world = world_of_maps store
 
   -- the world's answers that pass a test are the rows that pass it
   permuted : (p : AnswerRow → Bool) → IsPermutation (filter p (values world.answers)) (filter p rows)
   permuted p =
-      let made = made_of answer_total same_answer_keys p (map answer_in store.answers.entries) (keys_new store.answers.entries (each_new store.answers.entries store.answer_keys_distinct)) in
+      let made = made_of answer_total same_answer_keys p (map answer_entry store.answers.entries) (keys_new store.answers.entries (each_new store.answers.entries store.answer_keys_distinct)) in
       IsPermutation-sym (filter p rows) (filter p (values world.answers)) (subst (λ (xs : List AnswerRow). IsPermutation (filter p xs) (filter p (values world.answers))) (values_in store.answers.entries) made)
 
   -- the rows of one round that pass are the listing
@@ -379,7 +379,7 @@ module _ (store : MapStore) where
 
   -- what stands in a slot is the world's under its key
   kept_in_world : (slot : AnswerSlot) (row : AnswerRow) → lookup (is_at (slot_cmp slot)) store.answers.entries ≡ Some row → get world.answers row.key ≡ Some row
-  kept_in_world slot row found = get_found answer_total (map answer_in store.answers.entries) row.key ∙ kept_found store.answers.entries (each_new store.answers.entries store.answer_keys_distinct) slot row found
+  kept_in_world slot row found = get_found answer_total (map answer_entry store.answers.entries) row.key ∙ kept_found store.answers.entries (each_new store.answers.entries store.answer_keys_distinct) slot row found
 
   module _ (slot : AnswerSlot) where
     abbrev key_with : List ℕ → AnswerKey
@@ -403,7 +403,7 @@ module _ (store : MapStore) where
           ] refl (sym is ∙ yes)),
       (λ h.
           let es : List (AnswerSlot × AnswerRow) = store.answers.entries in
-          let found : lookup (is_at (answer_cmp (key_with h.0))) (map answer_in es) ≡ Some h.1 = sym (get_found answer_total (map answer_in es) (key_with h.0)) ∙ h.2 in
+          let found : lookup (is_at (answer_cmp (key_with h.0))) (map answer_entry es) ≡ Some h.1 = sym (get_found answer_total (map answer_entry es) (key_with h.0)) ∙ h.2 in
           let at = found_kept es (key_with h.0) h.1 found in
           let there : lookup (is_at (slot_cmp at.0)) es ≡ Some h.1 =
           lookup-from_Contains (eq_by_cmp_equiv slot_total) at.0 h.1 es (IsDistinct-from_sorted slot_cmp (keys_of es) sorted) (contained es (at.0, h.1) at.1 at.2) in
@@ -422,8 +422,8 @@ module _ (store : MapStore) where
           absurd (can.next other.key.token other at.0 at.1)
     ] refl
 
-    pub key_fresh : lookup (is_at (answer_cmp row.key)) (map answer_in store.answers.entries) ≡ None
-    key_fresh = sym (get_found answer_total (map answer_in store.answers.entries) row.key) ∙ can.fresh
+    pub key_fresh : lookup (is_at (answer_cmp row.key)) (map answer_entry store.answers.entries) ≡ None
+    key_fresh = sym (get_found answer_total (map answer_entry store.answers.entries) row.key) ∙ can.fresh
 
   -- a row is the entrant's in the round exactly where an answer is
   pub submitted : IsStrictlySortedBy slot_cmp (keys_of store.answers.entries) → (entrant round : List ℕ) (has : Bool) →
@@ -446,7 +446,7 @@ module _ (store : MapStore) where
             let own : row.key ≡ key row.key.number row.key.token = λ i. record { entrant = other i; round = one i; number = row.key.number; token = row.key.token } in
             (row.key.number, row.key.token, row, subst (λ (k : AnswerKey). get world.answers k ≡ Some row) own (kept_in_world entry.0 row found))),
         (λ h.
-            let found : lookup (is_at (answer_cmp (key h.0 h.1))) (map answer_in es) ≡ Some h.2 = sym (get_found answer_total (map answer_in es) (key h.0 h.1)) ∙ h.3 in
+            let found : lookup (is_at (answer_cmp (key h.0 h.1))) (map answer_entry es) ≡ Some h.2 = sym (get_found answer_total (map answer_entry es) (key h.0 h.1)) ∙ h.3 in
             let at = found_kept es (key h.0 h.1) h.2 found in
             let own : key h.0 h.1 ≡ h.2.key = at.3 in
             let passes : ours h.2 ≡ true = ap (λ (k : AnswerKey). same_text k.round round && same_text k.entrant entrant) (sym own)

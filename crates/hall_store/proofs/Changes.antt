@@ -11,7 +11,8 @@ use Rattle.hall_policy.specs.declared.record.PlaceKey.{PlaceKey}
 use Rattle.hall_policy.specs.declared.record.TesterKey.{TesterKey}
 use Rattle.hall_policy.proofs.Maps.{get-insert_other}
 use Rattle.hall_policy.proofs.Orders.{text_total, same_texts, place_total, same_place_keys, tester_total, same_tester_keys}
-use Rattle.hall_store.specs.Change.{with_person, with_people, without_list, with_list, relisted, without_testers, with_testers, retested}
+use Rattle.hall_store.specs.Change.{with_person, with_people, without_list, with_list, relisted, without_testers_of}
+use Rattle.hall_store.specs.Change.{with_testers, retested}
 use Rattle.hall_store.proofs.Inserts.{found_after, others_stay, inserted_there}
 use Rattle.hall_store.proofs.Tests.{not_true, true_not_false, contained, later, any-Contains, Contains-any}
 use Rattle.hall_policy.proofs.Texts.{text_decides}
@@ -143,8 +144,8 @@ get-retested testers id names key =
     own_or_other key.round id (get (retested testers id names) key) (if_named names key.name) (get testers key)
     (λ own.
     ap (λ r. get (retested testers id names) (tester_key r key.name)) own
-    ∙ testers_there (without_testers testers id) id names key.name (own_gone same_tester_keys testers (λ (k : TesterKey). k.round) id (tester_key id key.name) refl))
-    (λ other. testers_elsewhere (without_testers testers id) id names key other ∙ others_kept same_tester_keys testers (λ (k : TesterKey). k.round) id key other)
+    ∙ testers_there (without_testers_of testers id) id names key.name (own_gone same_tester_keys testers (λ (k : TesterKey). k.round) id (tester_key id key.name) refl))
+    (λ other. testers_elsewhere (without_testers_of testers id) id names key other ∙ others_kept same_tester_keys testers (λ (k : TesterKey). k.round) id key other)
 
 -- ---- people
 module _ (people : FinMap text_cmp Person) (person : Person) where

@@ -8,7 +8,7 @@ use Rattle.hall_policy.specs.declared.record.Person.{Person}
 use Rattle.hall_policy.proofs.Orders.{text_total, same_texts}
 use Rattle.hall_store.specs.Change.{with_person, with_people, CanImport}
 use Rattle.hall_store.specs.Keyed.{Each, IsPersonIndexed, AgreedStay, AreLed}
-use Rattle.hall_store.specs.Maps.{world_of}
+use Rattle.hall_store.specs.Maps.{world_of_maps}
 use Rattle.hall_store.specs.declared.map_store.MapStore.{MapStore}
 use Rattle.hall_store.proofs.Changes.{with_people-found}
 use Rattle.hall_store.proofs.Inserts.{keys_apart}
@@ -38,7 +38,7 @@ module _ (es : List (List ℕ × Person)) (person : Person) where
   pub one_known : is_some (lookup (is_at (text_cmp person.name)) es) ≡ true → from_entries {R = text_cmp} es ≡ with_person (from_entries es) person
   one_known known = ap (λ (b : Bool). cond b (from_entries es) (insert (from_entries es) person.name person)) (sym (ap is_some (get_found text_total es person.name) ∙ known))
 
-module _ (store : MapStore) (list : List Person) (can : CanImport (world_of store) list) (keys : List (List ℕ × List ℕ)) (stay : AgreedStay list store.keys.entries keys) where
+module _ (store : MapStore) (list : List Person) (can : CanImport (world_of_maps store) list) (keys : List (List ℕ × List ℕ)) (stay : AgreedStay list store.keys.entries keys) where
   -- the index that was written still leads to those who were known
   pub known_indexed : Each text_cmp store.people.entries (IsPersonIndexed keys)
   known_indexed name p found =

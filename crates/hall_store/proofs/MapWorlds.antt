@@ -26,7 +26,7 @@ use Rattle.hall_policy.proofs.Maps.{find_is_lookup, sorted_by_test, get_of_value
 use Rattle.hall_policy.proofs.Orders.{text_total, same_texts, place_total, tester_total}
 use Rattle.hall_store.specs.Caller.{IsKeyHolder, with_key}
 use Rattle.hall_store.specs.Keyed.{if_holder, holder_under, holder_of, testers_at}
-use Rattle.hall_store.specs.Maps.{world_of, head_of, places_from, places_in, testers_in}
+use Rattle.hall_store.specs.Maps.{world_of_maps, round_head, places_from, places_in, testers_in}
 use Rattle.hall_store.specs.Store.{AreTestersOf, IsRoundKept}
 use Rattle.hall_store.specs.declared.map_store.MapStore.{MapStore}
 use Rattle.hall_store.proofs.Changes.{if_named, if_named-Contains}
@@ -77,37 +77,37 @@ module _ (store : MapStore) (key : List ℕ) where
   found = holder_of store.people.entries store.keys.entries key
 
   -- whoever has the key is found
-  pub is_found : (name : List ℕ) (other : Person) → get (world_of store).people name ≡ Some other → other.key ≡ key → found ≡ Some other
+  pub is_found : (name : List ℕ) (other : Person) → get (world_of_maps store).people name ≡ Some other → other.key ≡ key → found ≡ Some other
   is_found name other kept own =
       let at : lookup (is_at (text_cmp name)) store.people.entries ≡ Some other = sym (get_found text_total store.people.entries name) ∙ kept in
       let led : lookup (is_at (text_cmp key)) store.keys.entries ≡ Some name = subst (λ k. lookup (is_at (text_cmp k)) store.keys.entries ≡ Some name) own (store.people_indexed name other at).led in
       ap (holder_under store.people.entries key) led ∙ ap (if_holder key) at ∙ ap (λ b. cond b (Some other) None) ((text_decides other.key key).1 own)
 
   -- who is found has the key, and is kept under that person's name
-  pub found_kept : (p : Person) → found ≡ Some p → (get (world_of store).people p.name ≡ Some p) × (p.key ≡ key)
+  pub found_kept : (p : Person) → found ≡ Some p → (get (world_of_maps store).people p.name ≡ Some p) × (p.key ≡ key)
   found_kept p is =
       let at = found_holder store.people.entries key (lookup (is_at (text_cmp key)) store.keys.entries) p is in
       let own : p.name ≡ at.0 = (store.people_indexed at.0 p at.2).own in
       (get_found text_total store.people.entries p.name ∙ subst (λ (n : List ℕ). lookup (is_at (text_cmp n)) store.people.entries ≡ Some p) (sym own) at.2, at.3)
 
   -- the person found is the only one with the key
-  pub holder_found : IsKeyHolder (world_of store) key found
+  pub holder_found : IsKeyHolder (world_of_maps store) key found
   holder_found = record {
-    found = elim (with_key (world_of store) key) as (λ (o : Option Person). with_key (world_of store) key ≡ o → found ≡ o) [
+    found = elim (with_key (world_of_maps store) key) as (λ (o : Option Person). with_key (world_of_maps store) key ≡ o → found ≡ o) [
       | None ↦ λ none. elim found as (λ (o : Option Person). found ≡ o → o ≡ None) [
         | None ↦ λ _. refl
         | Some p ↦ λ is.
             let kept = found_kept p is in
-            let among = value_of_get (world_of store).people p.name p kept.0 in
-            let fails : same_text p.key key ≡ false = find-None (λ (q : Person). same_text q.key key) (values (world_of store).people) none p among in
+            let among = value_of_get (world_of_maps store).people p.name p kept.0 in
+            let fails : same_text p.key key ≡ false = find-None (λ (q : Person). same_text q.key key) (values (world_of_maps store).people) none p among in
             absurd (let no : true ≡ false = sym ((text_decides p.key key).1 kept.1) ∙ fails in cc)
       ] refl
       | Some p ↦ λ is.
-          let at = find-Contains (λ (q : Person). same_text q.key key) (values (world_of store).people) p is in
-          let under = get_of_value text_total (world_of store).people p at.0 in
+          let at = find-Contains (λ (q : Person). same_text q.key key) (values (world_of_maps store).people) p is in
+          let under = get_of_value text_total (world_of_maps store).people p at.0 in
           is_found under.0 p under.1 ((text_decides p.key key).0 at.1)
     ] refl;
-    there = elim found as (λ (o : Option Person). found ≡ o → IfSome o (λ p. get (world_of store).people p.name ≡ Some p)) [
+    there = elim found as (λ (o : Option Person). found ≡ o → IfSome o (λ p. get (world_of_maps store).people p.name ≡ Some p)) [
       | None ↦ λ e. tt
       | Some p ↦ λ e. (found_kept p e).0
     ] refl;
@@ -116,9 +116,9 @@ module _ (store : MapStore) (key : List ℕ) where
   }
 
 -- ---- rounds
-pub head_found : (test : List ℕ → Bool) (es : List (List ℕ × RoundRow)) → lookup test (map head_of es) ≡ option_map (λ row. row.round) (lookup test es)
+pub head_found : (test : List ℕ → Bool) (es : List (List ℕ × RoundRow)) → lookup test (map round_head es) ≡ option_map (λ row. row.round) (lookup test es)
 head_found test [] = refl
-head_found test (e ∷ es) = elim (test e.0) as (λ b. cond b (Some e.1.round) (lookup test (map head_of es)) ≡ option_map (λ row. row.round) (cond b (Some e.1) (lookup test es))) [ true ↦ refl | false ↦ head_found test es ]
+head_found test (e ∷ es) = elim (test e.0) as (λ b. cond b (Some e.1.round) (lookup test (map round_head es)) ≡ option_map (λ row. row.round) (cond b (Some e.1) (lookup test es))) [ true ↦ refl | false ↦ head_found test es ]
 
 -- ---- what stands in the rows of rounds
 -- the entries stand in their rounds' rows: at a key one finds what the row of its round has there
@@ -208,7 +208,7 @@ places_of_rounds = record {
 
 -- what the world has at a place
 pub get_place : (store : MapStore) → IsStrictlySortedBy text_cmp (keys_of store.rounds.entries) → (id : List ℕ) (number : ℕ) →
-    get (world_of store).places (place_key id number) ≡ place_of (lookup (is_at (text_cmp id)) store.rounds.entries) number
+    get (world_of_maps store).places (place_key id number) ≡ place_of (lookup (is_at (text_cmp id)) store.rounds.entries) number
 get_place store sorted id number = get_part places_of_rounds place_total store.rounds.entries sorted (place_key id number)
 
 -- ---- testers
@@ -257,11 +257,11 @@ testers_of_rounds = record {
 
 -- who tests a round is named in its row
 tester_kept : (store : MapStore) → IsStrictlySortedBy text_cmp (keys_of store.rounds.entries) → (id name : List ℕ) (found : Option RoundRow) → found ≡ lookup (is_at (text_cmp id)) store.rounds.entries →
-    IsTesterOf (world_of store) id name ↔ Contains (testers_at found) name
+    IsTesterOf (world_of_maps store) id name ↔ Contains (testers_at found) name
 tester_kept store sorted id name found seen =
-    let at : get (world_of store).testers (tester_key id name) ≡ option_and_then (λ (row : RoundRow). if_named row.testers name) found =
+    let at : get (world_of_maps store).testers (tester_key id name) ≡ option_and_then (λ (row : RoundRow). if_named row.testers name) found =
     get_part testers_of_rounds tester_total store.rounds.entries sorted (tester_key id name) ∙ ap (option_and_then (λ (row : RoundRow). if_named row.testers name)) (sym seen) in
-    elim found as (λ (o : Option RoundRow). get (world_of store).testers (tester_key id name) ≡ option_and_then (λ (row : RoundRow). if_named row.testers name) o → IsTesterOf (world_of store) id name ↔ Contains (testers_at o) name) [
+    elim found as (λ (o : Option RoundRow). get (world_of_maps store).testers (tester_key id name) ≡ option_and_then (λ (row : RoundRow). if_named row.testers name) o → IsTesterOf (world_of_maps store) id name ↔ Contains (testers_at o) name) [
       | None ↦ λ e. (
         (λ is. let no : None ≡ Some tt = sym e ∙ is in absurd (cc)),
         (λ among. absurd (omega (arith, among.1))),
@@ -274,7 +274,7 @@ tester_kept store sorted id name found seen =
 
 -- the names in the row of a round are those who test it
 pub testers_kept : (store : MapStore) (id : List ℕ) (names : List (List ℕ)) → names ≡ testers_at (lookup (is_at (text_cmp id)) store.rounds.entries) → AllPairs (λ a b. ¬ (a ≡ b)) names → IsStrictlySortedBy text_cmp (keys_of store.rounds.entries) →
-    AreTestersOf (world_of store) id names
+    AreTestersOf (world_of_maps store) id names
 testers_kept store id names are differ sorted = record {
   whole = λ name.
       let kept = tester_kept store sorted id name (lookup (is_at (text_cmp id)) store.rounds.entries) refl in (
@@ -287,17 +287,17 @@ testers_kept store id names are differ sorted = record {
 -- ---- a round, whole
 -- the row of a round, or none, is what the world has of it
 pub round_found : (store : MapStore) (id : List ℕ) (found : Option RoundRow) → found ≡ lookup (is_at (text_cmp id)) store.rounds.entries → IsStrictlySortedBy text_cmp (keys_of store.rounds.entries) →
-    IsRoundFound (world_of store) (Some id) found
-round_found store id None found sorted = get_found text_total (map head_of store.rounds.entries) id ∙ head_found (is_at (text_cmp id)) store.rounds.entries ∙ ap (option_map (λ row. row.round)) (sym found)
+    IsRoundFound (world_of_maps store) (Some id) found
+round_found store id None found sorted = get_found text_total (map round_head store.rounds.entries) id ∙ head_found (is_at (text_cmp id)) store.rounds.entries ∙ ap (option_map (λ row. row.round)) (sym found)
 round_found store id (Some row) found sorted = record {
-  head = get_found text_total (map head_of store.rounds.entries) id ∙ head_found (is_at (text_cmp id)) store.rounds.entries ∙ ap (option_map (λ r. r.round)) (sym found);
+  head = get_found text_total (map round_head store.rounds.entries) id ∙ head_found (is_at (text_cmp id)) store.rounds.entries ∙ ap (option_map (λ r. r.round)) (sym found);
   list = λ number. get_place store sorted id number ∙ ap (λ (o : Option RoundRow). place_of o number) (sym found);
   testers = λ name. tester_kept store sorted id name (Some row) found;
 }
 
 -- the round that was found is kept with its whole list and its testers, and where none was found there is no list
 pub round_kept : (store : MapStore) (id : List ℕ) (found : Option RoundRow) → found ≡ lookup (is_at (text_cmp id)) store.rounds.entries → IsStrictlySortedBy text_cmp (keys_of store.rounds.entries) →
-    IsRoundKept (world_of store) id found
+    IsRoundKept (world_of_maps store) id found
 round_kept store id found seen sorted = record {
   row = round_found store id found seen sorted;
   empty = λ none entry lists. let no : None ≡ Some entry = ap (λ (o : Option RoundRow). place_of o lists.0) (sym none ∙ seen) ∙ sym (get_place store sorted id lists.0) ∙ lists.1 in cc;

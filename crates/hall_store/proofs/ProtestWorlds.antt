@@ -13,7 +13,7 @@ use Rattle.hall_policy.specs.declared.record.ProtestKey.{ProtestKey}
 use Rattle.hall_policy.specs.declared.record.ProtestRow.{ProtestRow}
 use Rattle.hall_policy.proofs.Orders.{protest_total, same_protest_keys}
 use Rattle.hall_store.specs.Keyed.{IsOpenIn, HasOpen}
-use Rattle.hall_store.specs.Maps.{world_of}
+use Rattle.hall_store.specs.Maps.{world_of_maps}
 use Rattle.hall_store.specs.Store.{IsProtestOpen}
 use Rattle.hall_store.specs.declared.map_store.MapStore.{MapStore}
 use Rattle.hall_store.proofs.MapWorlds.{get_found}
@@ -49,11 +49,11 @@ module _ (store : MapStore) (sorted : IsStrictlySortedBy protest_cmp (keys_of st
   abbrev es : List (ProtestKey × ProtestRow)
   es = store.protests.entries
 
-  pub get_protest : (key : ProtestKey) → get (world_of store).protests key ≡ lookup (is_at (protest_cmp key)) es
+  pub get_protest : (key : ProtestKey) → get (world_of_maps store).protests key ≡ lookup (is_at (protest_cmp key)) es
   get_protest key = get_found protest_total es key
 
   -- a row of the round is open exactly where a protest of the world is
-  pub open_kept : (round : List ℕ) → HasOpen round (values_of es) ↔ IsProtestOpen (world_of store) round
+  pub open_kept : (round : List ℕ) → HasOpen round (values_of es) ↔ IsProtestOpen (world_of_maps store) round
   open_kept round = (
     (λ h.
         let entry = Contains-from_values_of es h.0 h.1 in

@@ -16,14 +16,14 @@ use Rattle.hall_policy.specs.declared.record.Round.{Round}
 use Rattle.hall_policy.specs.declared.record.RoundRow.{RoundRow}
 use Rattle.hall_policy.proofs.Orders.{text_total, same_texts, place_total, same_place_keys, tester_total, same_tester_keys}
 use Rattle.hall_store.specs.Change.{relisted, retested}
-use Rattle.hall_store.specs.Maps.{head_of, places_in, testers_in}
+use Rattle.hall_store.specs.Maps.{round_head, places_in, testers_in}
 use Rattle.hall_store.proofs.Changes.{own_or_other, get-relisted, if_named, get-retested}
 use Rattle.hall_store.proofs.MapWorlds.{AreOfRounds, entries_made, inserted, head_found, get_part, places_of_rounds, testers_of_rounds}
 use Rattle.hall_store.proofs.Ranges.{equal_from_test}
 use Rattle.hall_store.proofs.Tests.{not_true}
 
 abbrev heads : List (List ℕ × RoundRow) → FinMap text_cmp Round
-heads es = from_entries (map head_of es)
+heads es = from_entries (map round_head es)
 
 abbrev places : List (List ℕ × RoundRow) → FinMap place_cmp Entry
 places es = from_entries (flat_map places_in es)
@@ -36,18 +36,18 @@ head_chosen true row o = refl
 head_chosen false row o = refl
 
 -- the ids of the heads are those of the rows
-same_ids : (es : List (List ℕ × RoundRow)) → keys_of (map head_of es) ≡ keys_of es
+same_ids : (es : List (List ℕ × RoundRow)) → keys_of (map round_head es) ≡ keys_of es
 same_ids [] = refl
 same_ids (e ∷ es) = ap (λ ids. e.0 ∷ ids) (same_ids es)
 
-heads_of_rows : (es : List (List ℕ × RoundRow)) → values_of (map head_of es) ≡ map (λ (row : RoundRow). row.round) (values_of es)
+heads_of_rows : (es : List (List ℕ × RoundRow)) → values_of (map round_head es) ≡ map (λ (row : RoundRow). row.round) (values_of es)
 heads_of_rows [] = refl
 heads_of_rows (e ∷ es) = ap (λ rest. e.1.round ∷ rest) (heads_of_rows es)
 
 -- the world's rounds are the heads of the rows, in the order of their ids
 pub heads_listed : (es : List (List ℕ × RoundRow)) → IsStrictlySortedBy text_cmp (keys_of es) → values (heads es) ≡ map (λ (row : RoundRow). row.round) (values_of es)
 heads_listed es sorted =
-    ap values_of (entries_made text_total same_texts (map head_of es) (subst (IsStrictlySortedBy text_cmp) (sym (same_ids es)) sorted)) ∙ heads_of_rows es
+    ap values_of (entries_made text_total same_texts (map round_head es) (subst (IsStrictlySortedBy text_cmp) (sym (same_ids es)) sorted)) ∙ heads_of_rows es
 
 -- another id doesn't tie
 untied : (k id : List ℕ) → id ≢ k → is_at (text_cmp k) id ≡ false
@@ -58,7 +58,7 @@ module _ (es fs : List (List ℕ × RoundRow)) (k : List ℕ) (row : RoundRow)
     (before : IsStrictlySortedBy text_cmp (keys_of es)) (after : IsStrictlySortedBy text_cmp (keys_of fs)) where
   -- the rounds have its head
   pub heads_inserted : heads fs ≡ insert (heads es) k row.round
-  heads_inserted = inserted text_total same_texts (map head_of es) (map head_of fs) k row.round (λ q.
+  heads_inserted = inserted text_total same_texts (map round_head es) (map round_head fs) k row.round (λ q.
       head_found (is_at (text_cmp q)) fs ∙ ap (option_map (λ (r : RoundRow). r.round)) (updates q)
       ∙ head_chosen (is_at (text_cmp k) q) row (lookup (is_at (text_cmp q)) es)
       ∙ ap (cond (is_at (text_cmp k) q) (Some row.round)) (sym (head_found (is_at (text_cmp q)) es)))

@@ -14,13 +14,13 @@ use Rattle.std.proofs.lemmas.Option.{slice_get-map}
 use Rattle.std.proofs.lemmas.Map.Views.{Contains-from_lookup}
 use Rattle.hall_policy.specs.Text.{text_cmp}
 use Rattle.hall_policy.specs.World.{same_text}
-use Rattle.hall_policy.specs.Rules.{Lists}
+use Rattle.hall_policy.specs.Rules.{ListsEntry}
 use Rattle.hall_policy.specs.declared.record.PuzzleKey.{PuzzleKey}
 use Rattle.hall_policy.specs.declared.record.Entry.{Entry}
 use Rattle.hall_policy.specs.declared.record.RoundRow.{RoundRow}
 use Rattle.hall_store.specs.Store.{AreUsing}
 use Rattle.hall_store.specs.Keyed.{has_puzzle_at, ids_using, is_use_of, is_use_true, use_cmp, use_of}
-use Rattle.hall_store.specs.Maps.{world_of}
+use Rattle.hall_store.specs.Maps.{world_of_maps}
 use Rattle.hall_store.specs.declared.map_store.MapStore.{MapStore}
 use Rattle.hall_store.specs.declared.slot.UseKey.{UseKey}
 use Rattle.hall_store.proofs.Firsts.{same_uses}
@@ -104,10 +104,10 @@ module _ (store : MapStore) (key : PuzzleKey) (rounds_sorted : IsStrictlySortedB
   of_key used = is_use_of key used.0
 
   -- a round that has the puzzle has it at a place
-  listed : (id : List ℕ) → has_puzzle_at key (lookup (is_at (text_cmp id)) store.rounds.entries) ≡ true → (entry : Entry) × Lists (world_of store) id entry × (entry.puzzle ≡ key)
+  listed : (id : List ℕ) → has_puzzle_at key (lookup (is_at (text_cmp id)) store.rounds.entries) ≡ true → (entry : Entry) × ListsEntry (world_of_maps store) id entry × (entry.puzzle ≡ key)
   listed id has =
       elim (lookup (is_at (text_cmp id)) store.rounds.entries) as (λ (o : Option RoundRow). lookup (is_at (text_cmp id)) store.rounds.entries ≡ o → has_puzzle_at key o ≡ true →
-      (entry : Entry) × Lists (world_of store) id entry × (entry.puzzle ≡ key)) [
+      (entry : Entry) × ListsEntry (world_of_maps store) id entry × (entry.puzzle ≡ key)) [
         | None ↦ λ e h. absurd (let no : false ≡ true = h in cc)
         | Some row ↦ λ e h.
             let at = any-Contains (is_of key) row.puzzles h in
@@ -125,7 +125,7 @@ module _ (store : MapStore) (key : PuzzleKey) (rounds_sorted : IsStrictlySortedB
   in_row id zero entry (Some row) at = absurd (let no : None ≡ Some entry = at in cc)
   in_row id (suc before) entry (Some row) at = (row, refl, contained row.puzzles entry before at)
 
-  whole : (ids : List (List ℕ)) → ids ≡ ids_using store.rounds.entries key uses → (id : List ℕ) → Contains ids id ↔ ((entry : Entry) × Lists (world_of store) id entry × (entry.puzzle ≡ key))
+  whole : (ids : List (List ℕ)) → ids ≡ ids_using store.rounds.entries key uses → (id : List ℕ) → Contains ids id ↔ ((entry : Entry) × ListsEntry (world_of_maps store) id entry × (entry.puzzle ≡ key))
   whole ids is id = (
     (λ among.
         let used = mapped_from (λ (u : UseKey × Unit {0}). u.0.round) (filter true_use (filter of_key uses)) id (subst (λ (l : List (List ℕ)). Contains l id) is among) in
@@ -146,7 +146,7 @@ module _ (store : MapStore) (key : PuzzleKey) (rounds_sorted : IsStrictlySortedB
   )
 
   -- the ids that the index leads to, where the rows agree, are those of the rounds that have the puzzle
-  pub using_found : IsStrictlySortedBy use_cmp (keys_of uses) → (ids : List (List ℕ)) → ids ≡ ids_using store.rounds.entries key uses → AreUsing (world_of store) key ids
+  pub using_found : IsStrictlySortedBy use_cmp (keys_of uses) → (ids : List (List ℕ)) → ids ≡ ids_using store.rounds.entries key uses → AreUsing (world_of_maps store) key ids
   using_found uses_sorted ids is = record {
     whole = whole ids is;
     in_order = subst (λ (l : List (List ℕ)). IsStrictlySortedBy text_cmp l) (sym is) (ids_in_order key true_use uses uses_sorted);

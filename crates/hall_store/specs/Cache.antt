@@ -22,7 +22,7 @@ pub record IsBounded (cache : Cache) : Type 0 where
   pub puzzles : length cache.puzzles.entries ≤ 1000
 
 -- each copy is what the store would tell, and there are at most so many of each kind
-pub record Agrees (content : Content) (cache : Cache) : Type 0 where
+pub record CacheAgrees (content : Content) (cache : Cache) : Type 0 where
   pub people : Each text_cmp cache.people.entries
       (λ key person. Stands content (λ world. IsKeyHolder world key (Some person)))
   pub rounds : Each text_cmp cache.rounds.entries

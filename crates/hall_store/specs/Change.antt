@@ -51,8 +51,8 @@ abbrev pub relisted : FinMap place_cmp Entry → List ℕ → List Entry → Fin
 relisted places id entries = with_list (without_list places id) id 1 entries
 
 -- the testers of all rounds but this one
-abbrev pub without_testers : FinMap tester_cmp (Unit {0}) → List ℕ → FinMap tester_cmp (Unit {0})
-without_testers testers id = retain_keys testers (λ key. not (same_text key.round id))
+abbrev pub without_testers_of : FinMap tester_cmp (Unit {0}) → List ℕ → FinMap tester_cmp (Unit {0})
+without_testers_of testers id = retain_keys testers (λ key. not (same_text key.round id))
 
 -- the testers, and those of these names in the round
 abbrev pub with_testers : FinMap tester_cmp (Unit {0}) → List ℕ → List (List ℕ) → FinMap tester_cmp (Unit {0})
@@ -62,7 +62,7 @@ with_testers testers id (name ∷ names) =
 
 -- the testers, those of the round being the ones of these names
 abbrev pub retested : FinMap tester_cmp (Unit {0}) → List ℕ → List (List ℕ) → FinMap tester_cmp (Unit {0})
-retested testers id names = with_testers (without_testers testers id) id names
+retested testers id names = with_testers (without_testers_of testers id) id names
 
 -- the round with the flag set
 abbrev pub flagged : RoundFlag → Round → Round

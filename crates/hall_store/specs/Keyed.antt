@@ -145,8 +145,8 @@ abbrev pub slot_of : AnswerRow → AnswerSlot
 slot_of row = record { round = row.key.round; entrant = row.key.entrant; number = row.key.number; n = row.n }
 
 -- an answer under its key
-abbrev pub answer_in : AnswerSlot × AnswerRow → AnswerKey × AnswerRow
-answer_in entry = (entry.1.key, entry.1)
+abbrev pub answer_entry : AnswerSlot × AnswerRow → AnswerKey × AnswerRow
+answer_entry entry = (entry.1.key, entry.1)
 
 -- no answer has the key of another
 abbrev pub AreKeysDistinct : List (AnswerSlot × AnswerRow) → Type 0

@@ -8,13 +8,13 @@ use Rattle.hall_policy.specs.declared.record.Entry.{Entry}
 use Rattle.hall_policy.specs.declared.record.PlaceKey.{PlaceKey}
 use Rattle.hall_policy.specs.declared.record.RoundRow.{RoundRow}
 use Rattle.hall_policy.specs.declared.record.TesterKey.{TesterKey}
-use Rattle.hall_store.specs.Keyed.{answer_in}
+use Rattle.hall_store.specs.Keyed.{answer_entry}
 use Rattle.hall_store.specs.Store.{Content}
 use Rattle.hall_store.specs.declared.map_store.MapStore.{MapStore}
 
 -- a round without its puzzles and testers, under its id
-abbrev pub head_of : List ℕ × RoundRow → List ℕ × Round
-head_of entry = (entry.0, entry.1.round)
+abbrev pub round_head : List ℕ × RoundRow → List ℕ × Round
+round_head entry = (entry.0, entry.1.round)
 
 -- the puzzles of a round at their places, numbered from the given number on
 abbrev pub places_from : List ℕ → ℕ → List Entry → List (PlaceKey × Entry)
@@ -31,21 +31,22 @@ abbrev pub testers_in : List ℕ × RoundRow → List (TesterKey × Unit {0})
 testers_in entry = map (λ name. (record { round = entry.0; name = name }, tt)) entry.1.testers
 
 -- each map holds the entries of its ordered map; the puzzles and the testers of rounds stand in their rounds
-abbrev pub world_of : MapStore → World
-world_of store = record {
+abbrev pub world_of_maps : MapStore → World
+world_of_maps store = record {
   people = from_entries store.people.entries;
   puzzles = from_entries store.puzzles.entries;
-  rounds = from_entries (map head_of store.rounds.entries);
+  rounds = from_entries (map round_head store.rounds.entries);
   places = from_entries (flat_map places_in store.rounds.entries);
-  answers = from_entries (map answer_in store.answers.entries);
+  answers = from_entries (map answer_entry store.answers.entries);
   protests = from_entries store.protests.entries;
   testers = from_entries (flat_map testers_in store.rounds.entries);
 }
 
 -- ordered maps have no device that could lie or fail, so no fault is counted; nor do they count their writes, and a stop
 -- leaves nothing
-abbrev pub content_of : MapStore → Content
-content_of store = record { honest = ⊤; serves = ⊤; faults = 0; writes = 0; world = world_of store; may_leave = λ _. ⊥ }
+abbrev pub content_of_maps : MapStore → Content
+content_of_maps store =
+    record { honest = ⊤; serves = ⊤; faults = 0; writes = 0; world = world_of_maps store; may_leave = λ _. ⊥ }
 
 -- nobody and nothing
 abbrev pub empty_world : World

@@ -7,7 +7,7 @@ use Rattle.std.specs.declared.cmp.Ordering.{Ordering}
 use Rattle.std.specs.FinMap.{get, values}
 use Rattle.hall_policy.specs.Text.{text_cmp}
 use Rattle.hall_policy.specs.World.{World, IsTesterOf, answer_of, same_text}
-use Rattle.hall_policy.specs.Rules.{Lists}
+use Rattle.hall_policy.specs.Rules.{ListsEntry}
 use Rattle.hall_policy.specs.Facts.{IsRoundFound}
 use Rattle.hall_policy.specs.Sink.{HasTaken}
 use Rattle.hall_policy.specs.declared.record.PuzzleKey.{PuzzleKey}
@@ -95,13 +95,13 @@ abbrev pub Asks : Content → (World → Type 0) → Type 0
 Asks content Needs = content.honest → content.serves → Needs content.world
 
 -- A call makes the change in a store that serves, or is refused and leaves the world.
-abbrev pub Made : {R E : Type 0} → Change → Content → Content → Result R E → Type 0
-Made change old new (Ok done) = new.honest → new.serves × (new.world ≡ changed change old.world)
-Made change old new (Err fault) = new.honest → new.serves → new.world ≡ old.world
+abbrev pub MakesInWorld : {R E : Type 0} → Change → Content → Content → Result R E → Type 0
+MakesInWorld change old new (Ok done) = new.honest → new.serves × (new.world ≡ changed change old.world)
+MakesInWorld change old new (Err fault) = new.honest → new.serves → new.world ≡ old.world
 
 -- a call leaves the world, while the store serves
-abbrev pub Left : Content → Content → Type 0
-Left old new = new.honest → new.serves → new.world ≡ old.world
+abbrev pub KeptWorld : Content → Content → Type 0
+KeptWorld old new = new.honest → new.serves → new.world ≡ old.world
 
 -- at most one write was made
 abbrev pub WritesOnce : Content → Content → Type 0
@@ -113,7 +113,7 @@ pub record Makes {R E : Type 0} (change : Change) (old new : Content) (result : 
   pub leads : Leads old new
   pub once : WritesOnce old new
   pub stops : old.serves → LeavesOneOf (λ before left. left ≡ changed change before) old new
-  pub made : Made change old new result
+  pub made : MakesInWorld change old new result
 
 -- A relation of the worlds before and after holds over a store: nothing asked of the store made it true, it holds of
 -- each world that stays, and the store's world was left; or the store served before and after, and it holds of its
@@ -126,7 +126,7 @@ Over Relates old new =
 -- what is kept of the round: its head with its whole list and its testers, or neither head nor list
 pub record IsRoundKept (world : World) (id : List ℕ) (found : Option RoundRow) : Type 0 where
   pub row : IsRoundFound world (Some id) found
-  pub empty : found ≡ None → (entry : Entry) → ¬ (Lists world id entry)
+  pub empty : found ≡ None → (entry : Entry) → ¬ (ListsEntry world id entry)
 
 -- the names of those who test the round, none twice; no order is promised
 pub record AreTestersOf (world : World) (round : List ℕ) (names : List (List ℕ)) : Type 0 where
@@ -173,7 +173,7 @@ IsProtestOpen world round =
 
 -- the ids of the rounds that have the puzzle, each once, in their order
 pub record AreUsing (world : World) (key : PuzzleKey) (ids : List (List ℕ)) : Type 0 where
-  pub whole : (id : List ℕ) → Contains ids id ↔ ((entry : Entry) × Lists world id entry × (entry.puzzle ≡ key))
+  pub whole : (id : List ℕ) → Contains ids id ↔ ((entry : Entry) × ListsEntry world id entry × (entry.puzzle ≡ key))
   pub in_order : IsStrictlySortedBy text_cmp ids
 
 -- the author's puzzles, in the order of their keys

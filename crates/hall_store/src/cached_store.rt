@@ -22,13 +22,13 @@ pub struct CachedStore<S: ReadStore> {
 }
 
 impl<S: ReadStore> Model for CachedStore<S> {
-    ghost use Rattle.hall_store.specs.Cache.{Agrees};
+    ghost use Rattle.hall_store.specs.Cache.{CacheAgrees};
 
     ghost Value = { S };
 
     ghost view = { λ s. s.store };
 
-    ghost invariant = { λ s. Agrees (S.content s.store) s.cache };
+    ghost invariant = { λ s. CacheAgrees (S.content s.store) s.cache };
 }
 
 impl<S: ReadStore> CachedStore<S> {

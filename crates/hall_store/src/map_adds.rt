@@ -7,7 +7,7 @@ ghost use Rattle.hall_policy.specs.Lists.{ArePeopleDifferent};
 ghost use Rattle.hall_store.specs.Change.{with_people};
 ghost use Rattle.hall_store.specs.Keyed.{Each, IsRoundIndexed, IsUseKept, UsesStay, use_cmp, use_of};
 ghost use Rattle.hall_store.specs.Keyed.{AgreedStay, AreLed};
-ghost use Rattle.hall_store.specs.Maps.{world_of, empty_world};
+ghost use Rattle.hall_store.specs.Maps.{world_of_maps, empty_world};
 
 use crate::map_store::MapStore;
 use crate::slot::UseKey;
@@ -19,7 +19,7 @@ use std::collections::BTreeMap;
 impl MapStore {
     /// Nobody and nothing.
     pub fn new(alloc: Global) -> MapStore
-        ensures { world_of result ≡ empty_world }
+        ensures { world_of_maps result ≡ empty_world }
     {
         MapStore {
             people: BTreeMap::new(alloc),

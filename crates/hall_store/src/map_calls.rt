@@ -28,9 +28,9 @@ use hall_policy::{
 use std::alloc::Global;
 
 impl ReadStore for MapStore {
-    ghost use Rattle.hall_store.specs.Maps.{content_of};
+    ghost use Rattle.hall_store.specs.Maps.{content_of_maps};
 
-    ghost content = { content_of };
+    ghost content = { content_of_maps };
 
     ghost can_fail = { ⊥ };
 

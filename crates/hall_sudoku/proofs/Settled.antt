@@ -5,7 +5,7 @@ use Rattle.hall_grid.specs.Board.{cells, row, col}
 use Rattle.hall_grid.specs.Sudoku.{box}
 use Rattle.hall_sudoku.specs.declared.singles.Shared.{Shared}
 use Rattle.hall_sudoku.specs.Values.{Has}
-use Rattle.hall_sudoku.specs.Settled.{StandsIn, MayTake, HaveNoClash, HaveTwoCells, IsSettled}
+use Rattle.hall_sudoku.specs.Settled.{StandsIn, MayTake, HaveNoClash, HaveTwoCells, IsBoardSettled}
 use Rattle.hall_sudoku.proofs.Tables.{none_from}
 use Rattle.hall_sudoku.specs.Candidates.{AreCandidates, AreShared, AreAllShared, AreComplete, AreAllComplete, HaveNoSole}
 
@@ -36,7 +36,7 @@ module _ (size : Size) (p : List (Option ℕ)) (candidates : List ℕ) (exact : 
         may_second = may two.second v two.before (is_open unit two.second v at two.before two.in_second two.has_second nowhere) two.has_second;
       }
 
-  pub settled_of : HaveNoClash size p → (shared : Shared) → AreAllShared size candidates shared → AreAllComplete size candidates → HaveNoSole size p candidates shared → IsSettled size p
+  pub settled_of : HaveNoClash size p → (shared : Shared) → AreAllShared size candidates shared → AreAllComplete size candidates → HaveNoSole size p candidates shared → IsBoardSettled size p
   settled_of apart shared sh complete none = record {
     apart = apart;
     cells = λ cell free.

@@ -60,7 +60,7 @@ HaveTwoCells size unit p = (at value : ℕ) → at < size.cols → value < size.
     → HasTwoCells size unit p at value
 
 -- no value stands twice in a unit, no cell has one value left only, and no value one cell of a unit
-pub record IsSettled (size : Size) (p : List (Option ℕ)) : Type 0 where
+pub record IsBoardSettled (size : Size) (p : List (Option ℕ)) : Type 0 where
   pub apart : HaveNoClash size p
   pub cells : (cell : ℕ) → IsOpen p cell → HasTwoValues size p cell
   pub rows : HaveTwoCells size (row size) p

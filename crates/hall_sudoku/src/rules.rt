@@ -76,11 +76,11 @@ impl SudokuRules {
 impl Rules for SudokuRules {
     ghost use Rattle.hall_grid.specs.declared.board.Kind.TheVariants.{Sudoku};
     ghost use Rattle.hall_solve.specs.Puzzle.{question_of};
-    ghost use Rattle.hall_sudoku.specs.Settled.{IsSettled};
+    ghost use Rattle.hall_sudoku.specs.Settled.{IsBoardSettled};
 
     ghost question = { λ r. question_of Sudoku r.board };
 
-    ghost settled = { λ r. IsSettled r.board.size };
+    ghost settled = { λ r. IsBoardSettled r.board.size };
 
     ghost visits = { λ r. r.visits };
 

@@ -5,7 +5,7 @@ ghost use Rattle.hall_solve.specs.Question.{IsPartial, IsHopeless};
 ghost use Rattle.hall_solve.specs.Deduction.{HasAlways, IsDeduced};
 ghost use Rattle.hall_solve.specs.Trail.{Grows};
 ghost use Rattle.hall_sudoku.specs.Units.{units_question};
-ghost use Rattle.hall_sudoku.specs.Settled.{HaveNoClash, IsSettled};
+ghost use Rattle.hall_sudoku.specs.Settled.{HaveNoClash, IsBoardSettled};
 ghost use Rattle.hall_sudoku.specs.Candidates.{AreCandidates, AreFilled, AreSeen, AreShared, AreAllShared, AreComplete};
 ghost use Rattle.hall_sudoku.specs.Candidates.{AreAllComplete, IsMissing, Lacks, LacksNothing};
 ghost use Rattle.hall_sudoku.specs.Candidates.{IsSole, HasNoSole, HaveNoSole};
@@ -159,7 +159,7 @@ fn soles(units: &Units, candidates: &[Values], partial: &mut Partial) -> Pass
     requires apart { HaveNoClash units.now partial.old.places }
     ensures deduced { IsDeduced (units_question units.now) partial.old.places partial.new.places result }
     ensures grows { Grows partial.old partial.new }
-    ensures settled { result ≡ Pass.Settled → IsSettled units.now partial.new.places }
+    ensures settled { result ≡ Pass.Settled → IsBoardSettled units.now partial.new.places }
 {
     match all_shared(units, candidates, partial) {
         Some(shared) => set_soles(units, candidates, &shared, partial),
@@ -183,7 +183,7 @@ fn narrowed_soles<const CELLS: usize>(
     requires apart { HaveNoClash units.now partial.old.places }
     ensures deduced { IsDeduced (units_question units.now) partial.old.places partial.new.places result }
     ensures grows { Grows partial.old partial.new }
-    ensures settled { result ≡ Pass.Settled → IsSettled units.now partial.new.places }
+    ensures settled { result ≡ Pass.Settled → IsBoardSettled units.now partial.new.places }
 {
     match soles(units, candidates, partial) {
         Pass::Settled if units.side() > 9 => {}
@@ -203,7 +203,7 @@ fn pass_in<const CELLS: usize>(units: &Units, partial: &mut Partial) -> Pass
     requires partial { IsPartial (units_question units.now) partial.old.places }
     ensures deduced { IsDeduced (units_question units.now) partial.old.places partial.new.places result }
     ensures grows { Grows partial.old partial.new }
-    ensures settled { result ≡ Pass.Settled → IsSettled units.now partial.new.places }
+    ensures settled { result ≡ Pass.Settled → IsBoardSettled units.now partial.new.places }
 {
     let Some(mut candidates) = candidates::<CELLS>(units, partial) else {
         return Pass::Dead;
@@ -224,7 +224,7 @@ impl Deduce for Units {
 
     ghost question = { units_question };
 
-    ghost settled = { IsSettled };
+    ghost settled = { IsBoardSettled };
 
     fn pass(
         &self,

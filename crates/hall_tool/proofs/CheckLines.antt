@@ -7,7 +7,7 @@ use Rattle.std.proofs.lemmas.Grind.{flat_map-append}
 use Rattle.std.proofs.lemmas.List.{append_assoc, append-nil, take_more}
 use Rattle.std.proofs.lemmas.List.Folds.{list_any_at}
 use Rattle.hall_desk.specs.Checked.{AreStatesTrue, IsNothingFound}
-use Rattle.hall_desk.specs.Finds.{Each}
+use Rattle.hall_desk.specs.Finds.{EveryRow}
 use Rattle.hall_desk.specs.declared.sanity.Checked.{Checked}
 use Rattle.hall_desk.specs.declared.sentence.Breaches.{Breaches}
 use Rattle.hall_desk.specs.declared.states.States.{States}
@@ -38,7 +38,7 @@ neither : (p q : Bool) → (p || q) ≡ false → (p ≡ false) × (q ≡ false)
 neither true q e = absurd (true≢false e)
 neither false q e = (refl, e)
 
-each_unbroken : (told : List Breaches) → list_any is_found told ≡ false → Each (λ found. found.first.items ≡ []) told
+each_unbroken : (told : List Breaches) → list_any is_found told ≡ false → EveryRow (λ found. found.first.items ≡ []) told
 each_unbroken told none found (k, few, at) = found_none found.first.items (go (is_found found) refl)
   where
     go : (test : Bool) → is_found found ≡ test → is_found found ≡ false

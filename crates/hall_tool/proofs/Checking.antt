@@ -10,7 +10,7 @@ use Rattle.hall_grid.specs.Device.{Tally}
 use Rattle.hall_store.specs.Store.{Kept}
 use Rattle.hall_sql.specs.AllRead.{AreAllRead}
 use Rattle.hall_sql.specs.Migrate.{Migrates, old_content_of}
-use Rattle.hall_sql.specs.Standing.{RestedIn, content_of}
+use Rattle.hall_sql.specs.Standing.{KeptTablesIn, content_of}
 use Rattle.hall_sql.specs.Tables.{old_schema}
 use Rattle.hall_sql.specs.WholeRows.{without_testers}
 use Rattle.hall_sql.specs.Rows.{world_of}
@@ -42,13 +42,13 @@ found_written Text contents old new (Err e) ended text cause shown fault = inr (
 )
 
 -- the world of the tables of the version before, which served, stayed
-same_world : (old mid : State) → RestedIn old_schema old mid → HasCleanDisk mid → IsTrue mid.is_open
+same_world : (old mid : State) → KeptTablesIn old_schema old mid → HasCleanDisk mid → IsTrue mid.is_open
     → (old_content_of mid).world ≡ (old_content_of old).world
 same_world old mid rested clean opens = ap (λ (d : Database). without_testers (world_of d.trees)) (rested.same clean opens)
 
 -- so that the copy's world is theirs
 pub old_text : (budget : Option ℕ) (old mid new : State) (text : List ℕ) (status : ℕ)
-    → RestedIn old_schema old mid → RestedIn old_schema mid new → (HasCleanDisk mid → IsTrue mid.is_open)
+    → KeptTablesIn old_schema old mid → KeptTablesIn old_schema mid new → (HasCleanDisk mid → IsTrue mid.is_open)
     → (HasCleanDisk mid → AreAllRead old_schema old.now.trees)
     → CopyText budget mid new text status → OldText budget old new text status
 old_text budget old mid new text status first second serves whole (checked, told, line, ends) =

@@ -8,7 +8,7 @@ use Rattle.hall_desk.specs.Plans.{IsSeedReply}
 use Rattle.hall_desk.specs.Step.{Seed}
 use Rattle.hall_desk.specs.declared.reply.Reply.{Reply}
 use Rattle.hall_desk.specs.declared.reply.Reply.TheVariants as reply
-use Rattle.hall_tool.specs.SeedText.{AddsNobody, IsAnswered, IsSeeded, IsToldBy, seeded_line}
+use Rattle.hall_tool.specs.SeedText.{AddsNobody, IsListAnswered, IsSeeded, IsToldBy, seeded_line}
 use Rattle.hall_tool.specs.declared.seed.Seeded.{Seeded}
 use Rattle.hall_tool.specs.declared.seed.Seeded.TheVariants.{Refused, Denied, Added}
 
@@ -27,12 +27,12 @@ denied_20 given rule (inl (count, added)) denied = absurd cc
 denied_20 given rule (inr is) denied = is
 
 -- what the desk answered came of the list
-pub seeded_is : (list : List ℕ) (old new : Content) (given : Reply) (seeded : Seeded) → IsToldBy given seeded → IsAnswered list old new given
+pub seeded_is : (list : List ℕ) (old new : Content) (given : Reply) (seeded : Seeded) → IsToldBy given seeded → IsListAnswered list old new given
     → IsSeedReply given → (given ≡ reply.Denied 20 → new.writes ≤ old.writes) → IsSeeded list old new seeded
 seeded_is list old new given (Refused refusal) is answered known quiet = absurd is
 seeded_is list old new given (Denied rule) is answered known quiet =
-    (subst (IsAnswered list old new) is answered, quiet (denied_20 given rule known is))
-seeded_is list old new given (Added count) is answered known quiet = subst (IsAnswered list old new) is answered
+    (subst (IsListAnswered list old new) is answered, quiet (denied_20 given rule known is))
+seeded_is list old new given (Added count) is answered known quiet = subst (IsListAnswered list old new) is answered
 
 left_by : (old new : Content) (people : List Person) (given : Reply) → ((n : ℕ) → given ≢ reply.Import n)
     → Over (λ before after. Seed before people given after) old new → new.serves → new.world ≡ old.world

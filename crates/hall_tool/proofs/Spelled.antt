@@ -11,7 +11,7 @@ use Rattle.hall_tool.specs.declared.words.Command.{Command}
 use Rattle.hall_tool.specs.declared.words.Command.TheVariants.{Judge, Solve, Init, Serve, Replay, Table, Migrate}
 use Rattle.hall_tool.specs.declared.words.Command.TheVariants.{Check, Help, Version}
 use Rattle.hall_tool.specs.declared.words.Numbers.{Numbers}
-use Rattle.hall_tool.specs.Words.{AreSpelled, AsksFor, IsNumber, IsNumberIfAny, IsTaken, SpellOneCommand}
+use Rattle.hall_tool.specs.Words.{AreSpelled, AsksForPage, IsNumber, IsNumberIfAny, IsTaken, SpellOneCommand}
 use Rattle.hall_tool.specs.Words.{budgets, connection_limits, options_of, page_of, ports}
 use Rattle.hall_tool.proofs.Spelling.{asked_is, none_is_some, same_kind}
 
@@ -138,7 +138,7 @@ one_by pages.Check rows one other s t =
     let budget = same_if_any budgets (first_of (codes "budget") rows) s.1 t.1 s.3 t.3 in
     s.4 ∙ ap (λ d. Check d s.1) db ∙ ap (λ b. Check t.0 b) budget ∙ sym t.4
 
-one_asked : (page : Page) (kind : ErrorKind) (one other : Command) → AsksFor page kind one → AsksFor page kind other
+one_asked : (page : Page) (kind : ErrorKind) (one other : Command) → AsksForPage page kind one → AsksForPage page kind other
     → one ≡ other
 one_asked page kind one other s t = go (asked_is page kind one s) (asked_is page kind other t)
   where
@@ -157,4 +157,4 @@ one_command words one other (inl s) (inr t) = absurd (none_is_some _ (sym s.0 �
 one_command words one other (inr s) (inl t) = absurd (none_is_some _ (sym t.0 ∙ s.1))
 one_command words one other (inr s) (inr t) =
     let kinds = same_kind _ _ (sym t.1 ∙ s.1) in
-    one_asked (page_of words) s.0 one other s.2 (subst (λ kind. AsksFor (page_of words) kind other) kinds t.2)
+    one_asked (page_of words) s.0 one other s.2 (subst (λ kind. AsksForPage (page_of words) kind other) kinds t.2)

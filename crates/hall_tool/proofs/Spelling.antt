@@ -18,10 +18,10 @@ use Rattle.hall_tool.specs.declared.pages.Page.TheVariants as pages
 use Rattle.hall_tool.specs.declared.words.Command.{Command}
 use Rattle.hall_tool.specs.declared.words.Command.TheVariants.{Judge, Solve, Init, Serve, Replay, Table, Migrate}
 use Rattle.hall_tool.specs.declared.words.Command.TheVariants.{Check, Help, Version}
-use Rattle.hall_tool.specs.Pages.{line_of}
+use Rattle.hall_tool.specs.Pages.{command_line_of}
 use Rattle.hall_tool.specs.declared.words.WordsFault.{WordsFault}
 use Rattle.hall_tool.specs.declared.words.WordsFault.TheVariants.{Memory, Line}
-use Rattle.hall_tool.specs.Words.{AsksFor, AsksNone, IfLine, IsTaken, Spells, SpellsNone, TakesNone}
+use Rattle.hall_tool.specs.Words.{AsksForPage, AsksNone, IfLine, IsTaken, SpellsCommand, SpellsNone, TakesNone}
 use Rattle.hall_tool.specs.Words.{IsNoNumber, IsNumber, budgets, faults_of, options_of, page_of}
 use Rattle.hall_tool.proofs.OneKind.{IsSingle, built_one, only_kind}
 
@@ -81,7 +81,7 @@ no_budget rows none (Help page) t = absurd t
 no_budget rows none Version t = absurd t
 
 -- clap's contract covers the program's lines
-pub line_simple : (page : Page) → is_simple (line_of page) ≡ true
+pub line_simple : (page : Page) → is_simple (command_line_of page) ≡ true
 unfolding clap_on_literals
 line_simple pages.Hall = refl
 line_simple pages.Judge = refl
@@ -93,7 +93,7 @@ line_simple pages.Table = refl
 line_simple pages.Migrate = refl
 line_simple pages.Check = refl
 
-pub line_free : (page : Page) → is_simple_and_free (line_of page) ≡ true
+pub line_free : (page : Page) → is_simple_and_free (command_line_of page) ≡ true
 unfolding clap_on_literals
 line_free pages.Hall = refl
 line_free pages.Judge = refl
@@ -105,25 +105,25 @@ line_free pages.Table = refl
 line_free pages.Migrate = refl
 line_free pages.Check = refl
 
-one_fault : (page : Page) (words : List Text) → IsSingle (fault_of (line_of page) words)
+one_fault : (page : Page) (words : List Text) → IsSingle (fault_of (command_line_of page) words)
 one_fault pages.Hall words =
-    built_one (built (line_of pages.Hall)).top (argument_words (built (line_of pages.Hall)) words) refl
+    built_one (built (command_line_of pages.Hall)).top (argument_words (built (command_line_of pages.Hall)) words) refl
 one_fault pages.Judge words =
-    built_one (built (line_of pages.Judge)).top (argument_words (built (line_of pages.Judge)) words) refl
+    built_one (built (command_line_of pages.Judge)).top (argument_words (built (command_line_of pages.Judge)) words) refl
 one_fault pages.Solve words =
-    built_one (built (line_of pages.Solve)).top (argument_words (built (line_of pages.Solve)) words) refl
+    built_one (built (command_line_of pages.Solve)).top (argument_words (built (command_line_of pages.Solve)) words) refl
 one_fault pages.Init words =
-    built_one (built (line_of pages.Init)).top (argument_words (built (line_of pages.Init)) words) refl
+    built_one (built (command_line_of pages.Init)).top (argument_words (built (command_line_of pages.Init)) words) refl
 one_fault pages.Serve words =
-    built_one (built (line_of pages.Serve)).top (argument_words (built (line_of pages.Serve)) words) refl
+    built_one (built (command_line_of pages.Serve)).top (argument_words (built (command_line_of pages.Serve)) words) refl
 one_fault pages.Replay words =
-    built_one (built (line_of pages.Replay)).top (argument_words (built (line_of pages.Replay)) words) refl
+    built_one (built (command_line_of pages.Replay)).top (argument_words (built (command_line_of pages.Replay)) words) refl
 one_fault pages.Table words =
-    built_one (built (line_of pages.Table)).top (argument_words (built (line_of pages.Table)) words) refl
+    built_one (built (command_line_of pages.Table)).top (argument_words (built (command_line_of pages.Table)) words) refl
 one_fault pages.Migrate words =
-    built_one (built (line_of pages.Migrate)).top (argument_words (built (line_of pages.Migrate)) words) refl
+    built_one (built (command_line_of pages.Migrate)).top (argument_words (built (command_line_of pages.Migrate)) words) refl
 one_fault pages.Check words =
-    built_one (built (line_of pages.Check)).top (argument_words (built (line_of pages.Check)) words) refl
+    built_one (built (command_line_of pages.Check)).top (argument_words (built (command_line_of pages.Check)) words) refl
 
 pub none_is_some : (k : ErrorKind) → ◌≡◌ {A = Kinds} [] (k ∷ []) → ⊥
 none_is_some k e = cc
@@ -132,7 +132,7 @@ pub same_kind : (k l : ErrorKind) → ◌≡◌ {A = Kinds} (k ∷ []) (l ∷ []
 same_kind k l e = cc
 
 -- what asks in place of a run is help of the page, or the version
-pub asked_is : (page : Page) (kind : ErrorKind) (command : Command) → AsksFor page kind command
+pub asked_is : (page : Page) (kind : ErrorKind) (command : Command) → AsksForPage page kind command
     → ((kind ≡ DisplayHelp) × (command ≡ Help page)) ⊎ ((kind ≡ DisplayVersion) × (command ≡ Version))
 asked_is page kind Judge asks = absurd asks
 asked_is page kind (Solve budget) asks = absurd asks
@@ -148,7 +148,7 @@ asked_is page kind Version asks = inr (asks, refl)
 module _ (words : List Text) where
   -- words that the line takes
   module _ (rows : List Row) (fine : faults_of words ≡ []) (same : rows ≡ options_of words) where
-    pub taken_spells : (command : Command) → IsTaken (page_of words) rows command → Spells words command
+    pub taken_spells : (command : Command) → IsTaken (page_of words) rows command → SpellsCommand words command
     taken_spells command t = inl (fine, subst (λ (rs : List Row). IsTaken (page_of words) rs command) same t)
 
     pub none_taken : TakesNone (page_of words) rows → SpellsNone words
@@ -161,11 +161,11 @@ module _ (words : List Text) where
 
   -- words that it doesn't take
   pub asked_spells : (e : Error) (command : Command) → HasKind (faults_of words) e
-      → AsksFor (page_of words) (kind_of e) command → Spells words command
+      → AsksForPage (page_of words) (kind_of e) command → SpellsCommand words command
   asked_spells e command (inl memory) asks = go (asked_is (page_of words) (kind_of e) command asks)
     where
       go : ((kind_of e ≡ DisplayHelp) × (command ≡ Help (page_of words)))
-          ⊎ ((kind_of e ≡ DisplayVersion) × (command ≡ Version)) → Spells words command
+          ⊎ ((kind_of e ≡ DisplayVersion) × (command ≡ Version)) → SpellsCommand words command
       go (inl help) = let is = help.0 in cc
       go (inr version) = let is = version.0 in cc
   asked_spells e command (inr among) asks = inr (kind_of e, whole (kind_of e) among, asks)

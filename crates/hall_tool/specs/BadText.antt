@@ -5,7 +5,7 @@ use Rattle.std.specs.List.{flat_map}
 use Rattle.hall_sql.specs.declared.bad_rows.BadRows.{BadRows}
 use Rattle.hall_sql.specs.declared.tables.HallTable.{HallTable}
 use Rattle.hall_sql.specs.declared.tables.HallTable.TheVariants as table
-use Rattle.hall_tool.specs.JudgeText.{line_of}
+use Rattle.hall_tool.specs.JudgeText.{on_own_line}
 
 -- the table's name in the database
 abbrev pub table_name : HallTable → List ℕ
@@ -20,13 +20,13 @@ table_name table.Testers = codes "testers"
 -- the row of the table that has this rowid, on a line
 abbrev pub row_line : HallTable → ℤ → List ℕ
 row_line table id =
-    codes "broken: a row is no record: " ++ table_name table ++ codes " rowid=" ++ line_of (signed_decimal id)
+    codes "broken: a row is no record: " ++ table_name table ++ codes " rowid=" ++ on_own_line (signed_decimal id)
 
 -- how many more rows there are, on a line, if any
 abbrev pub rest_line : HallTable → ℕ → List ℕ
 rest_line table zero = []
 rest_line table (suc n) =
-    codes "broken: and " ++ (decimal (suc n) ++ (codes " more rows are no record: " ++ line_of (table_name table)))
+    codes "broken: and " ++ (decimal (suc n) ++ (codes " more rows are no record: " ++ on_own_line (table_name table)))
 
 -- the first 20 rows of the table that are no record, and how many more there are
 abbrev pub bad_table : BadRows → List ℕ

@@ -7,7 +7,7 @@ use Rattle.sqlite.specs.Held.{Held, state}
 use Rattle.sqlite.specs.Steps.{over_memory}
 use Rattle.hall_store.specs.Maps.{empty_world}
 use Rattle.hall_sql.specs.Opened.{Starts}
-use Rattle.hall_sql.specs.Standing.{IsBare, IsHall, content_of}
+use Rattle.hall_sql.specs.Standing.{IsBareDatabase, IsHall, content_of}
 use Rattle.hall_sql.specs.Tables.{hall_schema}
 use Rattle.hall_sql.specs.declared.open.OpenFault.{OpenFault}
 use Rattle.hall_tool.specs.Machine.{Files, HandsOut, HandsOutThere, Kinds, OnHost, Refuses, RefusesThere, Streams}
@@ -75,7 +75,7 @@ IsReplayInMemory files known people before after result =
     ((list : List ℕ) × (first last : Held MemStore)
     × files.paths.gives before.stand.kept people list after.stand.kept
     × ((content_of (state over_memory first)).world ≡ empty_world)
-    × IsBare hall_schema (state over_memory first).now
+    × IsBareDatabase hall_schema (state over_memory first).now
     × DoesReplay (tables over_memory known) list (keeping before first) (keeping after last) result)
     ⊎ IsStopped (λ error. files.paths.withholds before.stand.kept people error after.stand.kept) (λ cause. ⊥)
     ((list : List ℕ) × files.paths.gives before.stand.kept people list after.stand.kept) before after result

@@ -2,7 +2,7 @@
 use Rattle.std.specs.Prelude.{◌≡◌, ℕ, List, ◌++◌, codes, decimal, Result, IfOk, IsErrOf}
 use Rattle.std.specs.Io.KnownBytes.{Appends}
 use Rattle.hall_grid.specs.Device.{Rises, Tally}
-use Rattle.hall_store.specs.Store.{Content, IsSettled, Left, Leads, WritesOnce}
+use Rattle.hall_store.specs.Store.{Content, IsSettled, KeptWorld, Leads, WritesOnce}
 use Rattle.hall_desk.specs.Desk.{SaneThen}
 use Rattle.hall_desk.specs.Sane.{Sane}
 use Rattle.hall_http.specs.Device.{WritesPart}
@@ -10,13 +10,13 @@ use Rattle.hall_tool.specs.declared.fault.ToolFault.{ToolFault}
 use Rattle.hall_tool.specs.declared.fault.ToolFault.TheVariants as tool
 use Rattle.hall_tool.specs.declared.seed.Seeded.{Seeded}
 use Rattle.hall_tool.specs.declared.seed.Seeded.TheVariants.{Refused, Denied, Added}
-use Rattle.hall_tool.specs.JudgeText.{line_of}
+use Rattle.hall_tool.specs.JudgeText.{on_own_line}
 use Rattle.hall_tool.specs.Machine.{Kinds}
 use Rattle.hall_tool.specs.SeedText.{IsSeeded, StopsInList, seeded_line, seeded_status}
 
 -- how many people were added, on a line
 abbrev pub added_line : ℕ → List ℕ
-added_line count = codes "added " ++ line_of (decimal count)
+added_line count = codes "added " ++ on_own_line (decimal count)
 
 -- a refusal or denial, or how many people were added, as it is written
 abbrev pub init_line : Seeded → List ℕ
@@ -44,5 +44,5 @@ pub record IsInitRun {S R W : Type 0} (k : Kinds S R W) (list : List ℕ) (old n
   pub device : IsErrOf result tool.Device → Rises writer.failures written.failures
   pub part : IsErrOf result tool.Device → (line : List ℕ) × (status : ℕ) × InitText list old new line status
       × WritesPart (k.streams.contents writer.device) (k.streams.contents written.device) line
-  pub memory : IsErrOf result tool.Memory → Left old new × (written ≡ writer)
-  pub store : IsErrOf result tool.Store → k.can_fail × Left old new × (written ≡ writer)
+  pub memory : IsErrOf result tool.Memory → KeptWorld old new × (written ≡ writer)
+  pub store : IsErrOf result tool.Store → k.can_fail × KeptWorld old new × (written ≡ writer)

@@ -9,14 +9,14 @@ use Rattle.sqlite.specs.State.{State, HasCleanDisk}
 use Rattle.hall_store.specs.Store.{IsSettled, LeavesNoOther}
 use Rattle.hall_sql.specs.Migrate.{Migrates, StopsAtWorld, old_content_of}
 use Rattle.hall_sql.specs.Opened.{Starts, StartsOld}
-use Rattle.hall_sql.specs.Standing.{IsHall, RestedIn, Stayed, content_of}
+use Rattle.hall_sql.specs.Standing.{IsHall, KeptTablesIn, KeptRows, content_of}
 use Rattle.hall_sql.specs.Tables.{old_schema}
 use Rattle.hall_sql.specs.declared.migration.Migrated.{Migrated}
 use Rattle.hall_sql.specs.declared.migration.Migrated.TheVariants.{Done, Occupied}
 use Rattle.hall_sql.specs.declared.open.OpenFault.{OpenFault}
 use Rattle.hall_desk.specs.Sane.{Sane}
 use Rattle.hall_http.specs.Device.{WritesPart}
-use Rattle.hall_tool.specs.JudgeText.{line_of, refusal_of}
+use Rattle.hall_tool.specs.JudgeText.{on_own_line, refusal_of}
 use Rattle.hall_tool.specs.Machine.{AllFiles, AskedForOld, Copying, Files, HandsOut, Refuses, copying}
 use Rattle.hall_tool.specs.Shown.{IsShownBy}
 use Rattle.hall_tool.specs.Tasks.{command_end}
@@ -34,7 +34,7 @@ KeepsSanity source left old new =
 
 -- how many rows were copied, or that the target holds others, as it is written
 abbrev pub migrated_line : Migrated → List ℕ
-migrated_line (Done count) = codes "migrated " ++ line_of (decimal count)
+migrated_line (Done count) = codes "migrated " ++ on_own_line (decimal count)
 migrated_line Occupied = refusal_of (codes "target")
 
 -- 0 where the target holds the rows, 2 where it is refused
@@ -58,7 +58,7 @@ MigrateText source left old new line status =
 -- its device was honest, a stop leaves its world and no other.
 pub record IsMigrateRun {O S W : Type 0} (g : Ghosts O) (h : Ghosts S) (contents : W → Option (List ℕ))
     (before after : Copying (Held O) (Held S) W) (result : Result ℕ ToolFault) : Type 0 where
-  pub rested : RestedIn old_schema (state g before.source) (state g after.source)
+  pub rested : KeptTablesIn old_schema (state g before.source) (state g after.source)
   pub kept : LeavesNoOther (old_content_of (state g before.source)) (old_content_of (state g after.source))
   pub stops : HasCleanDisk (state g after.source)
       → StopsAtWorld (old_content_of (state g before.source)).world (state h before.target) (state h after.target)
@@ -73,9 +73,9 @@ pub record IsMigrateRun {O S W : Type 0} (g : Ghosts O) (h : Ghosts S) (contents
       × MigrateText (state g before.source) (state g after.source) (state h before.target) (state h after.target)
       line status
       × WritesPart (contents before.writer.device) (contents after.writer.device) line
-  pub memory : IsErrOf result tool.Memory → Stayed (state h before.target) (state h after.target)
+  pub memory : IsErrOf result tool.Memory → KeptRows (state h before.target) (state h after.target)
       × (after.writer ≡ before.writer)
-  pub store : IsErrOf result tool.Store → Stayed (state h before.target) (state h after.target)
+  pub store : IsErrOf result tool.Store → KeptRows (state h before.target) (state h after.target)
       × (after.writer ≡ before.writer)
 
 -- over a source that was taken over, the target was asked for: the files handed it out, the rows were copied from the
@@ -101,7 +101,7 @@ abbrev pub IsMigratedFrom : {G O F S W : Type 0} → AllFiles G O F S → (W →
     → Result (Option (Held O)) OpenFault → Copying G F W → Copying G F W → Result ℕ CommandFault → Type 0
 IsMigratedFrom {G} {O} all contents paths (Ok (Some source)) before after result =
     (left : Held O) × all.sources.paths.closes before.source left after.source
-    × RestedIn old_schema (state all.sources.store source) (state all.sources.store left)
+    × KeptTablesIn old_schema (state all.sources.store source) (state all.sources.store left)
     × StartsOld (all.sources.paths.image_at paths.0) (old_content_of (state all.sources.store source))
     × IsMigratedTo all.sources.store all.files contents paths.1 (copying source before.target before.writer)
     (copying left after.target after.writer) result

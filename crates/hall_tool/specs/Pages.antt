@@ -17,19 +17,19 @@ option_named name = record (new_rule name) {
 
 -- what clap reads of a page's command line: of a command, whose name it passes over, the words after it, and of the
 -- program's own all words; each takes `--help` (clap adds it), and the program's own `--version`
-abbrev pub line_of : Page → App
-line_of Hall = on_top (λ s. record s { no_binary_name = true; has_version = true }) (new_app (codes "hall"))
-line_of Judge = new_app (codes "judge")
-line_of Solve = with_rule (new_app (codes "solve")) (option_named (codes "budget"))
-line_of Init =
+abbrev pub command_line_of : Page → App
+command_line_of Hall = on_top (λ s. record s { no_binary_name = true; has_version = true }) (new_app (codes "hall"))
+command_line_of Judge = new_app (codes "judge")
+command_line_of Solve = with_rule (new_app (codes "solve")) (option_named (codes "budget"))
+command_line_of Init =
     with_rule (with_rule (new_app (codes "init")) (option_named (codes "db"))) (option_named (codes "people"))
-line_of Serve =
+command_line_of Serve =
     with_rule (with_rule (with_rule (new_app (codes "serve")) (option_named (codes "db")))
     (option_named (codes "port"))) (option_named (codes "connections"))
-line_of Replay = with_rule (new_app (codes "replay")) (option_named (codes "people"))
-line_of Table =
+command_line_of Replay = with_rule (new_app (codes "replay")) (option_named (codes "people"))
+command_line_of Table =
     with_rule (with_rule (new_app (codes "table")) (option_named (codes "db"))) (option_named (codes "round"))
-line_of Migrate =
+command_line_of Migrate =
     with_rule (with_rule (new_app (codes "migrate")) (option_named (codes "from"))) (option_named (codes "to"))
-line_of Check =
+command_line_of Check =
     with_rule (with_rule (new_app (codes "check")) (option_named (codes "db"))) (option_named (codes "budget"))

@@ -2,7 +2,7 @@
 use Rattle.std.specs.Prelude.{◌≡◌, ◌≢◌, ◌⊎◌, ℕ, List, Result, Ok, Err, IfOk, OnErr, IsErrOf}
 use Rattle.std.specs.Io.KnownBytes.{Appends}
 use Rattle.hall_grid.specs.Device.{Rises, Tally}
-use Rattle.hall_store.specs.Store.{Content, IsSettled, Left, Leads, WritesOnce}
+use Rattle.hall_store.specs.Store.{Content, IsSettled, KeptWorld, Leads, WritesOnce}
 use Rattle.hall_http.specs.Device.{WritesPart}
 use Rattle.hall_http.specs.Replay.{IsReplayed}
 use Rattle.hall_http.specs.declared.fault.ReplayFault.{ReplayFault}
@@ -23,7 +23,7 @@ pub record IsSeedRun {S R W : Type 0} (k : Kinds S R W) (list : List ℕ) (old n
   pub line : IfOk result (λ status. (line : List ℕ) × SeedText list old new line status
       × Appends (k.streams.contents writer.device) (k.streams.contents written.device) line)
   pub same : IfOk result (λ status. written.failures ≡ writer.failures)
-  pub left : OnErr result (Left old new)
+  pub left : OnErr result (KeptWorld old new)
   pub device : IsErrOf result tool.Device → Rises writer.failures written.failures
   pub part : IsErrOf result tool.Device → (line : List ℕ) × (status : ℕ) × SeedText list old new line status
       × WritesPart (k.streams.contents writer.device) (k.streams.contents written.device) line

@@ -9,18 +9,18 @@ use Rattle.hall_sheet.specs.Fault.{refusal_text}
 use Rattle.hall_sheet.specs.People.{people_in}
 use Rattle.hall_tool.specs.declared.seed.Seeded.{Seeded}
 use Rattle.hall_tool.specs.declared.seed.Seeded.TheVariants.{Refused, Denied, Added}
-use Rattle.hall_tool.specs.JudgeText.{line_of, refusal_of}
+use Rattle.hall_tool.specs.JudgeText.{on_own_line, refusal_of}
 
 -- the list spells people, and where the device was honest, the desk answered their import so
-abbrev pub IsAnswered : List ℕ → Content → Content → Reply → Type 0
-IsAnswered list old new given =
+abbrev pub IsListAnswered : List ℕ → Content → Content → Reply → Type 0
+IsListAnswered list old new given =
     (people : List Person) × (people_in list ≡ Ok people) × (new.honest → Seeds old people given new)
 
 -- this came of the list: its first fault, which leaves the world, or what the desk answered; a denial makes no write
 abbrev pub IsSeeded : List ℕ → Content → Content → Seeded → Type 0
 IsSeeded list old new (Refused refusal) = (people_in list ≡ Err refusal) × Kept old new
-IsSeeded list old new (Denied rule) = IsAnswered list old new (reply.Denied rule) × (new.writes ≤ old.writes)
-IsSeeded list old new (Added count) = IsAnswered list old new (reply.Import count)
+IsSeeded list old new (Denied rule) = IsListAnswered list old new (reply.Denied rule) × (new.writes ≤ old.writes)
+IsSeeded list old new (Added count) = IsListAnswered list old new (reply.Import count)
 
 -- What a stop in the import of a list, or after it, leaves: what is left in the import of the people that it spells, so
 -- all of them or none; or a world that a stop before it could leave.
@@ -42,7 +42,7 @@ AddsNobody (Added count) = ⊥
 
 -- a denial on a line of its own
 abbrev pub denial_of : ℕ → List ℕ
-denial_of rule = codes "denied " ++ line_of (decimal rule)
+denial_of rule = codes "denied " ++ on_own_line (decimal rule)
 
 -- a refusal or denial as it is written; of an import nothing is
 abbrev pub seeded_line : Seeded → List ℕ

@@ -8,7 +8,7 @@ use Rattle.hall_solve.specs.declared.outcome.Outcome.{Outcome}
 use Rattle.hall_solve.specs.declared.outcome.Outcome.TheVariants.{None, One, More, GaveUp}
 use Rattle.hall_solve.specs.Puzzle.{OutcomeOfPuzzle}
 use Rattle.hall_tool.specs.Input.{HasOneLine, LacksOneLine}
-use Rattle.hall_tool.specs.JudgeText.{line_of, refusal_of, IsRefused}
+use Rattle.hall_tool.specs.JudgeText.{on_own_line, refusal_of, IsTextRefused}
 use Rattle.hall_tool.specs.LineRun.{IsLineRun}
 use Rattle.hall_tool.specs.Machine.{Streams}
 use Rattle.hall_tool.specs.declared.fault.ToolFault.{ToolFault}
@@ -31,7 +31,7 @@ outcome_status GaveUp = 1
 pub record IsOutcomeLine (board : Board) (budget : ℕ) (line : List ℕ) (status : ℕ) : Type 0 where
   pub outcome : Outcome
   pub found : OutcomeOfPuzzle board budget outcome
-  pub written : line ≡ line_of (outcome_text board outcome)
+  pub written : line ≡ on_own_line (outcome_text board outcome)
   pub ends : status ≡ outcome_status outcome
 
 -- the text spells a puzzle, and this is an outcome of its search
@@ -43,7 +43,7 @@ pub record IsSolved (text : List ℕ) (budget : ℕ) (line : List ℕ) (status :
 -- a line that may be written for an input, and the exit status
 abbrev pub SolveText : List ℕ → ℕ → List ℕ → ℕ → Type 0
 SolveText input budget line status =
-    ((text : List ℕ) × HasOneLine input text × (IsSolved text budget line status ⊎ IsRefused text line status))
+    ((text : List ℕ) × HasOneLine input text × (IsSolved text budget line status ⊎ IsTextRefused text line status))
     ⊎ (LacksOneLine input × (line ≡ refusal_of (codes "input")) × (status ≡ 2))
 
 -- a line that may be written for the input that was left of the reader was written

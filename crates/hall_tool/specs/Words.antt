@@ -14,7 +14,7 @@ use Rattle.hall_tool.specs.declared.words.Command.TheVariants.{Check, Help, Vers
 use Rattle.hall_tool.specs.declared.words.Numbers.{Numbers}
 use Rattle.hall_tool.specs.declared.words.WordsFault.{WordsFault}
 use Rattle.hall_tool.specs.declared.words.WordsFault.TheVariants.{Memory, Line}
-use Rattle.hall_tool.specs.Pages.{line_of}
+use Rattle.hall_tool.specs.Pages.{command_line_of}
 
 -- the first word names a command; any other word, or none, is for the program's own line
 abbrev pub page_of : List Text → Page
@@ -32,11 +32,11 @@ page_of (name ∷ rest) =
 
 -- what is wrong with the words, or asked for by them in place of a run
 abbrev pub faults_of : List Text → Kinds
-faults_of words = fault_of (line_of (page_of words)) words
+faults_of words = fault_of (command_line_of (page_of words)) words
 
 -- the options that the words give, each with its value
 abbrev pub options_of : List Text → List Row
-options_of words = matches_of (line_of (page_of words)) words
+options_of words = matches_of (command_line_of (page_of words)) words
 
 -- the number that the text is, as std reads a text, is between the two
 abbrev pub IsNumberWithin : ℕ → ℕ → Text → ℕ → Type 0
@@ -96,21 +96,21 @@ IsTaken page options (Check db budget) =
 IsTaken page options other = ⊥
 
 -- what a fault of this kind asks for in place of a run: a page of help, or the version
-abbrev pub AsksFor : Page → ErrorKind → Command → Type 0
-AsksFor page kind (Help asked) = (asked ≡ page) × (kind ≡ DisplayHelp)
-AsksFor page kind Version = kind ≡ DisplayVersion
-AsksFor page kind other = ⊥
+abbrev pub AsksForPage : Page → ErrorKind → Command → Type 0
+AsksForPage page kind (Help asked) = (asked ≡ page) × (kind ≡ DisplayHelp)
+AsksForPage page kind Version = kind ≡ DisplayVersion
+AsksForPage page kind other = ⊥
 
 -- the words spell the command: nothing is wrong with them, and it is that of their options, or they ask for it in place
 -- of a run
-abbrev pub Spells : List Text → Command → Type 0
-Spells words command =
+abbrev pub SpellsCommand : List Text → Command → Type 0
+SpellsCommand words command =
     ((faults_of words ≡ []) × IsTaken (page_of words) (options_of words) command)
-    ⊎ ((kind : ErrorKind) × (faults_of words ≡ kind ∷ []) × AsksFor (page_of words) kind command)
+    ⊎ ((kind : ErrorKind) × (faults_of words ≡ kind ∷ []) × AsksForPage (page_of words) kind command)
 
 -- the words spell no command
 abbrev pub SpellsNone : List Text → Type 0
-SpellsNone words = (command : Command) → Spells words command → ⊥
+SpellsNone words = (command : Command) → SpellsCommand words command → ⊥
 
 -- what a wrong line tells; out of memory tells nothing
 abbrev pub IfLine : WordsFault → Type 0 → Type 0
@@ -139,42 +139,44 @@ AsksNone kind = (kind ≢ OutOfMemory) × (kind ≢ DisplayHelp) × (kind ≢ Di
 
 -- no words spell two commands
 abbrev pub SpellOneCommand : Type 0
-SpellOneCommand = (words : List Text) (one other : Command) → Spells words one → Spells words other → one ≡ other
+SpellOneCommand =
+    (words : List Text) (one other : Command) → SpellsCommand words one → SpellsCommand words other → one ≡ other
 
 -- words of each command, with each of its options, with any path and any text of a number that it may be; `--help`
 -- alone and after each name; `--version`
 pub record AreSpelled : Type 0 where
-  pub judge : Spells (codes "judge" ∷ []) Judge
-  pub solve : Spells (codes "solve" ∷ []) (Solve 200000)
+  pub judge : SpellsCommand (codes "judge" ∷ []) Judge
+  pub solve : SpellsCommand (codes "solve" ∷ []) (Solve 200000)
   pub budget : (text : Text) (budget : ℕ) → IsNumberWithin 0 1000000 text budget
-      → Spells (codes "solve" ∷ (codes "--budget=" ++ text) ∷ []) (Solve budget)
+      → SpellsCommand (codes "solve" ∷ (codes "--budget=" ++ text) ∷ []) (Solve budget)
   pub init : (db people : Text)
-      → Spells (codes "init" ∷ (codes "--db=" ++ db) ∷ (codes "--people=" ++ people) ∷ []) (Init db people)
+      → SpellsCommand (codes "init" ∷ (codes "--db=" ++ db) ∷ (codes "--people=" ++ people) ∷ []) (Init db people)
   pub serve : (db text : Text) (port : ℕ) → IsNumberWithin 1 65535 text port
-      → Spells (codes "serve" ∷ (codes "--db=" ++ db) ∷ (codes "--port=" ++ text) ∷ []) (Serve db port 1000000)
+      → SpellsCommand (codes "serve" ∷ (codes "--db=" ++ db) ∷ (codes "--port=" ++ text) ∷ []) (Serve db port 1000000)
   pub connections : (db text count : Text) (port connections : ℕ)
       → IsNumberWithin 1 65535 text port → IsNumberWithin 1 1000000 count connections
-      → Spells
+      → SpellsCommand
       (codes "serve" ∷ (codes "--db=" ++ db) ∷ (codes "--port=" ++ text) ∷ (codes "--connections=" ++ count) ∷ [])
       (Serve db port connections)
-  pub replay : (path : Text) → Spells (codes "replay" ∷ (codes "--people=" ++ path) ∷ []) (Replay path)
-  pub apart : Spells (codes "replay" ∷ codes "--people" ∷ codes "people.csv" ∷ []) (Replay (codes "people.csv"))
+  pub replay : (path : Text) → SpellsCommand (codes "replay" ∷ (codes "--people=" ++ path) ∷ []) (Replay path)
+  pub apart : SpellsCommand (codes "replay" ∷ codes "--people" ∷ codes "people.csv" ∷ []) (Replay (codes "people.csv"))
   pub table : (db round : Text)
-      → Spells (codes "table" ∷ (codes "--db=" ++ db) ∷ (codes "--round=" ++ round) ∷ []) (Table db round)
+      → SpellsCommand (codes "table" ∷ (codes "--db=" ++ db) ∷ (codes "--round=" ++ round) ∷ []) (Table db round)
   pub migrate : (from to : Text)
-      → Spells (codes "migrate" ∷ (codes "--from=" ++ from) ∷ (codes "--to=" ++ to) ∷ []) (Migrate from to)
+      → SpellsCommand (codes "migrate" ∷ (codes "--from=" ++ from) ∷ (codes "--to=" ++ to) ∷ []) (Migrate from to)
   pub turned : (from to : Text)
-      → Spells (codes "migrate" ∷ (codes "--to=" ++ to) ∷ (codes "--from=" ++ from) ∷ []) (Migrate from to)
-  pub check : (db : Text) → Spells (codes "check" ∷ (codes "--db=" ++ db) ∷ []) (Check db None)
+      → SpellsCommand (codes "migrate" ∷ (codes "--to=" ++ to) ∷ (codes "--from=" ++ from) ∷ []) (Migrate from to)
+  pub check : (db : Text) → SpellsCommand (codes "check" ∷ (codes "--db=" ++ db) ∷ []) (Check db None)
   pub search : (db text : Text) (budget : ℕ) → IsNumberWithin 0 1000000 text budget
-      → Spells (codes "check" ∷ (codes "--db=" ++ db) ∷ (codes "--budget=" ++ text) ∷ []) (Check db (Some budget))
-  pub help : Spells (codes "--help" ∷ []) (Help pages.Hall)
-  pub judge_help : Spells (codes "judge" ∷ codes "--help" ∷ []) (Help pages.Judge)
-  pub solve_help : Spells (codes "solve" ∷ codes "--help" ∷ []) (Help pages.Solve)
-  pub init_help : Spells (codes "init" ∷ codes "--help" ∷ []) (Help pages.Init)
-  pub serve_help : Spells (codes "serve" ∷ codes "--help" ∷ []) (Help pages.Serve)
-  pub replay_help : Spells (codes "replay" ∷ codes "--help" ∷ []) (Help pages.Replay)
-  pub table_help : Spells (codes "table" ∷ codes "--help" ∷ []) (Help pages.Table)
-  pub migrate_help : Spells (codes "migrate" ∷ codes "--help" ∷ []) (Help pages.Migrate)
-  pub check_help : Spells (codes "check" ∷ codes "--help" ∷ []) (Help pages.Check)
-  pub version : Spells (codes "--version" ∷ []) Version
+      → SpellsCommand (codes "check" ∷ (codes "--db=" ++ db) ∷ (codes "--budget=" ++ text) ∷ [])
+      (Check db (Some budget))
+  pub help : SpellsCommand (codes "--help" ∷ []) (Help pages.Hall)
+  pub judge_help : SpellsCommand (codes "judge" ∷ codes "--help" ∷ []) (Help pages.Judge)
+  pub solve_help : SpellsCommand (codes "solve" ∷ codes "--help" ∷ []) (Help pages.Solve)
+  pub init_help : SpellsCommand (codes "init" ∷ codes "--help" ∷ []) (Help pages.Init)
+  pub serve_help : SpellsCommand (codes "serve" ∷ codes "--help" ∷ []) (Help pages.Serve)
+  pub replay_help : SpellsCommand (codes "replay" ∷ codes "--help" ∷ []) (Help pages.Replay)
+  pub table_help : SpellsCommand (codes "table" ∷ codes "--help" ∷ []) (Help pages.Table)
+  pub migrate_help : SpellsCommand (codes "migrate" ∷ codes "--help" ∷ []) (Help pages.Migrate)
+  pub check_help : SpellsCommand (codes "check" ∷ codes "--help" ∷ []) (Help pages.Check)
+  pub version : SpellsCommand (codes "--version" ∷ []) Version

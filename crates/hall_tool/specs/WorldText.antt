@@ -12,7 +12,7 @@ use Rattle.hall_desk.specs.declared.sentence.Sentence.TheVariants as sentence
 use Rattle.hall_desk.specs.declared.sentence.Spot.{Spot}
 use Rattle.hall_desk.specs.declared.sentence.Spot.TheVariants as spot
 use Rattle.hall_desk.specs.declared.states.States.{States}
-use Rattle.hall_tool.specs.JudgeText.{line_of}
+use Rattle.hall_tool.specs.JudgeText.{on_own_line}
 
 -- what is wrong where the sentence is false, in the words of the field
 abbrev pub sentence_text : Sentence → List ℕ
@@ -65,12 +65,13 @@ spot_text (spot.Protest key) =
 
 -- one place where it is false, on a line
 abbrev pub breach_line : List ℕ → Spot → List ℕ
-breach_line sentence spot = codes "broken: " ++ sentence ++ codes ": " ++ line_of (spot_text spot)
+breach_line sentence spot = codes "broken: " ++ sentence ++ codes ": " ++ on_own_line (spot_text spot)
 
 -- how many more places there are, on a line, if any
 abbrev pub more_line : List ℕ → ℕ → List ℕ
 more_line sentence zero = []
-more_line sentence (suc n) = codes "broken: " ++ sentence ++ codes ": and " ++ decimal (suc n) ++ line_of (codes " more")
+more_line sentence (suc n) =
+    codes "broken: " ++ sentence ++ codes ": and " ++ decimal (suc n) ++ on_own_line (codes " more")
 
 -- where a sentence is false: the first places, and how many more
 abbrev pub breaches_text : Breaches → List ℕ
@@ -80,12 +81,12 @@ breaches_text found =
 
 -- a puzzle whose search gave up, on a line
 abbrev pub undecided_line : PuzzleKey → List ℕ
-undecided_line key = codes "not decided: " ++ line_of (puzzle_text key)
+undecided_line key = codes "not decided: " ++ on_own_line (puzzle_text key)
 
 -- how many more there are, on a line, if any
 abbrev pub more_undecided : ℕ → List ℕ
 more_undecided zero = []
-more_undecided (suc n) = codes "not decided: and " ++ decimal (suc n) ++ line_of (codes " more")
+more_undecided (suc n) = codes "not decided: and " ++ decimal (suc n) ++ on_own_line (codes " more")
 
 -- the puzzles whose search gave up: the first 20, and how many more
 abbrev pub undecided_text : List PuzzleKey → List ℕ
@@ -137,7 +138,7 @@ abbrev pub counts_line : Checked → List ℕ
 counts_line checked =
     codes "people " ++ (decimal checked.people ++ (codes ", puzzles " ++ (decimal checked.puzzles
     ++ (codes ", rounds " ++ (decimal checked.rounds ++ (codes ", answers " ++ (decimal checked.answers
-    ++ (codes ", protests " ++ line_of (decimal checked.protests)))))))))
+    ++ (codes ", protests " ++ on_own_line (decimal checked.protests)))))))))
 
 -- what a check found, as it is written
 abbrev pub checked_text : Option ℕ → Checked → List ℕ

@@ -2,7 +2,7 @@
 ghost use Rattle.std.specs.Prelude.{◌≡◌, ◌⊎◌, Err, IfOk, IfErr, string_bytes};
 ghost use Rattle.sqlite.specs.Held.{state};
 ghost use Rattle.hall_store.specs.Store.{Kept};
-ghost use Rattle.hall_sql.specs.Standing.{RestedIn};
+ghost use Rattle.hall_sql.specs.Standing.{KeptTablesIn};
 ghost use Rattle.hall_sql.specs.Tables.{old_schema};
 ghost use Rattle.hall_tool.specs.CheckRun.{CopyText, IsCheckAt, OldText, PresentText};
 ghost use Rattle.hall_tool.specs.Machine.{files_of};
@@ -72,7 +72,7 @@ fn copied_ending<S: Alter + Drop>(
     store: &mut OldStore<S>,
     budget: Option<u64>,
 ) -> Result<Ending, ToolFault>
-    ensures rested { RestedIn old_schema (state S.Store store.old) (state S.Store store.new) }
+    ensures rested { KeptTablesIn old_schema (state S.Store store.old) (state S.Store store.new) }
     ensures text { IfOk result (λ ending. CopyText budget (state S.Store store.old) (state S.Store store.new)
         (string_bytes ending.line) ending.status) }
     ensures cause { IfErr result (λ e. (e ≡ ToolFault.Memory) ⊎ (e ≡ ToolFault.Store)) }

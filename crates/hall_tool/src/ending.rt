@@ -2,7 +2,7 @@
 ghost use Rattle.std.specs.Prelude.{◌≡◌, ◌≤◌, ◌+◌, ◌++◌, IfOk, [], length, string_bytes, codes, decimal};
 ghost use Rattle.std.specs.String.{string_capacity, string_len};
 ghost use Rattle.hall_grid.specs.Fault.{fault_text};
-ghost use Rattle.hall_tool.specs.JudgeText.{line_of, refusal_of};
+ghost use Rattle.hall_tool.specs.JudgeText.{on_own_line, refusal_of};
 
 use hall_grid::TextFault;
 use itoa::Buffer;
@@ -36,7 +36,7 @@ pub(crate) fn counted(mut line: String, word: &str, count: u64) -> Ending
     requires begins { string_len line ≡ 0 }
     requires room { 64 ≤ string_capacity line }
     requires short { length word.now ≤ 32 }
-    ensures line { string_bytes result.line ≡ word.now ++ line_of (decimal count) }
+    ensures line { string_bytes result.line ≡ word.now ++ on_own_line (decimal count) }
     ensures status { result.status ≡ 0 }
 {
     push(&mut line, word);

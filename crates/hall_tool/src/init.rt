@@ -3,7 +3,7 @@ ghost use Rattle.std.specs.Prelude.{◌≡◌, ◌≤◌, ℕ, List, IfOk, IsErr
 ghost use Rattle.std.specs.String.{string_capacity, string_len};
 ghost use Rattle.std.specs.Io.KnownBytes.{Appends};
 ghost use Rattle.hall_grid.specs.Device.{Rises};
-ghost use Rattle.hall_store.specs.Store.{IsSettled, Left, Leads, WritesOnce};
+ghost use Rattle.hall_store.specs.Store.{IsSettled, KeptWorld, Leads, WritesOnce};
 ghost use Rattle.hall_desk.specs.Desk.{kept_by, SaneThen};
 ghost use Rattle.hall_desk.specs.Sane.{Sane};
 ghost use Rattle.hall_http.specs.Device.{WritesPart};
@@ -62,9 +62,9 @@ pub fn init_run<S: Store, W: Write>(
         × InitText list.now (S.content (kept_by desk.old)) (S.content (kept_by desk.new)) line status
         × WritesPart (W.contents writer.old.device) (W.contents writer.new.device) line }
     // Another fault leaves the world and the writer.
-    ensures memory { IsErrOf result ToolFault.Memory → Left (S.content (kept_by desk.old))
+    ensures memory { IsErrOf result ToolFault.Memory → KeptWorld (S.content (kept_by desk.old))
         (S.content (kept_by desk.new)) × (writer.new ≡ writer.old) }
-    ensures store { IsErrOf result ToolFault.Store → S.can_fail × Left (S.content (kept_by desk.old))
+    ensures store { IsErrOf result ToolFault.Store → S.can_fail × KeptWorld (S.content (kept_by desk.old))
         (S.content (kept_by desk.new)) × (writer.new ≡ writer.old) }
 {
     desk.at_rest();

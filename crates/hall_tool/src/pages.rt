@@ -1,7 +1,7 @@
 //! The command lines of the program, as clap reads them.
 ghost use Rattle.std.specs.Prelude.{◌≡◌, IfOk, false};
 ghost use Rattle.clap.specs.Words.{app_of, rule_of};
-ghost use Rattle.hall_tool.specs.Pages.{line_of, option_named};
+ghost use Rattle.hall_tool.specs.Pages.{command_line_of, option_named};
 
 use crate::help::VERSION;
 use clap::{Arg, ArgAction, Command};
@@ -70,7 +70,7 @@ pub enum Page {
 
 /// The command line that the page is of.
 pub(crate) fn command_line<'a>(alloc: Global, page: Page) -> Result<Command<'a>, AllocError>
-    ensures { IfOk result (λ line. app_of line ≡ line_of page) }
+    ensures { IfOk result (λ line. app_of line ≡ command_line_of page) }
 {
     match page {
         Page::Hall => Ok(hall_line(alloc)),
@@ -87,7 +87,7 @@ pub(crate) fn command_line<'a>(alloc: Global, page: Page) -> Result<Command<'a>,
 
 /// The command line of words that name no command.
 fn hall_line<'a>(alloc: Global) -> Command<'a>
-    ensures { app_of result ≡ line_of Page.Hall }
+    ensures { app_of result ≡ command_line_of Page.Hall }
 {
     Command::new(alloc, "hall")
         .no_binary_name(true)
@@ -96,13 +96,13 @@ fn hall_line<'a>(alloc: Global) -> Command<'a>
 }
 
 fn judge_line<'a>(alloc: Global) -> Command<'a>
-    ensures { app_of result ≡ line_of Page.Judge }
+    ensures { app_of result ≡ command_line_of Page.Judge }
 {
     Command::new(alloc, "judge").override_usage("hall judge < FILE")
 }
 
 fn solve_line<'a>(alloc: Global) -> Result<Command<'a>, AllocError>
-    ensures { IfOk result (λ line. app_of line ≡ line_of Page.Solve) }
+    ensures { IfOk result (λ line. app_of line ≡ command_line_of Page.Solve) }
 {
     Command::new(alloc, "solve")
         .override_usage("hall solve [--budget N] < FILE")
@@ -110,7 +110,7 @@ fn solve_line<'a>(alloc: Global) -> Result<Command<'a>, AllocError>
 }
 
 fn init_line<'a>(alloc: Global) -> Result<Command<'a>, AllocError>
-    ensures { IfOk result (λ line. app_of line ≡ line_of Page.Init) }
+    ensures { IfOk result (λ line. app_of line ≡ command_line_of Page.Init) }
 {
     Command::new(alloc, "init")
         .override_usage("hall init --db F --people L")
@@ -119,7 +119,7 @@ fn init_line<'a>(alloc: Global) -> Result<Command<'a>, AllocError>
 }
 
 fn serve_line<'a>(alloc: Global) -> Result<Command<'a>, AllocError>
-    ensures { IfOk result (λ line. app_of line ≡ line_of Page.Serve) }
+    ensures { IfOk result (λ line. app_of line ≡ command_line_of Page.Serve) }
 {
     Command::new(alloc, "serve")
         .override_usage("hall serve --db F --port N [--connections N]")
@@ -129,7 +129,7 @@ fn serve_line<'a>(alloc: Global) -> Result<Command<'a>, AllocError>
 }
 
 fn replay_line<'a>(alloc: Global) -> Result<Command<'a>, AllocError>
-    ensures { IfOk result (λ line. app_of line ≡ line_of Page.Replay) }
+    ensures { IfOk result (λ line. app_of line ≡ command_line_of Page.Replay) }
 {
     Command::new(alloc, "replay")
         .override_usage("hall replay --people L < FILE")
@@ -137,7 +137,7 @@ fn replay_line<'a>(alloc: Global) -> Result<Command<'a>, AllocError>
 }
 
 fn table_line<'a>(alloc: Global) -> Result<Command<'a>, AllocError>
-    ensures { IfOk result (λ line. app_of line ≡ line_of Page.Table) }
+    ensures { IfOk result (λ line. app_of line ≡ command_line_of Page.Table) }
 {
     Command::new(alloc, "table")
         .override_usage("hall table --db F --round R")
@@ -146,7 +146,7 @@ fn table_line<'a>(alloc: Global) -> Result<Command<'a>, AllocError>
 }
 
 fn migrate_line<'a>(alloc: Global) -> Result<Command<'a>, AllocError>
-    ensures { IfOk result (λ line. app_of line ≡ line_of Page.Migrate) }
+    ensures { IfOk result (λ line. app_of line ≡ command_line_of Page.Migrate) }
 {
     Command::new(alloc, "migrate")
         .override_usage("hall migrate --from F --to G")
@@ -155,7 +155,7 @@ fn migrate_line<'a>(alloc: Global) -> Result<Command<'a>, AllocError>
 }
 
 fn check_line<'a>(alloc: Global) -> Result<Command<'a>, AllocError>
-    ensures { IfOk result (λ line. app_of line ≡ line_of Page.Check) }
+    ensures { IfOk result (λ line. app_of line ≡ command_line_of Page.Check) }
 {
     Command::new(alloc, "check")
         .override_usage("hall check --db F [--budget N]")

@@ -4,7 +4,7 @@ ghost use Rattle.std.specs.IoError.{error_kind};
 ghost use Rattle.hall_tool.specs.CommandRun.{IsCommandRun, UnlessRead};
 ghost use Rattle.hall_tool.specs.Machine.{all_files, files_of, host_of, machine, streams};
 ghost use Rattle.hall_tool.specs.Status.{status_of};
-ghost use Rattle.hall_tool.specs.WordsRun.{AreNoWords, AreWordsRun, IsEndTold, IsRefused, IsTold, IsWanting};
+ghost use Rattle.hall_tool.specs.WordsRun.{AreNoWords, AreWordsRun, IsEndTold, AreWordsRefused, IsTextTold, IsWanting};
 
 use crate::advice::fault_lines;
 use crate::fault::{CommandFault, ToolFault};
@@ -98,7 +98,7 @@ fn want<E: Write>(error: &mut Counted<E>) -> u8
 
 /// Refuses words that spell no command, by clap's text.
 fn refuse<E: Write>(alloc: Global, refusal: &Error, error: &mut Counted<E>) -> u8
-    ensures { IsRefused E.contents error.old error.new result ⊎ IsWanting E.contents error.old error.new result }
+    ensures { AreWordsRefused E.contents error.old error.new result ⊎ IsWanting E.contents error.old error.new result }
 {
     match refusal.to_string(alloc) {
         Ok(text) => {
@@ -111,7 +111,7 @@ fn refuse<E: Write>(alloc: Global, refusal: &Error, error: &mut Counted<E>) -> u
 
 /// Writes the text, or as much of it as is taken.
 fn tell<E: Write>(text: &str, error: &mut Counted<E>)
-    ensures { IsTold E.contents text.now error.old error.new }
+    ensures { IsTextTold E.contents text.now error.old error.new }
 {
     let _ = write_all(error, text.as_bytes());
 }

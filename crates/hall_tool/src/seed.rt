@@ -2,7 +2,7 @@
 ghost use Rattle.std.specs.Prelude.{◌≡◌, ◌⊎◌, ℕ, List, IfOk, IfErr, IsErrOf, OnErr, Err, string_bytes};
 ghost use Rattle.std.specs.Io.KnownBytes.{Appends};
 ghost use Rattle.hall_grid.specs.Device.{Rises};
-ghost use Rattle.hall_store.specs.Store.{IsSettled, Left, Leads, WritesOnce};
+ghost use Rattle.hall_store.specs.Store.{IsSettled, KeptWorld, Leads, WritesOnce};
 ghost use Rattle.hall_desk.specs.Desk.{kept_by, SaneThen};
 ghost use Rattle.hall_desk.specs.Sane.{Sane};
 ghost use Rattle.hall_desk.specs.Plans.{IsSeedReply};
@@ -69,7 +69,7 @@ pub(crate) fn seed_desk<S: Store>(
     ensures settled { IsSettled (S.content (kept_by desk.new)) }
     ensures sane { SaneThen Sane (S.content (kept_by desk.old)) (S.content (kept_by desk.new)) }
     ensures refused { (refusal : Refusal) → people_in list.now ≡ Err refusal → desk.new ≡ desk.old }
-    ensures left { OnErr result (Left (S.content (kept_by desk.old)) (S.content (kept_by desk.new))) }
+    ensures left { OnErr result (KeptWorld (S.content (kept_by desk.old)) (S.content (kept_by desk.new))) }
     ensures cause { IfErr result (λ e. (e ≡ ToolFault.Memory) ⊎ (e ≡ ToolFault.Store)) }
     ensures fault { IsErrOf result ToolFault.Store → S.can_fail }
 {
@@ -129,7 +129,7 @@ pub fn seed_run<S: Store, W: Write>(
     ensures sane { SaneThen Sane (S.content (kept_by desk.old)) (S.content (kept_by desk.new)) }
     ensures refused { (refusal : Refusal) → people_in list.now ≡ Err refusal → desk.new ≡ desk.old }
     // A fault leaves the world.
-    ensures left { OnErr result (Left (S.content (kept_by desk.old)) (S.content (kept_by desk.new))) }
+    ensures left { OnErr result (KeptWorld (S.content (kept_by desk.old)) (S.content (kept_by desk.new))) }
     ensures device { IsErrOf result ToolFault.Device → Rises writer.old.failures writer.new.failures }
     // At a device's fault a first part of the line was written, perhaps none of it.
     ensures part { IsErrOf result ToolFault.Device → (line : List ℕ) × (status : ℕ)

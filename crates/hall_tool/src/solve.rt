@@ -1,6 +1,6 @@
 //! The command `solve`.
 ghost use Rattle.std.specs.Prelude.{◌≡◌, ◌⊎◌, IfOk, string_bytes};
-ghost use Rattle.hall_tool.specs.JudgeText.{IsRefused};
+ghost use Rattle.hall_tool.specs.JudgeText.{IsTextRefused};
 ghost use Rattle.hall_tool.specs.Machine.{streams};
 ghost use Rattle.hall_tool.specs.SolveText.{IsOutcomeLine, IsSolved, IsSolveRun, SolveText};
 
@@ -41,7 +41,7 @@ fn plain_line(alloc: Global, text: &str) -> Result<Ending, AllocError>
 /// The line for a puzzle text.
 fn answer_text(alloc: Global, text: &[u8], budget: u64) -> Result<Ending, AllocError>
     ensures { IfOk result (λ a. IsSolved text.now budget (string_bytes a.line) a.status
-        ⊎ IsRefused text.now (string_bytes a.line) a.status) }
+        ⊎ IsTextRefused text.now (string_bytes a.line) a.status) }
 {
     match parse_puzzle(alloc, text) {
         Ok(puzzle) => outcome_line(alloc, &puzzle, budget),

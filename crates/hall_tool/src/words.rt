@@ -1,8 +1,9 @@
 //! The words of the command line.
 ghost use Rattle.std.specs.Prelude.{◌≡◌, ◌≤◌, IfOk, IfErr, IfSome, MatchOption, None, Some, map, string_bytes};
 ghost use Rattle.clap.specs.Words.{first_of, found_of, kind_of, rows_of};
-ghost use Rattle.hall_tool.specs.Words.{IfLine, SpellsNone, IsNumber, IsNumberIfAny, IsNumberWithin, Spells, page_of};
-ghost use Rattle.hall_tool.specs.Words.{IsNoNumber, IsNoNumberIfAny, IsTaken, TakesNone, AsksFor, AsksNone};
+ghost use Rattle.hall_tool.specs.Words.{IfLine, SpellsNone, IsNumber, IsNumberIfAny, IsNumberWithin, SpellsCommand};
+ghost use Rattle.hall_tool.specs.Words.{page_of};
+ghost use Rattle.hall_tool.specs.Words.{IsNoNumber, IsNoNumberIfAny, IsTaken, TakesNone, AsksForPage, AsksNone};
 
 use crate::pages::{
     BUDGET, CONNECTIONS, DB, FROM, PEOPLE, PORT, Page, ROUND, TO, ValueOption, command_line,
@@ -112,7 +113,7 @@ impl From<AllocError> for WordsFault {
 /// Reads the words after the program's name. The first one names the command, and the words after it are read by
 /// the rules of that command.
 pub fn read_words(alloc: Global, words: &[String]) -> Result<Command, WordsFault>
-    ensures command { IfOk result (Spells (map string_bytes words.now)) }
+    ensures command { IfOk result (SpellsCommand (map string_bytes words.now)) }
     ensures fault { IfErr result (λ fault. IfLine fault (SpellsNone (map string_bytes words.now))) }
 {
     let page = page_of(words);
@@ -264,7 +265,7 @@ fn check_taken<'a>(
 
 /// What words ask for that the line of the page doesn't take.
 fn asked(page: Page, error: Error) -> Result<Command, WordsFault>
-    ensures command { IfOk result (AsksFor page (kind_of error)) }
+    ensures command { IfOk result (AsksForPage page (kind_of error)) }
     ensures fault { IfErr result (λ fault. IfLine fault (AsksNone (kind_of error))) }
 {
     match error.kind() {

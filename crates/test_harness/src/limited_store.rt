@@ -27,9 +27,9 @@ fn spend(left: &mut u64) -> Result<(), StoreFault> {
 }
 
 impl ReadStore for LimitedStore<'_> {
-    ghost use Rattle.hall_store.specs.Maps.{content_of};
+    ghost use Rattle.hall_store.specs.Maps.{content_of_maps};
 
-    ghost content = { λ limited. content_of limited.store.now };
+    ghost content = { λ limited. content_of_maps limited.store.now };
 
     ghost can_fail = { ⊤ };
 

@@ -2,14 +2,14 @@ use Rattle.std.proofs.Common.{◌≡◌, ◌∙◌, sym, ap, subst, length, arit
 use Rattle.std.specs.FinMap.{values}
 use Rattle.hall_policy.specs.declared.record.PuzzleRow.{PuzzleRow}
 use Rattle.hall_desk.specs.Checked.{AreStatesAsked}
-use Rattle.hall_desk.specs.Whole.{world_of}
+use Rattle.hall_desk.specs.Whole.{world_of_whole}
 use Rattle.hall_desk.proofs.SaneTold.{sane, states_true}
 use Rattle.hall_desk.proofs.sanity.check_whole.Goals as goal
 
 pub returns : goal.returns
 returns c = λ ordered.
     let whole = c.args.whole.now in
-    let world = world_of whole in
+    let world = world_of_whole whole in
     let rows : c.as_slice.result.now ≡ values world.puzzles = c.as_slice.ensures.value ∙ sym ordered.puzzles in
     let asked = subst (λ rows. AreStatesAsked c.args.budget rows c.in_ok-states.states) rows c.in_ok-states.ensures in
     record {

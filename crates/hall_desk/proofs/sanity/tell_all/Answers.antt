@@ -1,13 +1,13 @@
 use Rattle.std.proofs.Common.{◌∷◌, []}
 use Rattle.hall_desk.specs.Checked.{all_sentences}
-use Rattle.hall_desk.specs.Whole.{world_of}
+use Rattle.hall_desk.specs.Whole.{world_of_whole}
 use Rattle.hall_desk.specs.declared.sentence.Sentence.TheVariants as sentence
 use Rattle.hall_desk.proofs.Tellings.{added_then, added_all}
 use Rattle.hall_desk.proofs.sanity.tell_all.Goals as goal
 
 pub returns : goal.returns
 returns c = λ ordered.
-    let world = world_of c.args.whole.now in
+    let world = world_of_whole c.args.whole.now in
     let start = c.new-told.result.items in
     let with_puzzles = added_then world (sentence.OwnKey ∷ sentence.RolesApart ∷ []) (sentence.AuthorThere ∷ sentence.FewPuzzles ∷ sentence.SolutionRight ∷ []) start c.tell_people.new.told.items c.tell_puzzles.new.told.items (c.in_ok-tell_people.ensures ordered) (c.in_ok-tell_puzzles.ensures ordered) in
     let with_rounds = added_then world (sentence.OwnKey ∷ sentence.RolesApart ∷ sentence.AuthorThere ∷ sentence.FewPuzzles ∷ sentence.SolutionRight ∷ []) (sentence.ListWhole ∷ sentence.FewTesters ∷ sentence.ReleasedFirst ∷ []) start c.tell_puzzles.new.told.items c.tell_rounds.new.told.items (with_puzzles) (c.in_ok-tell_rounds.ensures ordered) in

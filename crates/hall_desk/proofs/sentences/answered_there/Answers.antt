@@ -1,14 +1,14 @@
 use Rattle.std.proofs.Common.{◌≡◌, ◌∙◌, sym}
 use Rattle.std.specs.FinMap.{values}
-use Rattle.hall_desk.specs.Sane.{HasPlace}
+use Rattle.hall_desk.specs.Sane.{IsPlaceThere}
 use Rattle.hall_desk.specs.Spots.{answer_spot}
 use Rattle.hall_policy.specs.declared.record.AnswerRow.{AnswerRow}
-use Rattle.hall_desk.specs.Whole.{world_of}
+use Rattle.hall_desk.specs.Whole.{world_of_whole}
 use Rattle.hall_desk.specs.declared.sentence.Sentence.TheVariants.{AnsweredThere}
 use Rattle.hall_desk.proofs.Tellings.{telling}
 use Rattle.hall_desk.proofs.sentences.answered_there.Goals as goal
 
 pub returns : goal.returns
 returns c =
-    telling c.args.whole.now AnsweredThere (λ (row : AnswerRow). HasPlace (world_of c.args.whole.now) row.key.round row.key.number) answer_spot (λ (_ : AnswerRow). Unit {0}) c.as_slice.result.now (values (world_of c.args.whole.now).answers) c.ask_each.result
+    telling c.args.whole.now AnsweredThere (λ (row : AnswerRow). IsPlaceThere (world_of_whole c.args.whole.now) row.key.round row.key.number) answer_spot (λ (_ : AnswerRow). Unit {0}) c.as_slice.result.now (values (world_of_whole c.args.whole.now).answers) c.ask_each.result
     (λ _ row among. tt) (λ ordered. c.as_slice.ensures.value ∙ sym ordered.answers) (λ _ finds. finds) c.ask_each.ensures.sentence c.ask_each.ensures.finds

@@ -4,12 +4,12 @@ use Rattle.hall_desk.specs.Sentences.{HasPuzzle}
 use Rattle.hall_desk.specs.Spots.{place_spot}
 use Rattle.hall_policy.specs.declared.record.Entry.{Entry}
 use Rattle.hall_policy.specs.declared.record.PlaceKey.{PlaceKey}
-use Rattle.hall_desk.specs.Whole.{world_of}
+use Rattle.hall_desk.specs.Whole.{world_of_whole}
 use Rattle.hall_desk.specs.declared.sentence.Sentence.TheVariants.{PuzzleThere}
 use Rattle.hall_desk.proofs.Tellings.{telling}
 use Rattle.hall_desk.proofs.sentences.puzzle_there.Goals as goal
 
 pub returns : goal.returns
 returns c =
-    telling c.args.whole.now PuzzleThere (λ (place : PlaceKey × Entry). HasPuzzle (world_of c.args.whole.now) place.1) place_spot (λ (_ : PlaceKey × Entry). Unit {0}) c.as_slice.result.now (entries (world_of c.args.whole.now).places) c.ask_each.result
+    telling c.args.whole.now PuzzleThere (λ (place : PlaceKey × Entry). HasPuzzle (world_of_whole c.args.whole.now) place.1) place_spot (λ (_ : PlaceKey × Entry). Unit {0}) c.as_slice.result.now (entries (world_of_whole c.args.whole.now).places) c.ask_each.result
     (λ _ row among. tt) (λ ordered. c.as_slice.ensures.value ∙ sym ordered.places) (λ _ finds. finds) c.ask_each.ensures.sentence c.ask_each.ensures.finds

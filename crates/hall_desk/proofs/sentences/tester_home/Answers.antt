@@ -3,12 +3,12 @@ use Rattle.std.specs.FinMap.{entries}
 use Rattle.hall_desk.specs.Sentences.{IsRoundThere}
 use Rattle.hall_desk.specs.Spots.{tester_spot}
 use Rattle.hall_policy.specs.declared.record.TesterKey.{TesterKey}
-use Rattle.hall_desk.specs.Whole.{world_of}
+use Rattle.hall_desk.specs.Whole.{world_of_whole}
 use Rattle.hall_desk.specs.declared.sentence.Sentence.TheVariants.{TesterHome}
 use Rattle.hall_desk.proofs.Tellings.{telling}
 use Rattle.hall_desk.proofs.sentences.tester_home.Goals as goal
 
 pub returns : goal.returns
 returns c =
-    telling c.args.whole.now TesterHome (λ (tester : TesterKey × Unit {0}). IsRoundThere (world_of c.args.whole.now) tester.0.round) tester_spot (λ (_ : TesterKey × Unit {0}). Unit {0}) c.as_slice.result.now (entries (world_of c.args.whole.now).testers) c.ask_each.result
+    telling c.args.whole.now TesterHome (λ (tester : TesterKey × Unit {0}). IsRoundThere (world_of_whole c.args.whole.now) tester.0.round) tester_spot (λ (_ : TesterKey × Unit {0}). Unit {0}) c.as_slice.result.now (entries (world_of_whole c.args.whole.now).testers) c.ask_each.result
     (λ _ row among. tt) (λ ordered. c.as_slice.ensures.value ∙ sym ordered.testers) (λ _ finds. finds) c.ask_each.ensures.sentence c.ask_each.ensures.finds

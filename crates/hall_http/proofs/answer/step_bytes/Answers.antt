@@ -1,7 +1,7 @@
 use Rattle.std.proofs.Common.{IfOk, ℕ, List, ◌≡◌, ◌⊎◌, ◌∙◌, inl, inr, refl, subst}
 use Rattle.std.specs.Prelude.{Result, Ok, Err, OnErr}
 use Rattle.std.specs.String.{string_bytes}
-use Rattle.hall_store.specs.Store.{Content, Made}
+use Rattle.hall_store.specs.Store.{Content, MakesInWorld}
 use Rattle.hall_store.specs.declared.change.Change.{Change}
 use Rattle.hall_store.specs.declared.change.Change.TheVariants.{Nothing}
 use Rattle.hall_store.specs.declared.fault.StoreFault.{StoreFault}
@@ -67,7 +67,7 @@ on_err (Err e) holds = holds
 
 -- a change that was refused left the world
 refused : (R E : Type 0) (change : Change) (old new : Content) (fault : E) → (change ≡ Nothing → ⊥)
-    → (change ≡ Nothing) ⊎ Made {R = R} change old new (Err fault) → new.honest → new.serves → new.world ≡ old.world
+    → (change ≡ Nothing) ⊎ MakesInWorld {R = R} change old new (Err fault) → new.honest → new.serves → new.world ≡ old.world
 refused R E change old new fault never (inl none) = absurd (never none)
 refused R E change old new fault never (inr made) = made
 

@@ -2,7 +2,7 @@ use Rattle.std.proofs.Common.{◌≡◌, rules, Err}
 use Rattle.hall_http.specs.declared.fault.ReplayFault.TheVariants as fault
 use Rattle.hall_desk.specs.Desk.{kept_by}
 use Rattle.hall_desk.proofs.Promises.{unique_solutions, right_answers}
-use Rattle.hall_http.specs.Replay.{exchanges_of}
+use Rattle.hall_http.specs.Replay.{exchanges_of_records}
 use Rattle.hall_http.proofs.Runs.{runs_sane}
 use Rattle.hall_http.proofs.Turns.{unbegun}
 use Rattle.hall_http.proofs.session.replay.Goals as goal
@@ -20,19 +20,19 @@ returns-in_err-routes-clause-right g c = λ h s sane. right_answers (g.S.ReadSto
 pub returns-clause-sane : goal.returns-clause-sane
 returns-clause-sane g c =
     let replayed = c.answer_records.ensures in
-    runs_sane (g.S.ReadStore.content (kept_by c.args.desk.now)) (exchanges_of replayed.records)
+    runs_sane (g.S.ReadStore.content (kept_by c.args.desk.now)) (exchanges_of_records replayed.records)
     (g.S.ReadStore.content (kept_by c.answer_records.new.desk)) replayed.run
 
 pub returns-clause-unique : goal.returns-clause-unique
 returns-clause-unique g c = λ h s sane.
     let replayed = c.answer_records.ensures in
     unique_solutions (g.S.ReadStore.content (kept_by c.answer_records.new.desk)).world
-    (runs_sane (g.S.ReadStore.content (kept_by c.args.desk.now)) (exchanges_of replayed.records)
+    (runs_sane (g.S.ReadStore.content (kept_by c.args.desk.now)) (exchanges_of_records replayed.records)
     (g.S.ReadStore.content (kept_by c.answer_records.new.desk)) replayed.run h s sane)
 
 pub returns-clause-right : goal.returns-clause-right
 returns-clause-right g c = λ h s sane.
     let replayed = c.answer_records.ensures in
     right_answers (g.S.ReadStore.content (kept_by c.answer_records.new.desk)).world
-    (runs_sane (g.S.ReadStore.content (kept_by c.args.desk.now)) (exchanges_of replayed.records)
+    (runs_sane (g.S.ReadStore.content (kept_by c.args.desk.now)) (exchanges_of_records replayed.records)
     (g.S.ReadStore.content (kept_by c.answer_records.new.desk)) replayed.run h s sane)

@@ -4,7 +4,7 @@ use Rattle.hall_slither.specs.declared.count.Centre.{Centre}
 use Rattle.hall_slither.specs.declared.count.Demand.{Demand}
 use Rattle.hall_slither.specs.declared.count.Consequence.TheVariants.{Nothing}
 use Rattle.hall_grid.specs.Slither.{all_sides}
-use Rattle.hall_slither.specs.Count.{sides_round, count_sides, has_line, is_open, Follows, demand_of, IsSilent}
+use Rattle.hall_slither.specs.Count.{sides_round, count_sides, has_line, is_place_unset, Follows, demand_of, IsSilent}
 use Rattle.hall_slither.specs.Dot.{AreBelow}
 use Rattle.hall_grid.specs.declared.board.Kind.TheVariants.{Slither}
 use Rattle.hall_solve.specs.Puzzle.{question_of}
@@ -12,11 +12,11 @@ use Rattle.hall_slither.proofs.IsTold.{IsTold-from_counts}
 use Rattle.hall_slither.proofs.count.consequence_at.Goals as goal
 
 IsSilent-from : (board : Board) (p : List (Option ℕ)) (centre : Centre) (demand : Demand) (lines unset : ℕ) → demand ≡ demand_of board centre
-    → lines ≡ count_sides (has_line p) (sides_round board.size centre) → unset ≡ count_sides (is_open p) (sides_round board.size centre)
+    → lines ≡ count_sides (has_line p) (sides_round board.size centre) → unset ≡ count_sides (is_place_unset p) (sides_round board.size centre)
     → Follows demand lines unset Nothing → IsSilent board p centre
 IsSilent-from board p centre demand lines unset d l u follows =
-    subst (λ d. Follows d (count_sides (has_line p) (sides_round board.size centre)) (count_sides (is_open p) (sides_round board.size centre)) Nothing) d
-    (subst (λ n. Follows demand n (count_sides (is_open p) (sides_round board.size centre)) Nothing) l (subst (λ n. Follows demand lines n Nothing) u follows))
+    subst (λ d. Follows d (count_sides (has_line p) (sides_round board.size centre)) (count_sides (is_place_unset p) (sides_round board.size centre)) Nothing) d
+    (subst (λ n. Follows demand n (count_sides (is_place_unset p) (sides_round board.size centre)) Nothing) l (subst (λ n. Follows demand lines n Nothing) u follows))
 
 pub returns-clause-told : goal.returns-clause-told
 returns-clause-told c =
@@ -28,7 +28,7 @@ returns-clause-told c =
     c.lines_and_open-lines.result.0 c.lines_and_open-lines.result.1 refl c.requires.partial.size
     (subst (λ sides. AreBelow (length c.args.partial.now.places) sides) sides_are below)
     (c.lines_and_open-lines.ensures.lines ∙ ap (λ sides. count_sides (has_line c.args.partial.now.places) sides) sides_are)
-    (c.lines_and_open-lines.ensures.unset ∙ ap (λ sides. count_sides (is_open c.args.partial.now.places) sides) sides_are)
+    (c.lines_and_open-lines.ensures.unset ∙ ap (λ sides. count_sides (is_place_unset c.args.partial.now.places) sides) sides_are)
     (λ f s. c.demand_at.ensures.meets f s.right)
     c.consequence_of.result c.consequence_of.ensures
 
@@ -39,5 +39,5 @@ returns-clause-silent c = λ nothing.
     IsSilent-from c.args.puzzle.now c.args.partial.now.places c.args.centre c.demand_at.result c.lines_and_open-lines.result.0 c.lines_and_open-lines.result.1
     c.demand_at.ensures.demand
     (c.lines_and_open-lines.ensures.lines ∙ ap (λ sides. count_sides (has_line c.args.partial.now.places) sides) sides_are)
-    (c.lines_and_open-lines.ensures.unset ∙ ap (λ sides. count_sides (is_open c.args.partial.now.places) sides) sides_are)
+    (c.lines_and_open-lines.ensures.unset ∙ ap (λ sides. count_sides (is_place_unset c.args.partial.now.places) sides) sides_are)
     (subst (Follows c.demand_at.result c.lines_and_open-lines.result.0 c.lines_and_open-lines.result.1) nothing c.consequence_of.ensures)

@@ -1,12 +1,12 @@
 use Rattle.std.proofs.Common.{◌≡◌, ℕ, ◌-◌, ◌<◌, ◌≤◌, List, Option, length, arith, refl, ◌∙◌, ap, subst, inl, inr}
 use Rattle.hall_solve.specs.declared.choice.Choice.{Choice}
-use Rattle.hall_solve.specs.Question.{Question, IsPartial, IsFilling, IsHopeless}
+use Rattle.hall_solve.specs.Question.{Question, IsPartial, IsQuestionFilling, IsHopeless}
 use Rattle.hall_solve.specs.Trail.{Trailed}
 use Rattle.hall_solve.specs.Choices.{InRange, visits_left, visits_ahead}
 use Rattle.hall_solve.proofs.Trees.{plain_tree-pos}
 use Rattle.hall_solve.proofs.explore.turn.Goals as goal
 
-range : (q : Question) (p : List (Option ℕ)) (values : ℕ) (f : List ℕ) → IsPartial q p → values ≡ q.values → IsFilling q f → InRange (length p) values f
+range : (q : Question) (p : List (Option ℕ)) (values : ℕ) (f : List ℕ) → IsPartial q p → values ≡ q.values → IsQuestionFilling q f → InRange (length p) values f
 range q p values f s e h i lt = rw e (h.in_range i (omega (arith, lt, s.size)))
 
 -- what awaits its turn takes fewer visits than before
@@ -29,7 +29,7 @@ turning-preserved g c =
     let on = c.turning-test.true in
     let n = c.advance.new.board in
     let hopeless : IsHopeless q n.places = c.is_refused.ensures.hopeless cc in
-    let within = λ (f : List ℕ) (h : IsFilling q f). range q c.turning.board.places c.values.result f before.partial c.values.ensures h in
+    let within = λ (f : List ℕ) (h : IsQuestionFilling q f). range q c.turning.board.places c.values.result f before.partial c.values.ensures h in
     record {
       partial = record { size = after.size ∙ before.partial.size; in_range = λ i v h. elim (after.values on i v h) [ inl old ↦ before.partial.in_range i v old | inr small ↦ rw (← c.values.ensures) small ] };
       made = after.made on;

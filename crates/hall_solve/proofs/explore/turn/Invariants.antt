@@ -1,5 +1,5 @@
 use Rattle.std.proofs.Common.{◌≡◌, ℕ, ◌≤◌, List, length}
-use Rattle.hall_solve.specs.Question.{IsPartial, IsFilling}
+use Rattle.hall_solve.specs.Question.{IsPartial, IsQuestionFilling}
 use Rattle.hall_solve.specs.Choices.{AreMade, AwaitsTurn, visits_left}
 use Rattle.hall_solve.proofs.explore.turn.Given as goal
 
@@ -11,8 +11,8 @@ invariant-turning g l =
       partial : IsPartial q l.board.places;
       made : AreMade l.board l.stack.items;
       size : length l.board.places ≡ length l.fn.board.places;
-      waited : (f : List ℕ) → IsFilling q f → AwaitsTurn l.board l.stack.items f → AwaitsTurn l.fn.board l.fn.stack.items f;
-      waits : (f : List ℕ) → IsFilling q f → q.right f → AwaitsTurn l.fn.board l.fn.stack.items f → AwaitsTurn l.board l.stack.items f;
+      waited : (f : List ℕ) → IsQuestionFilling q f → AwaitsTurn l.board l.stack.items f → AwaitsTurn l.fn.board l.fn.stack.items f;
+      waits : (f : List ℕ) → IsQuestionFilling q f → q.right f → AwaitsTurn l.fn.board l.fn.stack.items f → AwaitsTurn l.board l.stack.items f;
       paid : visits_left (length l.fn.board.places) q.values l.stack.items ≤ visits_left (length l.fn.board.places) q.values l.fn.stack.items;
     }
 

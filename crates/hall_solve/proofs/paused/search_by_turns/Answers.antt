@@ -3,7 +3,7 @@ use Rattle.hall_solve.specs.declared.paused.Searching.{Searching}
 use Rattle.hall_solve.specs.declared.paused.Searching.TheVariants.{Ended}
 use Rattle.hall_solve.specs.Answer.{OutcomeOf}
 use Rattle.hall_solve.specs.Searched.{outcome_of}
-use Rattle.hall_solve.specs.Paused.{start_of, budget_of, HasGoneOn}
+use Rattle.hall_solve.specs.Paused.{started_at, budget_of, HasGoneOn}
 use Rattle.hall_solve.proofs.Underway.{OutcomeOf-same}
 use Rattle.hall_solve.proofs.paused.search_by_turns.Goals as goal
 
@@ -16,6 +16,6 @@ returns-in-Ended-clause-outcome g c =
     let until = g.R.Rules.visits c.turns.rules + c.args.most in
     let visits = g.R.Rules.visits c.go_on.new.rules in
     let ended : HasGoneOn r s old until visits (Ended c.in-Ended.searched) = subst (λ (x : Searching). HasGoneOn r s old until visits x) c.in-Ended.is c.in_ok-searched.ensures.gone_on in
-    let told : OutcomeOf q (start_of old) (budget_of old) (outcome_of c.in-Ended.searched) = OutcomeOf-same q r (start_of old) (budget_of old) (outcome_of c.in-Ended.searched) c.turns.invariant.same ended.outcome in
+    let told : OutcomeOf q (started_at old) (budget_of old) (outcome_of c.in-Ended.searched) = OutcomeOf-same q r (started_at old) (budget_of old) (outcome_of c.in-Ended.searched) c.turns.invariant.same ended.outcome in
     let begun : OutcomeOf q c.args.start.places (budget_of old) (outcome_of c.in-Ended.searched) = subst (λ (p : List (Option ℕ)). OutcomeOf q p (budget_of old) (outcome_of c.in-Ended.searched)) c.turns.invariant.start told in
     subst (λ (n : ℕ). OutcomeOf q c.args.start.places n (outcome_of c.in-Ended.searched)) c.turns.invariant.budget begun

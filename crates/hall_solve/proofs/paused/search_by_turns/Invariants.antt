@@ -1,15 +1,15 @@
 use Rattle.std.proofs.Common.{◌≡◌, ◌-◌, ◌≤◌}
-use Rattle.hall_solve.specs.Question.{IsSame}
-use Rattle.hall_solve.specs.Paused.{start_of, budget_of, IsSearchAt}
+use Rattle.hall_solve.specs.Question.{IsSameQuestion}
+use Rattle.hall_solve.specs.Paused.{started_at, budget_of, IsSearchAt}
 use Rattle.hall_solve.proofs.paused.search_by_turns.Given as goal
 
 abbrev pub invariant-turns : goal.invariant-turns
 invariant-turns g l =
     let rules = g.R.Rules in
     record {
-      same : IsSame (rules.question l.fn.rules) (rules.question l.rules);
+      same : IsSameQuestion (rules.question l.fn.rules) (rules.question l.rules);
       at_visits : rules.asked l.rules ≤ rules.visits l.rules;
-      start : start_of l.search ≡ l.fn.start.places;
+      start : started_at l.search ≡ l.fn.start.places;
       budget : budget_of l.search ≡ l.budget;
       under_way : IsSearchAt (rules.question l.rules) (rules.visits l.rules) l.search;
     }

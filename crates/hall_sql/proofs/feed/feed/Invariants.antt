@@ -1,7 +1,7 @@
 use Rattle.std.proofs.Common.{◌≡◌}
 use Rattle.sqlite.specs.Values.{bound}
 use Rattle.sqlite.specs.Held.{state}
-use Rattle.hall_sql.specs.Standing.{AddsNoOutcome, Lasts}
+use Rattle.hall_sql.specs.Standing.{AddsNoOutcome, LeadsConnection}
 use Rattle.hall_sql.specs.Feed.{Taking}
 use Rattle.hall_sql.proofs.feed.feed.Given as goal
 
@@ -10,5 +10,5 @@ abbrev pub invariant-feed : goal.invariant-feed
 invariant-feed g l =
     let old = state g.S.Store l.fn.conn in
     let now = state g.S.Store l.rows.conn.now in
-    (l.rows.conn.ghost_name ≡ l.initial.rows.conn.ghost_name) × Lasts old now × AddsNoOutcome old now
+    (l.rows.conn.ghost_name ≡ l.initial.rows.conn.ghost_name) × LeadsConnection old now × AddsNoOutcome old now
     × Taking g.S.Store g.T.Record.read g.K.Sink.takes l.sql (bound l.params) old l.rows.conn.now l.fn.sink l.sink

@@ -7,7 +7,7 @@ use Rattle.hall_sql.proofs.WriteCauseLemmas.{commit_fails, whole_cause}
 use Rattle.sqlite.specs.Held.{state}
 use Rattle.hall_store.specs.declared.change.Change.TheVariants.{Import}
 use Rattle.hall_store.specs.declared.fault.StoreFault.{StoreFault}
-use Rattle.hall_sql.specs.Standing.{Wrote}
+use Rattle.hall_sql.specs.Standing.{MakesInTables}
 use Rattle.hall_sql.proofs.LastLemmas.{survived}
 use Rattle.hall_sql.proofs.TransactionLemmas.{committed_wrote, refused_wrote}
 use Rattle.hall_sql.proofs.people.import.Goals as goal
@@ -17,7 +17,7 @@ returns-in-Ok-clause-wrote g c =
     let same : c.conn-2-1.given.0 ≡ c.commit.new.self.0 = search rules in
     let it = rw (c.transaction-tx.ensures.begun, c.as_slice.ensures.value) at c.in_ok-import_all.ensures in
     let end = state g.S.Store c.commit.new.self.0 in
-    subst (λ h. Wrote {R = Unit} {E = StoreFault} (Import c.args.people.now) (state g.S.Store c.args.conn.now) (state g.S.Store h) (Ok tt)) (sym same)
+    subst (λ h. MakesInTables {R = Unit} {E = StoreFault} (Import c.args.people.now) (state g.S.Store c.args.conn.now) (state g.S.Store h) (Ok tt)) (sym same)
     (committed_wrote g.S.Store c.args.conn.now c.requires.hall c.live.ensures (Import c.args.people.now) tt (state g.S.Store c.import_all.new.tx.conn.now) end
     it.carries it.done c.in-Ok.ensures.survives c.in-Ok.ensures.ended c.in-Ok.ensures.ok)
 
@@ -26,7 +26,7 @@ returns-in-Err-clause-wrote g c =
     let same : c.conn-2-1.given.0 ≡ c.commit.new.self.0 = search rules in
     let it = rw (c.transaction-tx.ensures.begun, c.as_slice.ensures.value) at c.in_ok-import_all.ensures in
     let end = state g.S.Store c.commit.new.self.0 in
-    subst (λ h. Wrote {R = Unit} {E = StoreFault} (Import c.args.people.now) (state g.S.Store c.args.conn.now) (state g.S.Store h) (Err c.fault_of.result)) (sym same)
+    subst (λ h. MakesInTables {R = Unit} {E = StoreFault} (Import c.args.people.now) (state g.S.Store c.args.conn.now) (state g.S.Store h) (Err c.fault_of.result)) (sym same)
     (refused_wrote g.S.Store c.args.conn.now c.requires.hall c.live.ensures (Import c.args.people.now) c.fault_of.result c.in-Err.error (state g.S.Store c.import_all.new.tx.conn.now) end
     it.carries it.done c.in-Err.ensures.survives c.in-Err.ensures.ended c.in-Err.ensures.err)
 

@@ -4,7 +4,7 @@ use Rattle.sqlite.specs.State.{HasCleanDisk}
 use Rattle.hall_store.specs.declared.change.Change.TheVariants.{PutRound}
 use Rattle.hall_store.specs.declared.fault.StoreFault.{StoreFault}
 use Rattle.hall_sql.specs.RoundPuts.{PutsRows}
-use Rattle.hall_sql.specs.Standing.{Wrote}
+use Rattle.hall_sql.specs.Standing.{MakesInTables}
 use Rattle.hall_sql.specs.WriteCause.{PutRoundFails}
 use Rattle.hall_sql.proofs.CauseLemmas.{fails_as}
 use Rattle.hall_sql.proofs.WriteCauseLemmas.{whole_cause}
@@ -15,7 +15,7 @@ use Rattle.hall_sql.proofs.round_writes.put_round.Goals as goal
 pub returns-in-Ok-clause-wrote : goal.returns-in-Ok-clause-wrote
 returns-in-Ok-clause-wrote g c =
     let it = rw c.transaction-tx.ensures.begun at c.in_ok-put_inside.ensures in
-    let done : Wrote {R = Unit} {E = StoreFault} (PutRound c.args.row.now) (state g.S.Store c.args.conn.now) _ (Ok tt) =
+    let done : MakesInTables {R = Unit} {E = StoreFault} (PutRound c.args.row.now) (state g.S.Store c.args.conn.now) _ (Ok tt) =
     committed_wrote g.S.Store c.args.conn.now c.requires.hall c.live.ensures (PutRound c.args.row.now) tt (state g.S.Store c.put_inside.new.tx.conn.now) _
     it.carries it.done c.in-Ok.ensures.survives c.in-Ok.ensures.ended c.in-Ok.ensures.ok in
     search rules
@@ -35,7 +35,7 @@ returns-in-Err-clause-wrote g c =
     let same : c.conn-2-1.given.0 ≡ c.commit.new.self.0 = search rules in
     let it = rw c.transaction-tx.ensures.begun at c.in_ok-put_inside.ensures in
     let end = state g.S.Store c.commit.new.self.0 in
-    subst (λ h. Wrote {R = Unit} {E = StoreFault} (PutRound c.args.row.now) (state g.S.Store c.args.conn.now) (state g.S.Store h) (Err c.fault_of.result)) (sym same)
+    subst (λ h. MakesInTables {R = Unit} {E = StoreFault} (PutRound c.args.row.now) (state g.S.Store c.args.conn.now) (state g.S.Store h) (Err c.fault_of.result)) (sym same)
     (refused_wrote g.S.Store c.args.conn.now c.requires.hall c.live.ensures (PutRound c.args.row.now) c.fault_of.result c.in-Err.error (state g.S.Store c.put_inside.new.tx.conn.now) end
     it.carries it.done c.in-Err.ensures.survives c.in-Err.ensures.ended c.in-Err.ensures.err)
 

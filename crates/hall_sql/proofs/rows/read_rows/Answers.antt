@@ -1,7 +1,7 @@
 use Rattle.std.proofs.Common.{◌≡◌}
 use Rattle.std.specs.FinMap.{entries, values}
 use Rattle.sqlite.specs.Held.{state}
-use Rattle.hall_sql.specs.Standing.{RestedAny}
+use Rattle.hall_sql.specs.Standing.{KeptAnyTables}
 use Rattle.hall_sql.specs.Versions.{IsAnyHall}
 use Rattle.hall_sql.proofs.AllRead.{answers_read, people_read, places_read, protests_read, puzzles_read, read_before, rounds_read}
 use Rattle.hall_sql.proofs.RowReads.{rested_clean, rests_any, rests_twice, told_before}
@@ -21,71 +21,71 @@ returns-in_err-puzzles-clause-rested g c =
 pub rounds-requires : goal.rounds-requires
 rounds-requires g c =
     let s0 = state g.S.Store c.args.conn.now in
-    let to_puzzles : RestedAny s0 (state g.S.Store c.all_puzzles.new.conn) = rests_twice s0 (state g.S.Store c.all_people.new.conn) (state g.S.Store c.all_puzzles.new.conn) c.in_ok-people.ensures.rested c.in_ok-puzzles.ensures.rested in
+    let to_puzzles : KeptAnyTables s0 (state g.S.Store c.all_puzzles.new.conn) = rests_twice s0 (state g.S.Store c.all_people.new.conn) (state g.S.Store c.all_puzzles.new.conn) c.in_ok-people.ensures.rested c.in_ok-puzzles.ensures.rested in
     record { hall = rests_any s0 (state g.S.Store c.all_puzzles.new.conn) c.requires.hall to_puzzles }
 
 pub returns-in_err-heads-clause-rested : goal.returns-in_err-heads-clause-rested
 returns-in_err-heads-clause-rested g c =
     let s0 = state g.S.Store c.args.conn.now in
-    let to_puzzles : RestedAny s0 (state g.S.Store c.all_puzzles.new.conn) = rests_twice s0 (state g.S.Store c.all_people.new.conn) (state g.S.Store c.all_puzzles.new.conn) c.in_ok-people.ensures.rested c.in_ok-puzzles.ensures.rested in
+    let to_puzzles : KeptAnyTables s0 (state g.S.Store c.all_puzzles.new.conn) = rests_twice s0 (state g.S.Store c.all_people.new.conn) (state g.S.Store c.all_puzzles.new.conn) c.in_ok-people.ensures.rested c.in_ok-puzzles.ensures.rested in
     rests_twice s0 (state g.S.Store c.all_puzzles.new.conn) (state g.S.Store c.rounds.new.conn) to_puzzles c.in_err-heads.ensures.rested
 
 pub all_places-requires : goal.all_places-requires
 all_places-requires g c =
     let s0 = state g.S.Store c.args.conn.now in
-    let to_puzzles : RestedAny s0 (state g.S.Store c.all_puzzles.new.conn) = rests_twice s0 (state g.S.Store c.all_people.new.conn) (state g.S.Store c.all_puzzles.new.conn) c.in_ok-people.ensures.rested c.in_ok-puzzles.ensures.rested in
-    let to_heads : RestedAny s0 (state g.S.Store c.rounds.new.conn) = rests_twice s0 (state g.S.Store c.all_puzzles.new.conn) (state g.S.Store c.rounds.new.conn) to_puzzles c.in_ok-heads.ensures.rested in
+    let to_puzzles : KeptAnyTables s0 (state g.S.Store c.all_puzzles.new.conn) = rests_twice s0 (state g.S.Store c.all_people.new.conn) (state g.S.Store c.all_puzzles.new.conn) c.in_ok-people.ensures.rested c.in_ok-puzzles.ensures.rested in
+    let to_heads : KeptAnyTables s0 (state g.S.Store c.rounds.new.conn) = rests_twice s0 (state g.S.Store c.all_puzzles.new.conn) (state g.S.Store c.rounds.new.conn) to_puzzles c.in_ok-heads.ensures.rested in
     record { hall = rests_any s0 (state g.S.Store c.rounds.new.conn) c.requires.hall to_heads }
 
 pub returns-in_err-places-clause-rested : goal.returns-in_err-places-clause-rested
 returns-in_err-places-clause-rested g c =
     let s0 = state g.S.Store c.args.conn.now in
-    let to_puzzles : RestedAny s0 (state g.S.Store c.all_puzzles.new.conn) = rests_twice s0 (state g.S.Store c.all_people.new.conn) (state g.S.Store c.all_puzzles.new.conn) c.in_ok-people.ensures.rested c.in_ok-puzzles.ensures.rested in
-    let to_heads : RestedAny s0 (state g.S.Store c.rounds.new.conn) = rests_twice s0 (state g.S.Store c.all_puzzles.new.conn) (state g.S.Store c.rounds.new.conn) to_puzzles c.in_ok-heads.ensures.rested in
+    let to_puzzles : KeptAnyTables s0 (state g.S.Store c.all_puzzles.new.conn) = rests_twice s0 (state g.S.Store c.all_people.new.conn) (state g.S.Store c.all_puzzles.new.conn) c.in_ok-people.ensures.rested c.in_ok-puzzles.ensures.rested in
+    let to_heads : KeptAnyTables s0 (state g.S.Store c.rounds.new.conn) = rests_twice s0 (state g.S.Store c.all_puzzles.new.conn) (state g.S.Store c.rounds.new.conn) to_puzzles c.in_ok-heads.ensures.rested in
     rests_twice s0 (state g.S.Store c.rounds.new.conn) (state g.S.Store c.all_places.new.conn) to_heads c.in_err-places.ensures.rested
 
 pub all_answers-requires : goal.all_answers-requires
 all_answers-requires g c =
     let s0 = state g.S.Store c.args.conn.now in
-    let to_puzzles : RestedAny s0 (state g.S.Store c.all_puzzles.new.conn) = rests_twice s0 (state g.S.Store c.all_people.new.conn) (state g.S.Store c.all_puzzles.new.conn) c.in_ok-people.ensures.rested c.in_ok-puzzles.ensures.rested in
-    let to_heads : RestedAny s0 (state g.S.Store c.rounds.new.conn) = rests_twice s0 (state g.S.Store c.all_puzzles.new.conn) (state g.S.Store c.rounds.new.conn) to_puzzles c.in_ok-heads.ensures.rested in
-    let to_places : RestedAny s0 (state g.S.Store c.all_places.new.conn) = rests_twice s0 (state g.S.Store c.rounds.new.conn) (state g.S.Store c.all_places.new.conn) to_heads c.in_ok-places.ensures.rested in
+    let to_puzzles : KeptAnyTables s0 (state g.S.Store c.all_puzzles.new.conn) = rests_twice s0 (state g.S.Store c.all_people.new.conn) (state g.S.Store c.all_puzzles.new.conn) c.in_ok-people.ensures.rested c.in_ok-puzzles.ensures.rested in
+    let to_heads : KeptAnyTables s0 (state g.S.Store c.rounds.new.conn) = rests_twice s0 (state g.S.Store c.all_puzzles.new.conn) (state g.S.Store c.rounds.new.conn) to_puzzles c.in_ok-heads.ensures.rested in
+    let to_places : KeptAnyTables s0 (state g.S.Store c.all_places.new.conn) = rests_twice s0 (state g.S.Store c.rounds.new.conn) (state g.S.Store c.all_places.new.conn) to_heads c.in_ok-places.ensures.rested in
     record { hall = rests_any s0 (state g.S.Store c.all_places.new.conn) c.requires.hall to_places }
 
 pub returns-in_err-answers-clause-rested : goal.returns-in_err-answers-clause-rested
 returns-in_err-answers-clause-rested g c =
     let s0 = state g.S.Store c.args.conn.now in
-    let to_puzzles : RestedAny s0 (state g.S.Store c.all_puzzles.new.conn) = rests_twice s0 (state g.S.Store c.all_people.new.conn) (state g.S.Store c.all_puzzles.new.conn) c.in_ok-people.ensures.rested c.in_ok-puzzles.ensures.rested in
-    let to_heads : RestedAny s0 (state g.S.Store c.rounds.new.conn) = rests_twice s0 (state g.S.Store c.all_puzzles.new.conn) (state g.S.Store c.rounds.new.conn) to_puzzles c.in_ok-heads.ensures.rested in
-    let to_places : RestedAny s0 (state g.S.Store c.all_places.new.conn) = rests_twice s0 (state g.S.Store c.rounds.new.conn) (state g.S.Store c.all_places.new.conn) to_heads c.in_ok-places.ensures.rested in
+    let to_puzzles : KeptAnyTables s0 (state g.S.Store c.all_puzzles.new.conn) = rests_twice s0 (state g.S.Store c.all_people.new.conn) (state g.S.Store c.all_puzzles.new.conn) c.in_ok-people.ensures.rested c.in_ok-puzzles.ensures.rested in
+    let to_heads : KeptAnyTables s0 (state g.S.Store c.rounds.new.conn) = rests_twice s0 (state g.S.Store c.all_puzzles.new.conn) (state g.S.Store c.rounds.new.conn) to_puzzles c.in_ok-heads.ensures.rested in
+    let to_places : KeptAnyTables s0 (state g.S.Store c.all_places.new.conn) = rests_twice s0 (state g.S.Store c.rounds.new.conn) (state g.S.Store c.all_places.new.conn) to_heads c.in_ok-places.ensures.rested in
     rests_twice s0 (state g.S.Store c.all_places.new.conn) (state g.S.Store c.all_answers.new.conn) to_places c.in_err-answers.ensures.rested
 
 pub all_protests-requires : goal.all_protests-requires
 all_protests-requires g c =
     let s0 = state g.S.Store c.args.conn.now in
-    let to_puzzles : RestedAny s0 (state g.S.Store c.all_puzzles.new.conn) = rests_twice s0 (state g.S.Store c.all_people.new.conn) (state g.S.Store c.all_puzzles.new.conn) c.in_ok-people.ensures.rested c.in_ok-puzzles.ensures.rested in
-    let to_heads : RestedAny s0 (state g.S.Store c.rounds.new.conn) = rests_twice s0 (state g.S.Store c.all_puzzles.new.conn) (state g.S.Store c.rounds.new.conn) to_puzzles c.in_ok-heads.ensures.rested in
-    let to_places : RestedAny s0 (state g.S.Store c.all_places.new.conn) = rests_twice s0 (state g.S.Store c.rounds.new.conn) (state g.S.Store c.all_places.new.conn) to_heads c.in_ok-places.ensures.rested in
-    let to_answers : RestedAny s0 (state g.S.Store c.all_answers.new.conn) = rests_twice s0 (state g.S.Store c.all_places.new.conn) (state g.S.Store c.all_answers.new.conn) to_places c.in_ok-answers.ensures.rested in
+    let to_puzzles : KeptAnyTables s0 (state g.S.Store c.all_puzzles.new.conn) = rests_twice s0 (state g.S.Store c.all_people.new.conn) (state g.S.Store c.all_puzzles.new.conn) c.in_ok-people.ensures.rested c.in_ok-puzzles.ensures.rested in
+    let to_heads : KeptAnyTables s0 (state g.S.Store c.rounds.new.conn) = rests_twice s0 (state g.S.Store c.all_puzzles.new.conn) (state g.S.Store c.rounds.new.conn) to_puzzles c.in_ok-heads.ensures.rested in
+    let to_places : KeptAnyTables s0 (state g.S.Store c.all_places.new.conn) = rests_twice s0 (state g.S.Store c.rounds.new.conn) (state g.S.Store c.all_places.new.conn) to_heads c.in_ok-places.ensures.rested in
+    let to_answers : KeptAnyTables s0 (state g.S.Store c.all_answers.new.conn) = rests_twice s0 (state g.S.Store c.all_places.new.conn) (state g.S.Store c.all_answers.new.conn) to_places c.in_ok-answers.ensures.rested in
     record { hall = rests_any s0 (state g.S.Store c.all_answers.new.conn) c.requires.hall to_answers }
 
 pub returns-in_err-protests-clause-rested : goal.returns-in_err-protests-clause-rested
 returns-in_err-protests-clause-rested g c =
     let s0 = state g.S.Store c.args.conn.now in
-    let to_puzzles : RestedAny s0 (state g.S.Store c.all_puzzles.new.conn) = rests_twice s0 (state g.S.Store c.all_people.new.conn) (state g.S.Store c.all_puzzles.new.conn) c.in_ok-people.ensures.rested c.in_ok-puzzles.ensures.rested in
-    let to_heads : RestedAny s0 (state g.S.Store c.rounds.new.conn) = rests_twice s0 (state g.S.Store c.all_puzzles.new.conn) (state g.S.Store c.rounds.new.conn) to_puzzles c.in_ok-heads.ensures.rested in
-    let to_places : RestedAny s0 (state g.S.Store c.all_places.new.conn) = rests_twice s0 (state g.S.Store c.rounds.new.conn) (state g.S.Store c.all_places.new.conn) to_heads c.in_ok-places.ensures.rested in
-    let to_answers : RestedAny s0 (state g.S.Store c.all_answers.new.conn) = rests_twice s0 (state g.S.Store c.all_places.new.conn) (state g.S.Store c.all_answers.new.conn) to_places c.in_ok-answers.ensures.rested in
+    let to_puzzles : KeptAnyTables s0 (state g.S.Store c.all_puzzles.new.conn) = rests_twice s0 (state g.S.Store c.all_people.new.conn) (state g.S.Store c.all_puzzles.new.conn) c.in_ok-people.ensures.rested c.in_ok-puzzles.ensures.rested in
+    let to_heads : KeptAnyTables s0 (state g.S.Store c.rounds.new.conn) = rests_twice s0 (state g.S.Store c.all_puzzles.new.conn) (state g.S.Store c.rounds.new.conn) to_puzzles c.in_ok-heads.ensures.rested in
+    let to_places : KeptAnyTables s0 (state g.S.Store c.all_places.new.conn) = rests_twice s0 (state g.S.Store c.rounds.new.conn) (state g.S.Store c.all_places.new.conn) to_heads c.in_ok-places.ensures.rested in
+    let to_answers : KeptAnyTables s0 (state g.S.Store c.all_answers.new.conn) = rests_twice s0 (state g.S.Store c.all_places.new.conn) (state g.S.Store c.all_answers.new.conn) to_places c.in_ok-answers.ensures.rested in
     rests_twice s0 (state g.S.Store c.all_answers.new.conn) (state g.S.Store c.all_protests.new.conn) to_answers c.in_err-protests.ensures.rested
 
 pub returns-clause-rested : goal.returns-clause-rested
 returns-clause-rested g c =
     let s0 = state g.S.Store c.args.conn.now in
-    let to_puzzles : RestedAny s0 (state g.S.Store c.all_puzzles.new.conn) = rests_twice s0 (state g.S.Store c.all_people.new.conn) (state g.S.Store c.all_puzzles.new.conn) c.in_ok-people.ensures.rested c.in_ok-puzzles.ensures.rested in
-    let to_heads : RestedAny s0 (state g.S.Store c.rounds.new.conn) = rests_twice s0 (state g.S.Store c.all_puzzles.new.conn) (state g.S.Store c.rounds.new.conn) to_puzzles c.in_ok-heads.ensures.rested in
-    let to_places : RestedAny s0 (state g.S.Store c.all_places.new.conn) = rests_twice s0 (state g.S.Store c.rounds.new.conn) (state g.S.Store c.all_places.new.conn) to_heads c.in_ok-places.ensures.rested in
-    let to_answers : RestedAny s0 (state g.S.Store c.all_answers.new.conn) = rests_twice s0 (state g.S.Store c.all_places.new.conn) (state g.S.Store c.all_answers.new.conn) to_places c.in_ok-answers.ensures.rested in
-    let to_protests : RestedAny s0 (state g.S.Store c.all_protests.new.conn) = rests_twice s0 (state g.S.Store c.all_answers.new.conn) (state g.S.Store c.all_protests.new.conn) to_answers c.in_ok-protests.ensures.rested in
+    let to_puzzles : KeptAnyTables s0 (state g.S.Store c.all_puzzles.new.conn) = rests_twice s0 (state g.S.Store c.all_people.new.conn) (state g.S.Store c.all_puzzles.new.conn) c.in_ok-people.ensures.rested c.in_ok-puzzles.ensures.rested in
+    let to_heads : KeptAnyTables s0 (state g.S.Store c.rounds.new.conn) = rests_twice s0 (state g.S.Store c.all_puzzles.new.conn) (state g.S.Store c.rounds.new.conn) to_puzzles c.in_ok-heads.ensures.rested in
+    let to_places : KeptAnyTables s0 (state g.S.Store c.all_places.new.conn) = rests_twice s0 (state g.S.Store c.rounds.new.conn) (state g.S.Store c.all_places.new.conn) to_heads c.in_ok-places.ensures.rested in
+    let to_answers : KeptAnyTables s0 (state g.S.Store c.all_answers.new.conn) = rests_twice s0 (state g.S.Store c.all_places.new.conn) (state g.S.Store c.all_answers.new.conn) to_places c.in_ok-answers.ensures.rested in
+    let to_protests : KeptAnyTables s0 (state g.S.Store c.all_protests.new.conn) = rests_twice s0 (state g.S.Store c.all_answers.new.conn) (state g.S.Store c.all_protests.new.conn) to_answers c.in_ok-protests.ensures.rested in
     to_protests
 
 pub returns-clause-served : goal.returns-clause-served
@@ -102,11 +102,11 @@ returns-clause-served g c clean =
     let h3 : IsAnyHall s3 = rests_any s2 s3 h2 c.in_ok-heads.ensures.rested in
     let h4 : IsAnyHall s4 = rests_any s3 s4 h3 c.in_ok-places.ensures.rested in
     let h5 : IsAnyHall s5 = rests_any s4 s5 h4 c.in_ok-answers.ensures.rested in
-    let r5 : RestedAny s5 s6 = c.in_ok-protests.ensures.rested in
-    let r4 : RestedAny s4 s6 = rests_twice s4 s5 s6 c.in_ok-answers.ensures.rested r5 in
-    let r3 : RestedAny s3 s6 = rests_twice s3 s4 s6 c.in_ok-places.ensures.rested r4 in
-    let r2 : RestedAny s2 s6 = rests_twice s2 s3 s6 c.in_ok-heads.ensures.rested r3 in
-    let r1 : RestedAny s1 s6 = rests_twice s1 s2 s6 c.in_ok-puzzles.ensures.rested r2 in
+    let r5 : KeptAnyTables s5 s6 = c.in_ok-protests.ensures.rested in
+    let r4 : KeptAnyTables s4 s6 = rests_twice s4 s5 s6 c.in_ok-answers.ensures.rested r5 in
+    let r3 : KeptAnyTables s3 s6 = rests_twice s3 s4 s6 c.in_ok-places.ensures.rested r4 in
+    let r2 : KeptAnyTables s2 s6 = rests_twice s2 s3 s6 c.in_ok-heads.ensures.rested r3 in
+    let r1 : KeptAnyTables s1 s6 = rests_twice s1 s2 s6 c.in_ok-puzzles.ensures.rested r2 in
     let last = c.in_ok-protests.ensures.served clean in (
       last.0,
       rows_of s6.now.trees _
@@ -128,11 +128,11 @@ returns-clause-whole g c clean =
     let s5 = state g.S.Store c.all_answers.new.conn in
     let s6 = state g.S.Store c.all_protests.new.conn in
     let h0 : IsAnyHall s0 = c.requires.hall in
-    let r1 : RestedAny s0 s1 = c.in_ok-people.ensures.rested in
-    let r2 : RestedAny s0 s2 = rests_twice s0 s1 s2 r1 c.in_ok-puzzles.ensures.rested in
-    let r3 : RestedAny s0 s3 = rests_twice s0 s2 s3 r2 c.in_ok-heads.ensures.rested in
-    let r4 : RestedAny s0 s4 = rests_twice s0 s3 s4 r3 c.in_ok-places.ensures.rested in
-    let r5 : RestedAny s0 s5 = rests_twice s0 s4 s5 r4 c.in_ok-answers.ensures.rested in
+    let r1 : KeptAnyTables s0 s1 = c.in_ok-people.ensures.rested in
+    let r2 : KeptAnyTables s0 s2 = rests_twice s0 s1 s2 r1 c.in_ok-puzzles.ensures.rested in
+    let r3 : KeptAnyTables s0 s3 = rests_twice s0 s2 s3 r2 c.in_ok-heads.ensures.rested in
+    let r4 : KeptAnyTables s0 s4 = rests_twice s0 s3 s4 r3 c.in_ok-places.ensures.rested in
+    let r5 : KeptAnyTables s0 s5 = rests_twice s0 s4 s5 r4 c.in_ok-answers.ensures.rested in
     let c5 = rested_clean s5 s6 (rests_any s0 s5 h0 r5) c.in_ok-protests.ensures.rested clean in
     let c4 = rested_clean s4 s5 (rests_any s0 s4 h0 r4) c.in_ok-answers.ensures.rested c5 in
     let c3 = rested_clean s3 s4 (rests_any s0 s3 h0 r3) c.in_ok-places.ensures.rested c4 in

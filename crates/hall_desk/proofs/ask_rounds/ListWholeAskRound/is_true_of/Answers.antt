@@ -5,7 +5,7 @@ use Rattle.hall_policy.specs.Lists.{AreEntries}
 use Rattle.hall_policy.specs.World.{same_text}
 use Rattle.hall_policy.specs.declared.record.Entry.{Entry}
 use Rattle.hall_desk.specs.Sentences.{HasList, IsListTold}
-use Rattle.hall_desk.specs.Whole.{IsInOrder, world_of}
+use Rattle.hall_desk.specs.Whole.{IsInOrder, world_of_whole}
 use Rattle.hall_desk.proofs.RoundLists.{of, list_told, none_told}
 use Rattle.hall_desk.proofs.ask_rounds.ListWholeAskRound.is_true_of.Goals as goal
 
@@ -14,8 +14,8 @@ returns-in-Some c =
     let whole = c.args.self.now.whole.now in
     let id = c.args.row.now.id in
     let list = c.in-Some.list.items in
-    IfOk-weaker c.are_entries.result (λ told. IsTrue told ↔ AreEntries list) (λ told. IsInOrder whole → IsTrue told ↔ HasList (world_of whole) id)
-    (λ told is ordered. list_told (world_of whole) id list told
+    IfOk-weaker c.are_entries.result (λ told. IsTrue told ↔ AreEntries list) (λ told. IsInOrder whole → IsTrue told ↔ HasList (world_of_whole whole) id)
+    (λ told is ordered. list_told (world_of_whole whole) id list told
     (ap (filter (of id)) ordered.places ∙ subst (λ found. IsListTold whole.places.items id (option_map (λ l. l.items) found)) c.in-Some.is (subst (λ places. IsListTold places id (option_map (λ l. l.items) c.in_ok-list.field-0)) c.deref.ensures.value c.in_ok-list.ensures)) is)
     c.are_entries.ensures
 

@@ -1,12 +1,12 @@
 use Rattle.std.proofs.Common.{subst}
-use Rattle.hall_desk.specs.Plans.{Steps, StopsWithin, WritesIfAny}
+use Rattle.hall_desk.specs.Plans.{IsStepOver, StopsWithin, WritesIfAny}
 use Rattle.hall_desk.proofs.Promises.{unique_solutions, right_answers}
 use Rattle.hall_desk.proofs.desk.Desk.step.Goals as goal
 
 pub returns-clause-steps : goal.returns-clause-steps
 returns-clause-steps g c =
     subst (λ s. (g.S.ReadStore.content c.step.new.store).honest →
-    Steps (g.S.ReadStore.content s) c.args.t c.args.request.now c.step.result (g.S.ReadStore.content c.step.new.store))
+    IsStepOver (g.S.ReadStore.content s) c.args.t c.args.request.now c.step.result (g.S.ReadStore.content c.step.new.store))
     c.self.view_is c.step.ensures.steps
 
 pub returns-clause-quiet : goal.returns-clause-quiet

@@ -4,7 +4,7 @@ use Rattle.std.specs.List.Sorted.{IsStrictlySortedBy}
 use Rattle.std.specs.Map.{keys_of, values_of}
 use Rattle.hall_policy.specs.declared.record.AnswerRow.{AnswerRow}
 use Rattle.hall_store.specs.Keyed.{agree, first_slot, least_word, slot_cmp, slot_of}
-use Rattle.hall_store.specs.Maps.{content_of, world_of}
+use Rattle.hall_store.specs.Maps.{content_of_maps, world_of_maps}
 use Rattle.hall_store.specs.Store.{IsListing, is_in}
 use Rattle.hall_store.specs.declared.map_store.MapStore.{MapStore}
 use Rattle.hall_store.specs.declared.slot.AnswerSlot.{AnswerSlot}
@@ -18,8 +18,8 @@ abbrev rows_from : MapStore → AnswerSlot → List AnswerRow
 rows_from store first = filter (λ row. agree Round (slot_of row) first) (values_of store.answers.entries)
 
 listed_from : (store : MapStore) (round : List ℕ) (first : AnswerSlot) → first ≡ first_slot round least_word 1 → IsStrictlySortedBy slot_cmp (keys_of store.answers.entries) →
-    IsListing (world_of store) (is_in round) (rows_from store first)
-listed_from store round first is ordered = subst (λ (s : AnswerSlot). IsListing (world_of store) (is_in round) (rows_from store s)) (sym is) (listed_in store round ordered)
+    IsListing (world_of_maps store) (is_in round) (rows_from store first)
+listed_from store round first is ordered = subst (λ (s : AnswerSlot). IsListing (world_of_maps store) (is_in round) (rows_from store s)) (sym is) (listed_in store round ordered)
 
 pub feed_answers-requires-clause-first : goal.feed_answers-requires-clause-first
 feed_answers-requires-clause-first g c = (ap (λ (s : AnswerSlot). s.entrant) c.in_ok-first.ensures, ap (λ (s : AnswerSlot). s.number) c.in_ok-first.ensures, ap (λ (s : AnswerSlot). s.n) c.in_ok-first.ensures)
@@ -29,7 +29,7 @@ returns-in_err-feed_answers-clause-fed g c =
     let store = c.args.self.now in
     let round = c.args.round.now in
     let first = c.in_ok-first.first in
-    (fed_or_refused g.K.Sink.refuses (λ world rows. IsListing world (is_in round) rows) (content_of store) c.args.sink.now c.feed_answers.new.sink (rows_from store first)
+    (fed_or_refused g.K.Sink.refuses (λ world rows. IsListing world (is_in round) rows) (content_of_maps store) c.args.sink.now c.feed_answers.new.sink (rows_from store first)
     (listed_from store round first c.in_ok-first.ensures c.feed_answers.ensures.ordered) tt c.in_err-feed_answers.field-0.0 c.from_residual-in_err-feed_answers.result
     c.in_err-feed_answers.ensures.stopped c.from_residual-in_err-feed_answers.ensures.1).0
 
@@ -38,7 +38,7 @@ returns-in_err-feed_answers-clause-fault g c =
     let store = c.args.self.now in
     let round = c.args.round.now in
     let first = c.in_ok-first.first in
-    (fed_or_refused g.K.Sink.refuses (λ world rows. IsListing world (is_in round) rows) (content_of store) c.args.sink.now c.feed_answers.new.sink (rows_from store first)
+    (fed_or_refused g.K.Sink.refuses (λ world rows. IsListing world (is_in round) rows) (content_of_maps store) c.args.sink.now c.feed_answers.new.sink (rows_from store first)
     (listed_from store round first c.in_ok-first.ensures c.feed_answers.ensures.ordered) tt c.in_err-feed_answers.field-0.0 c.from_residual-in_err-feed_answers.result
     c.in_err-feed_answers.ensures.stopped c.from_residual-in_err-feed_answers.ensures.1).1
 
@@ -47,5 +47,5 @@ returns-clause-fed g c =
     let store = c.args.self.now in
     let round = c.args.round.now in
     let first = c.in_ok-first.first in
-    fed_whole g.K.Sink.refuses (λ world rows. IsListing world (is_in round) rows) (content_of store) c.args.sink.now c.feed_answers.new.sink (rows_from store first)
+    fed_whole g.K.Sink.refuses (λ world rows. IsListing world (is_in round) rows) (content_of_maps store) c.args.sink.now c.feed_answers.new.sink (rows_from store first)
     (listed_from store round first c.in_ok-first.ensures c.feed_answers.ensures.ordered) tt c.in_ok-feed_answers.ensures.fed

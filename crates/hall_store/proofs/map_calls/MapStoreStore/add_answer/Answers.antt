@@ -3,8 +3,8 @@ use Rattle.std.specs.FinMap.{from_entries, insert}
 use Rattle.std.specs.BTreeMap as tree
 use Rattle.hall_policy.specs.World.{answer_cmp}
 use Rattle.hall_policy.specs.declared.record.AnswerRow.{AnswerRow}
-use Rattle.hall_store.specs.Keyed.{AreKeysDistinct, IsAnswerKept, answer_in, slot_cmp}
-use Rattle.hall_store.specs.Maps.{world_of}
+use Rattle.hall_store.specs.Keyed.{AreKeysDistinct, IsAnswerKept, answer_entry, slot_cmp}
+use Rattle.hall_store.specs.Maps.{world_of_maps}
 use Rattle.hall_store.specs.declared.slot.AnswerSlot.{AnswerSlot}
 use Rattle.hall_store.proofs.AnswerWorlds.{answer_put, key_fresh, keys_stay_distinct, slot_free}
 use Rattle.hall_store.proofs.Firsts.{slot_total, same_slots}
@@ -24,14 +24,14 @@ returns-clause-makes c =
     let row = c.args.row in
     let own = c.in_ok-slot.ensures.own in
     let can = c.requires tt tt in
-    let made : from_entries {R = answer_cmp} (map answer_in c.put.new.map.entries) ≡ insert (from_entries (map answer_in old.answers.entries)) row.key row =
-    ap (λ (es : List (AnswerSlot × AnswerRow)). from_entries {R = answer_cmp} (map answer_in es)) c.in_ok-put.ensures.entries
+    let made : from_entries {R = answer_cmp} (map answer_entry c.put.new.map.entries) ≡ insert (from_entries (map answer_entry old.answers.entries)) row.key row =
+    ap (λ (es : List (AnswerSlot × AnswerRow)). from_entries {R = answer_cmp} (map answer_entry es)) c.in_ok-put.ensures.entries
     ∙ answer_put slot row old.answers.entries (slot_free old slot row own can) (key_fresh old slot row own can) in
     record {
       leads = record { honest = λ h. h; serves = λ h s. s; counts = omega arith; lasts = λ h s. inl s };
       once = omega arith;
       stops = λ s h left may. absurd may;
-      made = λ _. (tt, λ i. record (world_of old) { answers = made i });
+      made = λ _. (tt, λ i. record (world_of_maps old) { answers = made i });
     }
 
 pub invariant_of-self : goal.invariant_of-self

@@ -3,7 +3,7 @@ use Rattle.std.specs.FinMap.{from_entries, insert}
 use Rattle.hall_policy.specs.World.{puzzle_cmp}
 use Rattle.hall_policy.specs.declared.record.PuzzleKey.{PuzzleKey}
 use Rattle.hall_policy.proofs.Orders.{puzzle_total, same_puzzle_keys}
-use Rattle.hall_store.specs.Maps.{world_of}
+use Rattle.hall_store.specs.Maps.{world_of_maps}
 use Rattle.hall_store.specs.Keyed.{IsPuzzleKept}
 use Rattle.hall_store.proofs.Ranges.{each_after}
 use Rattle.hall_store.proofs.MapWorlds.{inserted}
@@ -19,7 +19,7 @@ returns-clause-makes c =
       leads = record { honest = λ h. h; serves = λ h s. s; counts = omega arith; lasts = λ h s. inl s };
       once = omega arith;
       stops = λ s h left may. absurd may;
-      made = λ _. (tt, λ i. record (world_of old) { puzzles = made i });
+      made = λ _. (tt, λ i. record (world_of_maps old) { puzzles = made i });
     }
 
 pub invariant_of-self : goal.invariant_of-self

@@ -1,7 +1,7 @@
 use Rattle.std.proofs.Common.{inl, arith}
 use Rattle.hall_policy.proofs.Orders.{text_total, same_texts}
 use Rattle.hall_store.specs.Keyed.{IsRoundIndexed}
-use Rattle.hall_store.specs.Maps.{world_of}
+use Rattle.hall_store.specs.Maps.{world_of_maps}
 use Rattle.hall_store.proofs.Adding.{indexed_stays}
 use Rattle.hall_store.proofs.Ranges.{each_after}
 use Rattle.hall_store.proofs.RoundWorlds.{heads_inserted, places_relisted, testers_retested}
@@ -21,7 +21,7 @@ returns-clause-makes c =
       leads = record { honest = λ h. h; serves = λ h s. s; counts = omega arith; lasts = λ h s. inl s };
       once = omega arith;
       stops = λ s h left may. absurd may;
-      made = λ _. (tt, λ i. record (world_of old) { rounds = heads i; places = places i; testers = testers i });
+      made = λ _. (tt, λ i. record (world_of_maps old) { rounds = heads i; places = places i; testers = testers i });
     }
 
 pub invariant_of-self-2 : goal.invariant_of-self-2

@@ -7,7 +7,7 @@ use Rattle.hall_policy.specs.World.{protest_cmp}
 use Rattle.hall_policy.specs.declared.record.ProtestRow.{ProtestRow}
 use Rattle.hall_policy.proofs.Orders.{protest_total, same_protest_keys}
 use Rattle.hall_store.specs.Change.{with_ruling}
-use Rattle.hall_store.specs.Maps.{world_of}
+use Rattle.hall_store.specs.Maps.{world_of_maps}
 use Rattle.hall_store.specs.Keyed.{IsProtestKept}
 use Rattle.hall_store.proofs.Ranges.{each_put}
 use Rattle.hall_store.proofs.MapWorlds.{get_found, inserted}
@@ -37,7 +37,7 @@ returns-clause-makes c =
       leads = record { honest = λ h. h; serves = λ h s. s; counts = omega arith; lasts = λ h s. inl s };
       once = omega arith;
       stops = λ s h left may. absurd may;
-      made = λ _. (tt, (λ i. record (world_of old) { protests = made i }) ∙ ap (with_ruling (world_of old) key c.args.ruling) (sym found));
+      made = λ _. (tt, (λ i. record (world_of_maps old) { protests = made i }) ∙ ap (with_ruling (world_of_maps old) key c.args.ruling) (sym found));
     }
 
 pub invariant_of-self : goal.invariant_of-self

@@ -10,7 +10,7 @@ use Rattle.hall_policy.specs.declared.record.Round.{Round}
 use Rattle.hall_policy.specs.declared.record.RoundRow.{RoundRow}
 use Rattle.hall_policy.proofs.Orders.{text_total, same_texts}
 use Rattle.hall_store.specs.Change.{with_flag, flagged}
-use Rattle.hall_store.specs.Maps.{world_of, head_of, places_in, testers_in}
+use Rattle.hall_store.specs.Maps.{world_of_maps, round_head, places_in, testers_in}
 use Rattle.hall_store.specs.Keyed.{IsRoundIndexed}
 use Rattle.hall_store.proofs.Ranges.{each_put}
 use Rattle.hall_store.proofs.MapWorlds.{get_found, head_found}
@@ -24,7 +24,7 @@ unreachable-requires c =
     let gone : lookup (is_at (text_cmp id)) es ≡ None = sym c.get_mut.ensures.value ∙ ap option_copied_mut c.in-None.is in
     let asked = c.requires tt tt in
     let no : None ≡ Some asked.0 =
-    ap (option_map (λ (r : RoundRow). r.round)) (sym gone) ∙ sym (head_found (is_at (text_cmp id)) es) ∙ sym (get_found text_total (map head_of es) id) ∙ asked.1 in
+    ap (option_map (λ (r : RoundRow). r.round)) (sym gone) ∙ sym (head_found (is_at (text_cmp id)) es) ∙ sym (get_found text_total (map round_head es) id) ∙ asked.1 in
     cc
 
 pub returns-clause-makes : goal.returns-clause-makes
@@ -39,16 +39,16 @@ returns-clause-makes c =
     let seen : lookup (is_at (text_cmp id)) es ≡ Some row = sym c.get_mut.ensures.value ∙ ap option_copied_mut c.in-Some.is in
     let updates = (holds.3 (search rules)).0 in
     let before = c.get_mut.ensures.ordered in
-    let kept : get (from_entries {R = text_cmp} (map head_of es)) id ≡ Some row.round = get_found text_total (map head_of es) id ∙ head_found (is_at (text_cmp id)) es ∙ ap (option_map (λ (r : RoundRow). r.round)) seen in
-    let heads : from_entries {R = text_cmp} (map head_of fs) ≡ insert (from_entries (map head_of es)) id (flagged c.args.flag row.round) =
-    heads_inserted es fs id new updates before holds.4 ∙ ap (λ (r : Round). insert (from_entries {R = text_cmp} (map head_of es)) id r) c.set_flag.ensures in
+    let kept : get (from_entries {R = text_cmp} (map round_head es)) id ≡ Some row.round = get_found text_total (map round_head es) id ∙ head_found (is_at (text_cmp id)) es ∙ ap (option_map (λ (r : RoundRow). r.round)) seen in
+    let heads : from_entries {R = text_cmp} (map round_head fs) ≡ insert (from_entries (map round_head es)) id (flagged c.args.flag row.round) =
+    heads_inserted es fs id new updates before holds.4 ∙ ap (λ (r : Round). insert (from_entries {R = text_cmp} (map round_head es)) id r) c.set_flag.ensures in
     let places : from_entries {R = place_cmp} (flat_map places_in fs) ≡ from_entries (flat_map places_in es) = places_same es fs id new updates before holds.4 row seen refl in
     let testers : from_entries {R = tester_cmp} (flat_map testers_in fs) ≡ from_entries (flat_map testers_in es) = testers_same es fs id new updates before holds.4 row seen refl in
     record {
       leads = record { honest = λ h. h; serves = λ h s. s; counts = omega arith; lasts = λ h s. inl s };
       once = omega arith;
       stops = λ s h left may. absurd may;
-      made = λ _. (tt, (λ i. record (world_of old) { rounds = heads i; places = places i; testers = testers i }) ∙ ap (with_flag (world_of old) id c.args.flag) (sym kept));
+      made = λ _. (tt, (λ i. record (world_of_maps old) { rounds = heads i; places = places i; testers = testers i }) ∙ ap (with_flag (world_of_maps old) id c.args.flag) (sym kept));
     }
 
 pub invariant_of-self : goal.invariant_of-self

@@ -3,7 +3,7 @@ use Rattle.std.proofs.lemmas.Result.{IfOk-weaker, on_err_weaker}
 use Rattle.hall_solve.specs.Question.{Narrows, IsHopeless}
 use Rattle.hall_grid.specs.declared.board.Size.{Size}
 use Rattle.hall_sudoku.specs.Units.{units_question}
-use Rattle.hall_sudoku.specs.Settled.{IsSettled}
+use Rattle.hall_sudoku.specs.Settled.{IsBoardSettled}
 use Rattle.hall_sudoku.proofs.UnitsQuestion.{narrows_of, hopeless_of}
 use Rattle.hall_sudoku.proofs.rules.SudokuRulesRules.propagate.Goals as goal
 
@@ -35,5 +35,5 @@ pub returns-clause-settled : goal.returns-clause-settled
 returns-clause-settled c =
     rw (← c.self.view_is)
     (IfOk-weaker c.settle-step.result _ _ (λ step h is_live.
-    subst (λ (n : Size). IsSettled n c.settle-step.new.partial.places) c.self.invariant.1 (h is_live))
+    subst (λ (n : Size). IsBoardSettled n c.settle-step.new.partial.places) c.self.invariant.1 (h is_live))
     c.settle-step.ensures.settled)
