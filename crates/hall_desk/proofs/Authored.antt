@@ -6,7 +6,7 @@ use Rattle.hall_grid.specs.Board.{Board}
 use Rattle.hall_policy.specs.World.{World, place_of, entry_at, IsTesterOf, end_of, close_of, place_cmp, tester_cmp, puzzle_cmp, answer_cmp, protest_cmp}
 use Rattle.hall_policy.specs.Text.{text_cmp}
 use Rattle.hall_policy.specs.Actions.{rules_asked, may, puzzle_named}
-use Rattle.hall_policy.specs.First.{NoneBelow}
+use Rattle.hall_policy.specs.First.{NoneDecides}
 use Rattle.hall_policy.specs.declared.rule.Decision.TheVariants.{Allow, Repeat, Deny}
 use Rattle.hall_policy.specs.declared.rule.Rule.TheVariants as rule
 use Rattle.hall_policy.specs.declared.record.AnswerKey.{AnswerKey}
@@ -102,7 +102,7 @@ asked_first world later t request given told rest life person asked same also is
 }
 
 -- ---- who asks
-module _ (world : World) (caller : Option Person) (asked : Action) (t : ℕ) (none : NoneBelow 21 world caller asked t) where
+module _ (world : World) (caller : Option Person) (asked : Action) (t : ℕ) (none : NoneDecides world caller asked t) where
   -- a caller with a role that allows the action
   pub allowed_person : (person : Person) → Contains (rules_asked asked) rule.NoRole → caller ≡ Some person → may person.roles asked ≡ true
   allowed_person person role is = true_unless (may person.roles asked) (λ lacks. (none rule.NoRole (lit< tt)).0 (role, (person, is, lacks)))
@@ -133,7 +133,7 @@ answer_came later key row world next (requested t request given) rest life (none
       let own : AnswerKey = record { entrant = h.person.name; round = h.id; number = h.number; token = h.token } in
       let stored : AnswerRow = answer_row world h.person h.id h.number h.token h.answer t h.verdict in
       let asked : Action = action.Submit h.id h.number h.token h.answer in
-      let none_for : NoneBelow 21 world (caller_of world request.key) asked t = subst (λ (a : Action). NoneBelow 21 world (caller_of world request.key) a t) h.asks none in
+      let none_for : NoneDecides world (caller_of world request.key) asked t = subst (λ (a : Action). NoneDecides world (caller_of world request.key) a t) h.asks none in
       elim (found_after answer_total same_answer_keys world.answers own stored key row (ap (λ (m : FinMap answer_cmp AnswerRow). get m key) (sym h.made) ∙ at)) [
         | inl both ↦
             let mine : IsHandedIn world later (requested t request given ∷ rest) own stored = (
@@ -168,7 +168,7 @@ pub same_times : (round after : Round) → after ≡ record round { published = 
 same_times round after same = (sym (ap (λ (r : Round). r.start) same), sym (ap end_of same), sym (ap close_of same))
 
 -- where a protest is taken, the round is released, over and not closed, and it stays so
-takes : (world later : World) (caller : Option Person) (id token : List ℕ) (number : ℕ) (text : List ℕ) (t : ℕ) → NoneBelow 21 world caller (action.Protest id token number text) t →
+takes : (world later : World) (caller : Option Person) (id token : List ℕ) (number : ℕ) (text : List ℕ) (t : ℕ) → NoneDecides world caller (action.Protest id token number text) t →
     KeptRecords world later → TakesProtests later id t
 takes world later caller id token number text t none remains =
     let (round, kept, released) = released_found world caller (action.Protest id token number text) id refl (λ missing. (none rule.Missing (lit< tt)).0 ((2, lit< tt, refl), inl missing)) in
@@ -188,7 +188,7 @@ protest_came later key row world next (requested t request given) rest life (non
       let own : ProtestKey = record { entrant = h.person.name; round = h.id; token = h.token } in
       let stored : ProtestRow = open_protest h.person h.id h.token h.number h.text in
       let asked : Action = action.Protest h.id h.token h.number h.text in
-      let none_for : NoneBelow 21 world (caller_of world request.key) asked t = subst (λ (a : Action). NoneBelow 21 world (caller_of world request.key) a t) h.asks none in
+      let none_for : NoneDecides world (caller_of world request.key) asked t = subst (λ (a : Action). NoneDecides world (caller_of world request.key) a t) h.asks none in
       elim (found_after protest_total same_protest_keys world.protests own stored key before (ap (λ (m : FinMap protest_cmp ProtestRow). get m key) (sym h.made) ∙ at)) [
         | inl both ↦
             let of_stored : row ≡ record stored { ruling = row.ruling } = like ∙ ap (λ (r : ProtestRow). let ruled : ProtestRow = record r { ruling = row.ruling } in ruled) both.1 in
@@ -234,7 +234,7 @@ ruling_came later key ruling world next (requested t request given) rest life (n
   | inr (inr h) ↦
       let own : ProtestKey = record { entrant = h.entrant; round = h.id; token = h.token } in
       let asked : Action = action.RuleProtest h.id h.entrant h.token h.ruling in
-      let none_for : NoneBelow 21 world (caller_of world request.key) asked t = subst (λ (a : Action). NoneBelow 21 world (caller_of world request.key) a t) h.asks none in
+      let none_for : NoneDecides world (caller_of world request.key) asked t = subst (λ (a : Action). NoneDecides world (caller_of world request.key) a t) h.asks none in
       elim (found_after protest_total same_protest_keys world.protests own (record h.row { ruling = Some h.ruling }) key before (ap (λ (m : FinMap protest_cmp ProtestRow). get m key) (sym h.made) ∙ at)) [
         | inl both ↦
             let given_so : Some h.ruling ≡ Some ruling = sym (ap (λ (r : ProtestRow). r.ruling) both.1) ∙ ruled in
@@ -267,7 +267,7 @@ puzzle_came later key puzzle world next (requested t request given) rest life (n
   | inl same ↦ inl (before, ap (λ (m : FinMap puzzle_cmp PuzzleRow). get m key) (sym same) ∙ at, own)
   | inr (inl h) ↦
       let asked : Action = action.PutPuzzle h.key h.puzzle in
-      let none_for : NoneBelow 21 world (caller_of world request.key) asked t = subst (λ (a : Action). NoneBelow 21 world (caller_of world request.key) a t) h.asks none in
+      let none_for : NoneDecides world (caller_of world request.key) asked t = subst (λ (a : Action). NoneDecides world (caller_of world request.key) a t) h.asks none in
       elim (found_after puzzle_total same_puzzle_keys world.puzzles h.key (new_row h.key h.puzzle) key before (ap (λ (m : FinMap puzzle_cmp PuzzleRow). get m key) (sym h.made) ∙ at)) [
         | inl both ↦
             let one : h.puzzle ≡ puzzle = sym (ap (λ (r : PuzzleRow). r.puzzle) both.1) ∙ own in
@@ -342,7 +342,7 @@ state_changed later key puzzle found searched world next (requested t request gi
       ]
   | inr (inr h) ↦
       let asked : Action = action.Certify h.key h.budget in
-      let none_for : NoneBelow 21 world (caller_of world request.key) asked t = subst (λ (a : Action). NoneBelow 21 world (caller_of world request.key) a t) h.asks none in
+      let none_for : NoneDecides world (caller_of world request.key) asked t = subst (λ (a : Action). NoneDecides world (caller_of world request.key) a t) h.asks none in
       elim (found_after puzzle_total same_puzzle_keys world.puzzles h.key (record h.row { state = h.found }) key before (ap (λ (m : FinMap puzzle_cmp PuzzleRow). get m key) (sym h.made) ∙ at)) [
         | inl both ↦
             let one : h.found ≡ found = sym (ap (λ (r : PuzzleRow). r.state) both.1) ∙ is in
@@ -417,7 +417,7 @@ round_came later id round there world next (requested t request given) rest life
       (λ name. ap (λ (m : FinMap tester_cmp (Unit {0})). get m (record { round = id; name = name })) same.testers))
   | inr (inl d) ↦
       let asked : Action = action.PutRound d.id d.sheet in
-      let none_for : NoneBelow 21 world (caller_of world request.key) asked t = subst (λ (a : Action). NoneBelow 21 world (caller_of world request.key) a t) d.asks none in
+      let none_for : NoneDecides world (caller_of world request.key) asked t = subst (λ (a : Action). NoneDecides world (caller_of world request.key) a t) d.asks none in
       elim (found_after text_total same_texts world.rounds d.id (draft_of d.id d.sheet) id h.before (ap (λ (m : FinMap text_cmp Round). get m id) (sym d.made) ∙ h.kept)) [
         | inl both ↦
             let (person, is, allowed) = known_person world (caller_of world request.key) asked t none_for (0, lit< tt, refl) (1, lit< tt, refl) in
@@ -492,10 +492,10 @@ flag_found flag world next caller asked t given id round fresh touches at is = e
 ]
 
 -- a director asked for it
-flagged_first : (world later : World) (t : ℕ) (request : Request) (given told : Reply) (rest : List Event) → History world (requested t request given ∷ rest) later → (asked : Action) → NoneBelow 21 world (caller_of world request.key) request.action t →
+flagged_first : (world later : World) (t : ℕ) (request : Request) (given told : Reply) (rest : List Event) → History world (requested t request given ∷ rest) later → (asked : Action) → NoneDecides world (caller_of world request.key) request.action t →
     Contains (rules_asked asked) rule.UnknownKey → Contains (rules_asked asked) rule.NoRole → request.action ≡ asked → given ≡ told → IsFlagged world later (requested t request given ∷ rest) asked told
 flagged_first world later t request given told rest life asked none key role same also =
-    let none_for : NoneBelow 21 world (caller_of world request.key) asked t = subst (λ (a : Action). NoneBelow 21 world (caller_of world request.key) a t) same none in
+    let none_for : NoneDecides world (caller_of world request.key) asked t = subst (λ (a : Action). NoneDecides world (caller_of world request.key) a t) same none in
     let (person, is, allowed) = known_person world (caller_of world request.key) asked t none_for key role in
     (person, t, asked_first world later t request given told rest life person asked same also is allowed)
 
@@ -543,7 +543,7 @@ person_came later name person world next (requested t request given) rest life (
   | inl same ↦ inl (ap (λ (m : FinMap text_cmp Person). get m name) (sym same) ∙ at)
   | inr h ↦
       let asked : Action = action.Import h.people in
-      let none_for : NoneBelow 21 world (caller_of world request.key) asked t = subst (λ (a : Action). NoneBelow 21 world (caller_of world request.key) a t) h.asks none in
+      let none_for : NoneDecides world (caller_of world request.key) asked t = subst (λ (a : Action). NoneDecides world (caller_of world request.key) a t) h.asks none in
       elim (with_people-found world.people h.people name person (ap (λ (m : FinMap text_cmp Person). get m name) (sym h.made) ∙ at)) [
         | inl before ↦ inl before
         | inr (unknown, among, own) ↦

@@ -6,7 +6,7 @@ use Rattle.hall_policy.specs.Text.{text_cmp}
 use Rattle.hall_policy.specs.World.{World, IsTesterOf, entry_at, same_text, place_cmp, tester_cmp}
 use Rattle.hall_policy.specs.Ranges.{IsRoundId, IsName, IsSheet, IsRound, IsEntry, IsRoundRow, IsAction, AreRowsInRange, HasWholeList, IsWorld}
 use Rattle.hall_policy.specs.Rules.{StandsReleased, may_test}
-use Rattle.hall_policy.specs.First.{NoneBelow}
+use Rattle.hall_policy.specs.First.{NoneDecides}
 use Rattle.hall_policy.specs.declared.rule.Rule.TheVariants as rule
 use Rattle.hall_policy.specs.declared.record.Person.{Person}
 use Rattle.hall_policy.specs.declared.record.PuzzleKey.{PuzzleKey}
@@ -257,7 +257,7 @@ retested_other testers id names key other =
     ∙ ap (λ b. if b then if_named names key.name else get testers key) (not_true (same_text key.round id) (λ same. other ((text_decides key.round id).0 same)))
 
 -- a PutRound asks that no released round stands under the id
-pub puts_no_released : (world : World) (caller : Option Person) (id : List ℕ) (sheet : Sheet) (t : ℕ) → NoneBelow 21 world caller (action.PutRound id sheet) t → ¬ (IsReleasedRound world id)
+pub puts_no_released : (world : World) (caller : Option Person) (id : List ℕ) (sheet : Sheet) (t : ℕ) → NoneDecides world caller (action.PutRound id sheet) t → ¬ (IsReleasedRound world id)
 puts_no_released world caller id sheet t none (round, kept, released) = (none rule.NoDraft (lit< tt)).0 ((3, lit< tt, refl), (id, round, refl, kept, released))
 
 -- the draft of a sheet with its list and its testers
@@ -285,7 +285,7 @@ tester_there None able none = able refl
 tester_there (Some person) able none = let no : Some person ≡ None = none in cc
 
 -- a PutRound asks that each puzzle of the sheet is kept, and each tester there
-can_put_draft : (world : World) (caller : Option Person) (id : List ℕ) (sheet : Sheet) (t : ℕ) → NoneBelow 21 world caller (action.PutRound id sheet) t → CanPutRound world (draft_row id sheet)
+can_put_draft : (world : World) (caller : Option Person) (id : List ℕ) (sheet : Sheet) (t : ℕ) → NoneDecides world caller (action.PutRound id sheet) t → CanPutRound world (draft_row id sheet)
 can_put_draft world caller id sheet t none = record {
   puzzles = λ entry among gone. (none rule.Missing (lit< tt)).0 ((2, lit< tt, refl), inl (entry, among, gone));
   testers = λ name among. tester_there (get world.people name) (λ able. (none rule.Missing (lit< tt)).0 ((2, lit< tt, refl), inr (name, among, able)));
@@ -294,7 +294,7 @@ can_put_draft world caller id sheet t none = record {
 -- a PutRound keeps the world sane: its rules deny a sheet with a puzzle that isn't kept or a tester who isn't there,
 -- and a released round's id
 pub put_round_step : (world : World) (caller : Option Person) (id : List ℕ) (sheet : Sheet) (t : ℕ) (found : PuzzleState) (given : Reply) (new : World) → Sane world →
-    IsAction (action.PutRound id sheet) → NoneBelow 21 world caller (action.PutRound id sheet) t → Allowed world caller (action.PutRound id sheet) t found given new → Sane new
+    IsAction (action.PutRound id sheet) → NoneDecides world caller (action.PutRound id sheet) t → Allowed world caller (action.PutRound id sheet) t found given new → Sane new
 put_round_step world caller id sheet t found given new sane is none (told, made) =
     subst Sane (sym made)
     (draft_sane world id (draft_row id sheet) (relisted world.places id sheet.puzzles) (retested world.testers id sheet.testers) sane

@@ -8,7 +8,7 @@ use Rattle.hall_score.specs.Total.{total_of}
 use Rattle.hall_policy.specs.World.{World, IsRoundAt, end_of, same_text, answer_cmp, protest_cmp}
 use Rattle.hall_policy.specs.Rules.{is_director}
 use Rattle.hall_policy.specs.Actions.{rules_asked}
-use Rattle.hall_policy.specs.First.{Forbids, NoneBelow}
+use Rattle.hall_policy.specs.First.{Forbids, NoneDecides}
 use Rattle.hall_policy.specs.declared.rule.Rule.{Rule}
 use Rattle.hall_policy.specs.declared.rule.Rule.TheVariants as rule
 use Rattle.hall_policy.specs.declared.rule.Decision.TheVariants.{Allow, Repeat, Deny}
@@ -76,7 +76,7 @@ no_answer_now world (requested t request given) next id key row (none, touches) 
   | inl same ↦ ap (λ (m : FinMap answer_cmp AnswerRow). get m key) (sym same) ∙ at
   | inr h ↦
       let asked : Action = action.Submit h.id h.number h.token h.answer in
-      let none_for : NoneBelow 21 world (caller_of world request.key) asked t = subst (λ (a : Action). NoneBelow 21 world (caller_of world request.key) a t) h.asks none in
+      let none_for : NoneDecides world (caller_of world request.key) asked t = subst (λ (a : Action). NoneDecides world (caller_of world request.key) a t) h.asks none in
       elim (found_after answer_total same_answer_keys world.answers (record { entrant = h.person.name; round = h.id; number = h.number; token = h.token })
       (answer_row world h.person h.id h.number h.token h.answer t h.verdict) key row (ap (λ (m : FinMap answer_cmp AnswerRow). get m key) (sym h.made) ∙ at)) [
         | inl both ↦
@@ -99,7 +99,7 @@ no_protest_now world (requested t request given) next id key (none, touches) shu
   | inl same ↦ (row, ap (λ (m : FinMap protest_cmp ProtestRow). get m key) (sym same) ∙ at)
   | inr (inl h) ↦
       let asked : Action = action.Protest h.id h.token h.number h.text in
-      let none_for : NoneBelow 21 world (caller_of world request.key) asked t = subst (λ (a : Action). NoneBelow 21 world (caller_of world request.key) a t) h.asks none in
+      let none_for : NoneDecides world (caller_of world request.key) asked t = subst (λ (a : Action). NoneDecides world (caller_of world request.key) a t) h.asks none in
       elim (found_after protest_total same_protest_keys world.protests (record { entrant = h.person.name; round = h.id; token = h.token })
       (open_protest h.person h.id h.token h.number h.text) key row (ap (λ (m : FinMap protest_cmp ProtestRow). get m key) (sym h.made) ∙ at)) [
         | inl both ↦
@@ -315,7 +315,7 @@ caller_there world (Some key) person is = let under = find-value text_total (λ 
 
 -- an answer that is taken comes in its round's time
 submitted_in_time : (world : World) (key : Option (List ℕ)) (person : Person) (id : List ℕ) (number : ℕ) (token answer : List ℕ) (t : ℕ) (round : Round) → Sane world →
-    caller_of world key ≡ Some person → get world.rounds id ≡ Some round → NoneBelow 21 world (caller_of world key) (action.Submit id number token answer) t → IsInTime world id t
+    caller_of world key ≡ Some person → get world.rounds id ≡ Some round → NoneDecides world (caller_of world key) (action.Submit id number token answer) t → IsInTime world id t
 submitted_in_time world key person id number token answer t round sane is kept none =
     let entrant : person.roles.entrant ≡ true = allowed_person world (caller_of world key) (action.Submit id number token answer) t none person (1, lit< tt, refl) is in
     let there = caller_there world key person is in
@@ -338,7 +338,7 @@ in_time_now world (requested t request given) next sane remains (none, touches) 
   | inr h ↦
       let asked : Action = action.Submit h.id h.number h.token h.answer in
       let stored : AnswerRow = answer_row world h.person h.id h.number h.token h.answer t h.verdict in
-      let none_for : NoneBelow 21 world (caller_of world request.key) asked t = subst (λ (a : Action). NoneBelow 21 world (caller_of world request.key) a t) h.asks none in
+      let none_for : NoneDecides world (caller_of world request.key) asked t = subst (λ (a : Action). NoneDecides world (caller_of world request.key) a t) h.asks none in
       elim (found_after answer_total same_answer_keys world.answers (record { entrant = h.person.name; round = h.id; number = h.number; token = h.token })
       stored key row (ap (λ (m : FinMap answer_cmp AnswerRow). get m key) (sym h.made) ∙ at)) [
         | inl both ↦

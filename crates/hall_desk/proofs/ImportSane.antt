@@ -8,7 +8,7 @@ use Rattle.hall_policy.specs.World.{World}
 use Rattle.hall_policy.specs.Lists.{ArePeopleDifferent}
 use Rattle.hall_policy.specs.Ranges.{IsPerson, IsAction, AreRowsInRange, IsWorld}
 use Rattle.hall_policy.specs.Rules.{Conflicts}
-use Rattle.hall_policy.specs.First.{NoneBelow}
+use Rattle.hall_policy.specs.First.{NoneDecides}
 use Rattle.hall_policy.specs.declared.rule.Rule.TheVariants as rule
 use Rattle.hall_policy.specs.declared.record.Person.{Person}
 use Rattle.hall_policy.specs.declared.record.PuzzleState.{PuzzleState}
@@ -167,7 +167,7 @@ people_sane world (person ∷ rest) sane different each fits =
 
 -- an Import keeps the world sane: its rule denies a list that conflicts with somebody
 pub import_step : (world : World) (caller : Option Person) (people : List Person) (t : ℕ) (found : PuzzleState) (given : Reply) (new : World) → Sane world →
-    IsAction (action.Import people) → NoneBelow 21 world caller (action.Import people) t → Allowed world caller (action.Import people) t found given new → Sane new
+    IsAction (action.Import people) → NoneDecides world caller (action.Import people) t → Allowed world caller (action.Import people) t found given new → Sane new
 import_step world caller people t found given new sane is none (told, made) =
     subst Sane (sym made)
     (people_sane world people sane is.0.different is.1

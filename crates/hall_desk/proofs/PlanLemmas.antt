@@ -5,7 +5,7 @@ use Rattle.hall_grid.specs.Board.{Board}
 use Rattle.hall_grid.specs.Canonical.{CanonicalText}
 use Rattle.hall_policy.specs.World.{World, IsRoundAt, same_text}
 use Rattle.hall_policy.specs.First.{First}
-use Rattle.hall_policy.specs.Facts.{TrueUpTo, IsRoundFound}
+use Rattle.hall_policy.specs.Facts.{AreTrue, IsRoundFound}
 use Rattle.hall_policy.specs.Decided.{IsDecided}
 use Rattle.hall_policy.specs.declared.rule.Decision.{Decision}
 use Rattle.hall_policy.specs.declared.rule.Decision.TheVariants.{Allow}
@@ -65,12 +65,12 @@ planned facts world t request decision given change visits caller is outcome dec
 
 -- the plan of a puzzle that is new, or differs from the one that stands
 pub put_new : (world : World) (facts : Facts) (t : ℕ) (key copied_key : PuzzleKey) (puzzle copied : Board) (text : List ℕ) →
-    copied_key ≡ key → copied ≡ puzzle → CanonicalText text puzzle → TrueUpTo 20 facts world (action.PutPuzzle key puzzle) → IsTrue facts.author_is_there →
+    copied_key ≡ key → copied ≡ puzzle → CanonicalText text puzzle → AreTrue facts world (action.PutPuzzle key puzzle) → IsTrue facts.author_is_there →
     ((row : PuzzleRow) → facts.puzzle ≡ Some row → row.puzzle ≢ puzzle) →
     IsAllowedPlan world facts.caller (action.PutPuzzle key puzzle) t (record { reply = reply.PutPuzzle name.New text; change = change.PutPuzzle (record { key = copied_key; puzzle = copied; state = state.New }); visits = None })
 put_new world facts t key copied_key puzzle copied text same_key same_puzzle canonical told there differ =
-    subst (λ (k : PuzzleKey). TrueUpTo 20 facts world (action.PutPuzzle key puzzle) → IsAllowedPlan world facts.caller (action.PutPuzzle key puzzle) t (record { reply = reply.PutPuzzle name.New text; change = change.PutPuzzle (record { key = k; puzzle = copied; state = state.New }); visits = None })) (sym same_key)
-    (subst (λ (p : Board). TrueUpTo 20 facts world (action.PutPuzzle key puzzle) → IsAllowedPlan world facts.caller (action.PutPuzzle key puzzle) t (record { reply = reply.PutPuzzle name.New text; change = change.PutPuzzle (record { key = key; puzzle = p; state = state.New }); visits = None })) (sym same_puzzle)
+    subst (λ (k : PuzzleKey). AreTrue facts world (action.PutPuzzle key puzzle) → IsAllowedPlan world facts.caller (action.PutPuzzle key puzzle) t (record { reply = reply.PutPuzzle name.New text; change = change.PutPuzzle (record { key = k; puzzle = copied; state = state.New }); visits = None })) (sym same_key)
+    (subst (λ (p : Board). AreTrue facts world (action.PutPuzzle key puzzle) → IsAllowedPlan world facts.caller (action.PutPuzzle key puzzle) t (record { reply = reply.PutPuzzle name.New text; change = change.PutPuzzle (record { key = key; puzzle = p; state = state.New }); visits = None })) (sym same_puzzle)
     (λ all. record {
       allowed = λ found. (text, canonical, inr ((λ row kept. differ row (all.1.1.1.1.1.0.0 ∙ kept)), refl, refl));
       can = let author = all.1.1.1.0.0 there in (author.0, author.1);
@@ -86,10 +86,10 @@ made_anyhow world caller asked t plan made = record { found = state.New; allowed
 module _ {E : Type 0} (facts : Facts) (asked named : Action) (t : ℕ) (is : asked ≡ named) where
   -- made from the facts alone
   pub made_from_facts : (store : Content) (r : Result Plan E) (M : Plan → Type 0) →
-      ((plan : Plan) → M plan → (w : World) → TrueUpTo 20 facts w named → IsMadePlan w facts.caller named t plan) →
-      Asks store (λ w. TrueUpTo 20 facts w asked) → IfOk r M → Told store store r (λ w plan. IsMadePlan w facts.caller asked t plan)
+      ((plan : Plan) → M plan → (w : World) → AreTrue facts w named → IsMadePlan w facts.caller named t plan) →
+      Asks store (λ w. AreTrue facts w asked) → IfOk r M → Told store store r (λ w plan. IsMadePlan w facts.caller asked t plan)
   made_from_facts store r M turn told made =
-      subst (λ (a : Action). Asks store (λ w. TrueUpTo 20 facts w a) → Told store store r (λ w plan. IsMadePlan w facts.caller a t plan)) (sym is)
+      subst (λ (a : Action). Asks store (λ w. AreTrue facts w a) → Told store store r (λ w plan. IsMadePlan w facts.caller a t plan)) (sym is)
       (λ all. pure_told r M (λ w plan. IsMadePlan w facts.caller named t plan) store store (λ h s. s) (λ plan h s x. turn plan x store.world (all h s)) made) told
 
   -- made with what the store was asked
@@ -125,7 +125,7 @@ flags_same world caller asked t says set id shown kept same_shown same_kept plan
 
 -- the plan of a round that is released
 pub released : (world : World) (facts : Facts) (t : ℕ) (id shown kept : List ℕ) (row : RoundRow) →
-    shown ≡ id → kept ≡ id → TrueUpTo 20 facts world (action.Release id) → facts.round ≡ Some row →
+    shown ≡ id → kept ≡ id → AreTrue facts world (action.Release id) → facts.round ≡ Some row →
     IsAllowedPlan world facts.caller (action.Release id) t (record { reply = reply.Release shown; change = change.SetRoundFlag kept flag.Released; visits = None })
 released world facts t id shown kept row same_shown same_kept told seen =
     let at : IsRoundAt world id row = subst (λ (o : Option RoundRow). IsRoundFound world (Some id) o) seen told.1.1.0 in
@@ -138,7 +138,7 @@ released world facts t id shown kept row same_shown same_kept told seen =
 
 -- the plan of a round that is published
 pub published : (world : World) (facts : Facts) (t : ℕ) (id shown kept : List ℕ) (row : RoundRow) →
-    shown ≡ id → kept ≡ id → TrueUpTo 20 facts world (action.Publish id) → facts.round ≡ Some row →
+    shown ≡ id → kept ≡ id → AreTrue facts world (action.Publish id) → facts.round ≡ Some row →
     IsAllowedPlan world facts.caller (action.Publish id) t (record { reply = reply.Publish shown; change = change.SetRoundFlag kept flag.Published; visits = None })
 published world facts t id shown kept row same_shown same_kept told seen =
     let at : IsRoundAt world id row = subst (λ (o : Option RoundRow). IsRoundFound world (Some id) o) seen told.1.1.0 in
@@ -160,7 +160,7 @@ filter_alike {X} p q same (x ∷ xs) = λ i. cond (same x i) (x ∷ filter_alike
 
 -- the plan of a listing of answers
 pub listing_plan : (world : World) (facts : Facts) (id : List ℕ) (t : ℕ) (person : Person) (row : RoundRow) (all shows : Bool) (lines : List AnswerLine) (plan : Plan) →
-    TrueUpTo 20 facts world (action.Answers id) → facts.caller ≡ Some person → facts.round ≡ Some row →
+    AreTrue facts world (action.Answers id) → facts.caller ≡ Some person → facts.round ≡ Some row →
     all ≡ sees_all person row.round t → shows ≡ shows_verdict person row.round t →
     AreLinesOf world (λ answer. same_text answer.key.round id && (all || same_text answer.key.entrant person.name)) shows lines →
     plan ≡ record { reply = reply.Answers lines; change = Nothing; visits = None } → IsMadePlan world facts.caller (action.Answers id) t plan

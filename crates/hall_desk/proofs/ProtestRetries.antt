@@ -1,9 +1,9 @@
 -- An accepted protest stays accepted, whatever comes between.
-use Rattle.std.proofs.Common.{◌≡◌, ◌≢◌, ◌⊎◌, ◌≤◌, inl, inr, ℕ, true, false, List, Option, Some, None, refl, sym, ap, ◌∙◌, subst, arith, lit<}
+use Rattle.std.proofs.Common.{◌≡◌, ◌≢◌, ◌⊎◌, ◌≤◌, inl, inr, ℕ, true, false, List, Option, Some, None, refl, sym, ap, ◌∙◌, subst, arith, lit<, suc}
 use Rattle.std.proofs.Math.Bool.{and-false}
 use Rattle.std.specs.FinMap.{get}
 use Rattle.hall_policy.specs.World.{World, place_of, protest_of, IsTesterOf}
-use Rattle.hall_policy.specs.Actions.{number_of}
+use Rattle.hall_policy.specs.Actions.{number_of, last_rule}
 use Rattle.hall_policy.specs.First.{First, NoneBelow, Forbids, Repeated}
 use Rattle.hall_policy.specs.declared.rule.Rule.{Rule}
 use Rattle.hall_policy.specs.declared.rule.Rule.TheVariants as rule
@@ -189,7 +189,7 @@ module _ (world later : World) (remains : KeptRecords world later) (caller : Opt
     retried state given new Repeat (r, repeated, before) ((other, also, (found, at, says)), left) =
         let same = repeated_protest later caller u person id token again_number again_text row is stands r repeated in
         (left, inr (inr (inr (says, (sym same_number ∙ same.0, sym same_text ∙ same.1)))))
-    retried state given new Allow before decided = absurd (token_decides later caller u person id token again_number again_text row is stands 21 before (lit< tt))
+    retried state given new Allow before decided = absurd (token_decides later caller u person id token again_number again_text row is stands (suc last_rule) before (lit< tt))
 
 -- a retry of an accepted protest changes nothing, and is answered as one
 protests_stay : (world kept later : World) (t : ℕ) (key : Option (List ℕ)) (id token : List ℕ) (number : ℕ) (text : List ℕ) →

@@ -3,10 +3,11 @@ use Rattle.std.proofs.Common.{◌≡◌, ◌≢◌, ◌+◌, ◌&&◌, ◌<◌, 
 use Rattle.std.specs.List.{count_by}
 use Rattle.std.specs.FinMap.{FinMap, get, insert, values}
 use Rattle.std.proofs.Math.Nat.{lt_of_not-le}
+use Rattle.hall_policy.specs.Limits.{most_protests}
 use Rattle.hall_policy.specs.World.{World, place_of, same_text, protest_cmp}
 use Rattle.hall_policy.specs.Ranges.{IsProtestRow, IsAction, AreRowsInRange, IsWorld}
 use Rattle.hall_policy.specs.Rules.{protests_made}
-use Rattle.hall_policy.specs.First.{NoneBelow}
+use Rattle.hall_policy.specs.First.{NoneDecides}
 use Rattle.hall_policy.specs.declared.rule.Rule.TheVariants as rule
 use Rattle.hall_policy.specs.declared.record.Person.{Person}
 use Rattle.hall_policy.specs.declared.record.PuzzleState.{PuzzleState}
@@ -40,24 +41,24 @@ module _ (world : World) (key : ProtestKey) (row : ProtestRow) where
 
   module _ (own : row.key ≡ key) (in_range : IsProtestRow row) (sane : Sane world) (entrant : get world.people key.entrant ≢ None) (released : IsReleasedRound world key.round)
       (part : MayTakePart world key.entrant key.round) (place : IsPlaceThere world key.round row.number) (settled : (round : Round) → get world.rounds key.round ≡ Some round → IsTrue round.published → row.ruling ≢ None)
-      (room : get world.protests key ≡ None → protests_made world key.entrant key.round < 5) where
-    few_new : (e r : List ℕ) → get world.protests key ≡ None → count_by (of_entrant e r) (values new_protests) ≤ 5
-    few_new e r none = elim (of_entrant e r row) as (λ b. of_entrant e r row ≡ b → count_by (of_entrant e r) (values new_protests) ≡ protests_made world e r + cond b 1 0 → count_by (of_entrant e r) (values new_protests) ≤ 5) [
+      (room : get world.protests key ≡ None → protests_made world key.entrant key.round < most_protests) where
+    few_new : (e r : List ℕ) → get world.protests key ≡ None → count_by (of_entrant e r) (values new_protests) ≤ most_protests
+    few_new e r none = elim (of_entrant e r row) as (λ b. of_entrant e r row ≡ b → count_by (of_entrant e r) (values new_protests) ≡ protests_made world e r + cond b 1 0 → count_by (of_entrant e r) (values new_protests) ≤ most_protests) [
       | true ↦ λ t more.
           let by : key.entrant ≡ e = ap (λ (k : ProtestKey). k.entrant) (sym own) ∙ (text_decides row.key.entrant e).0 (and_first (same_text row.key.entrant e) (same_text row.key.round r) t) in
           let on : key.round ≡ r = ap (λ (k : ProtestKey). k.round) (sym own) ∙ (text_decides row.key.round r).0 (and_second (same_text row.key.entrant e) (same_text row.key.round r) t) in
-          let bound : protests_made world e r < 5 = subst (λ (x : List ℕ). protests_made world e x < 5) on (subst (λ (x : List ℕ). protests_made world x key.round < 5) by (room none)) in
+          let bound : protests_made world e r < most_protests = subst (λ (x : List ℕ). protests_made world e x < most_protests) on (subst (λ (x : List ℕ). protests_made world x key.round < most_protests) by (room none)) in
           omega (arith, more, bound)
       | false ↦ λ t more. omega (arith, more, sane.few_protests e r)
     ] refl (count_by-insert_new protest_total (of_entrant e r) world.protests key row none)
 
-    few_then : (e r : List ℕ) → count_by (of_entrant e r) (values new_protests) ≤ 5
-    few_then e r = elim (get world.protests key) as (λ (o : Option ProtestRow). get world.protests key ≡ o → count_by (of_entrant e r) (values new_protests) ≤ 5) [
+    few_then : (e r : List ℕ) → count_by (of_entrant e r) (values new_protests) ≤ most_protests
+    few_then e r = elim (get world.protests key) as (λ (o : Option ProtestRow). get world.protests key ≡ o → count_by (of_entrant e r) (values new_protests) ≤ most_protests) [
       | None ↦ λ none. few_new e r none
       | Some old ↦ λ kept.
           let same : row.key ≡ old.key = own ∙ sym (sane.typed.protests key old kept) in
           let alike = count_by-insert_alike protest_total (of_entrant e r) world.protests key row old kept (ap (λ (k : ProtestKey). same_text k.entrant e && same_text k.round r) same) in
-          subst (λ n. n ≤ 5) (sym alike) (sane.few_protests e r)
+          subst (λ n. n ≤ most_protests) (sym alike) (sane.few_protests e r)
     ] refl
 
     protest_in_range : AreRowsInRange (record world { protests = new_protests })
@@ -156,7 +157,7 @@ has_place world round number there = elim (place_of world round number) as (λ (
 -- a Protest keeps the world sane: its rules deny a draft, a number without a place, a published round and a sixth protest
 pub protest_step : (world : World) (caller : Option Person) (id token : List ℕ) (number : ℕ) (text : List ℕ) (t : ℕ) (found : PuzzleState) (given : Reply) (new : World) → Sane world →
     ((person : Person) → caller ≡ Some person → get world.people person.name ≡ Some person) → IsAction (action.Protest id token number text) →
-    NoneBelow 21 world caller (action.Protest id token number text) t → Allowed world caller (action.Protest id token number text) t found given new → Sane new
+    NoneDecides world caller (action.Protest id token number text) t → Allowed world caller (action.Protest id token number text) t found given new → Sane new
 protest_step world caller id token number text t found given new sane there asked none (person, is, (reply, made)) =
     let row : ProtestRow = open_protest person id token number text in
     let in_range : IsProtestRow row = record {

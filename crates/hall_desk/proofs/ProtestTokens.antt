@@ -1,7 +1,7 @@
 -- A token whose protest was stored acts once.
-use Rattle.std.proofs.Common.{◌≡◌, ◌⊎◌, ◌<◌, ◌≤◌, inl, inr, ℕ, List, Option, Some, None, refl, sym, ap, ◌∙◌, subst, arith, lit<}
+use Rattle.std.proofs.Common.{◌≡◌, ◌⊎◌, ◌<◌, ◌≤◌, inl, inr, ℕ, List, Option, Some, None, refl, sym, ap, ◌∙◌, subst, arith, lit<, suc}
 use Rattle.hall_policy.specs.World.{World, protest_of}
-use Rattle.hall_policy.specs.Actions.{number_of}
+use Rattle.hall_policy.specs.Actions.{number_of, last_rule}
 use Rattle.hall_policy.specs.Rules.{LacksRole, IsMissing, IsOwnPuzzle, SameContent}
 use Rattle.hall_policy.specs.First.{NoneBelow, Forbids, Repeated}
 use Rattle.hall_policy.specs.declared.rule.Rule.{Rule}
@@ -81,4 +81,4 @@ protest_tokens_act_once world t key person id token number text row given new is
 protest_tokens_act_once world t key person id token number text row given new is stands (inr (found, (Repeat, (r, repeated, none), (first, left)))) =
     (left, inr (told_again world (caller_of world key) t person id token number text row is stands given (repeated_protest world (caller_of world key) t person id token number text row is stands r repeated) first))
 protest_tokens_act_once world t key person id token number text row given new is stands (inr (found, (Allow, none, decided))) =
-    absurd (token_decides world (caller_of world key) t person id token number text row is stands 21 none (lit< tt))
+    absurd (token_decides world (caller_of world key) t person id token number text row is stands (suc last_rule) none (lit< tt))

@@ -1,7 +1,7 @@
 -- A protest that is stored.
 use Rattle.std.proofs.Common.{◌≡◌, ℕ, List, Option, Some, None, sym, ap, ◌∙◌, subst}
 use Rattle.hall_policy.specs.World.{World, IsRoundAt}
-use Rattle.hall_policy.specs.Facts.{TrueUpTo, IsRoundFound}
+use Rattle.hall_policy.specs.Facts.{AreTrue, IsRoundFound}
 use Rattle.hall_policy.specs.Implies.{PlaceIsThere}
 use Rattle.hall_policy.specs.declared.facts.Facts.{Facts}
 use Rattle.hall_policy.specs.declared.record.Person.{Person}
@@ -19,7 +19,7 @@ use Rattle.hall_desk.specs.declared.reply.Reply.TheVariants as reply
 
 -- the protest's row may be stored, and makes the plan
 pub protested : (world : World) (facts : Facts) (asked : Protest) (person : Person) (t : ℕ) (plan : Plan) → facts.caller ≡ Some person →
-    facts.protest ≡ None → PlaceIsThere facts (protest_action asked) asked.number → TrueUpTo 20 facts world (protest_action asked) → IsThere world facts.caller →
+    facts.protest ≡ None → PlaceIsThere facts (protest_action asked) asked.number → AreTrue facts world (protest_action asked) → IsThere world facts.caller →
     plan.reply ≡ reply.Protest asked.token.now → plan.change ≡ AddProtest (protest_row person asked) → IsMadePlan world facts.caller (protest_action asked) t plan
 protested world facts asked person t plan caller fresh place told there replied changes =
     let id : List ℕ = asked.round.now in

@@ -1,7 +1,7 @@
 -- A round that is published keeps the world sane.
 use Rattle.std.proofs.Common.{◌≡◌, ℕ, true, List, Option, Some, refl, sym, ◌∙◌, subst, lit<}
 use Rattle.hall_policy.specs.World.{World}
-use Rattle.hall_policy.specs.First.{NoneBelow}
+use Rattle.hall_policy.specs.First.{NoneDecides}
 use Rattle.hall_policy.specs.declared.rule.Rule.TheVariants as rule
 use Rattle.hall_policy.specs.declared.record.Person.{Person}
 use Rattle.hall_policy.specs.declared.record.PuzzleState.{PuzzleState}
@@ -15,7 +15,7 @@ use Rattle.hall_desk.proofs.Releases.{released_found}
 
 -- a Publish keeps the world sane: its rules deny a draft, and a round with an open protest
 pub publish_step : (world : World) (caller : Option Person) (id : List ℕ) (t : ℕ) (found : PuzzleState) (given : Reply) (new : World) → Sane world →
-    NoneBelow 21 world caller (action.Publish id) t → Allowed world caller (action.Publish id) t found given new → Sane new
+    NoneDecides world caller (action.Publish id) t → Allowed world caller (action.Publish id) t found given new → Sane new
 publish_step world caller id t found given new sane none (round, kept, reply, made) =
     let there = released_found world caller (action.Publish id) id refl (λ missing. (none rule.Missing (lit< tt)).0 ((2, lit< tt, refl), missing)) in
     let both : Some there.0 ≡ Some round = sym there.1 ∙ kept in

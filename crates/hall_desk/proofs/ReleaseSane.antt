@@ -3,7 +3,7 @@ use Rattle.std.proofs.Common.{◌≡◌, ◌≢◌, ℕ, true, List, Option, Som
 use Rattle.std.specs.FinMap.{get}
 use Rattle.hall_policy.specs.World.{World}
 use Rattle.hall_policy.specs.Rules.{IsCertified}
-use Rattle.hall_policy.specs.First.{NoneBelow}
+use Rattle.hall_policy.specs.First.{NoneDecides}
 use Rattle.hall_policy.specs.declared.rule.Rule.TheVariants as rule
 use Rattle.hall_policy.specs.declared.record.Person.{Person}
 use Rattle.hall_policy.specs.declared.record.PuzzleKey.{PuzzleKey}
@@ -40,7 +40,7 @@ certified_unless_not world key h = elim (get world.puzzles key) as (λ (o : Opti
 
 -- a Release keeps the world sane: its rules deny a round with a puzzle that is not certified or stands in another released round
 pub release_step : (world : World) (caller : Option Person) (id : List ℕ) (t : ℕ) (found : PuzzleState) (given : Reply) (new : World) → Sane world →
-    NoneBelow 21 world caller (action.Release id) t → Allowed world caller (action.Release id) t found given new → Sane new
+    NoneDecides world caller (action.Release id) t → Allowed world caller (action.Release id) t found given new → Sane new
 release_step world caller id t found given new sane none (round, kept, reply, made) =
     subst Sane (sym made)
     (flags_sane world id round true round.published kept refl sane

@@ -9,10 +9,11 @@ use Rattle.std.specs.Map.{values_of}
 use Rattle.std.specs.Ordering.{is_eq}
 use Rattle.std.specs.declared.cmp.Ordering.{Ordering}
 use Rattle.std.specs.declared.cmp.Ordering.TheVariants.{Less, Equal, Greater}
+use Rattle.hall_policy.specs.Actions.{last_rule}
 use Rattle.hall_policy.specs.Text.{text_cmp}
 use Rattle.hall_policy.specs.World.{World, protest_of, same_text, puzzle_cmp, place_cmp, tester_cmp}
 use Rattle.hall_policy.specs.Rules.{Conflicts, StandsReleased}
-use Rattle.hall_policy.specs.First.{NoneBelow}
+use Rattle.hall_policy.specs.First.{NoneDecides}
 use Rattle.hall_policy.specs.declared.rule.Rule.TheVariants as rule
 use Rattle.hall_policy.specs.declared.rule.Decision.TheVariants.{Allow, Repeat, Deny}
 use Rattle.hall_policy.specs.declared.record.Person.{Person}
@@ -166,7 +167,7 @@ puzzles_change world new puzzles listed made =
 
 -- a PutPuzzle's rule denies a puzzle of a released round
 put_remains : (world : World) (caller : Option Person) (key : PuzzleKey) (puzzle : Board) (t : ℕ) (new : World) →
-    NoneBelow 21 world caller (action.PutPuzzle key puzzle) t → new ≡ record world { puzzles = insert world.puzzles key (new_row key puzzle) } → KeptRecords world new
+    NoneDecides world caller (action.PutPuzzle key puzzle) t → new ≡ record world { puzzles = insert world.puzzles key (new_row key puzzle) } → KeptRecords world new
 put_remains world caller key puzzle t new none made =
     let put : PuzzleRow = new_row key puzzle in
     let after : World = record world { puzzles = insert world.puzzles key put } in
@@ -266,7 +267,7 @@ people_join world people new fits made =
 
 -- an Import's rule denies a list that conflicts with somebody
 import_remains : (world : World) (caller : Option Person) (people : List Person) (t : ℕ) (found : PuzzleState) (given : Reply) (new : World) →
-    NoneBelow 21 world caller (action.Import people) t → Allowed world caller (action.Import people) t found given new → KeptRecords world new
+    NoneDecides world caller (action.Import people) t → Allowed world caller (action.Import people) t found given new → KeptRecords world new
 import_remains world caller people t found given new none (told, made) =
     people_join world people new (λ person among conflict. (none rule.ListConflict (lit< tt)).0 ((2, lit< tt, refl), (person, among, conflict))) made
 
@@ -279,7 +280,7 @@ seed_remains world people given new (inr (inr (clear, (told, made)))) = people_j
 -- ---- a round
 -- a draft that is put leaves the released rounds
 put_round_remains : (world : World) (caller : Option Person) (id : List ℕ) (sheet : Sheet) (t : ℕ) (found : PuzzleState) (given : Reply) (new : World) →
-    NoneBelow 21 world caller (action.PutRound id sheet) t → Allowed world caller (action.PutRound id sheet) t found given new → KeptRecords world new
+    NoneDecides world caller (action.PutRound id sheet) t → Allowed world caller (action.PutRound id sheet) t found given new → KeptRecords world new
 put_round_remains world caller id sheet t found given new none (told, made) =
     let draft : Round = draft_of id sheet in
     let after : World = record world { rounds = insert world.rounds id draft; places = relisted world.places id sheet.puzzles; testers = retested world.testers id sheet.testers } in
@@ -330,7 +331,7 @@ round_changes world new id round now kept same risen made =
 
 -- a Submit stores its answer where none stands
 submit_remains : (world : World) (caller : Option Person) (id : List ℕ) (number : ℕ) (token answer : List ℕ) (t : ℕ) (found : PuzzleState) (given : Reply) (new : World) →
-    NoneBelow 21 world caller (action.Submit id number token answer) t → Allowed world caller (action.Submit id number token answer) t found given new → KeptRecords world new
+    NoneDecides world caller (action.Submit id number token answer) t → Allowed world caller (action.Submit id number token answer) t found given new → KeptRecords world new
 submit_remains world caller id number token answer t found given new none (person, is, (round, entry, puzzle, verdict, kept, place, grid, judged, (told, made))) =
     let row : AnswerRow = answer_row world person id number token answer t verdict in
     let after : World = record world { answers = insert world.answers row.key row } in
@@ -338,7 +339,7 @@ submit_remains world caller id number token answer t found given new none (perso
       people = λ name person at. at;
       callers = callers_stay world after refl;
       answers = λ key old at. others_stay answer_total same_answer_keys world.answers row.key row key old
-          (λ own. token_decides world caller t person id number token answer old is (ap (get world.answers) (sym own) ∙ at) 21 none (lit< tt)) at;
+          (λ own. token_decides world caller t person id number token answer old is (ap (get world.answers) (sym own) ∙ at) (suc last_rule) none (lit< tt)) at;
       protests = protest_as_found after;
       rounds = λ q r at is. stays_as_found world after q r at is refl refl;
       puzzles = puzzles_as_found world after refl;
@@ -346,7 +347,7 @@ submit_remains world caller id number token answer t found given new none (perso
 
 -- a Protest stores its row where none stands
 protest_remains : (world : World) (caller : Option Person) (id token : List ℕ) (number : ℕ) (text : List ℕ) (t : ℕ) (found : PuzzleState) (given : Reply) (new : World) →
-    NoneBelow 21 world caller (action.Protest id token number text) t → Allowed world caller (action.Protest id token number text) t found given new → KeptRecords world new
+    NoneDecides world caller (action.Protest id token number text) t → Allowed world caller (action.Protest id token number text) t found given new → KeptRecords world new
 protest_remains world caller id token number text t found given new none (person, is, (told, made)) =
     let row : ProtestRow = open_protest person id token number text in
     let after : World = record world { protests = insert world.protests row.key row } in
@@ -355,14 +356,14 @@ protest_remains world caller id token number text t found given new none (person
       callers = callers_stay world after refl;
       answers = λ key old at. at;
       protests = λ key old at. protest_as_found after key old (others_stay protest_total same_protest_keys world.protests row.key row key old
-          (λ own. protest_token_decides world caller t person id token number text old is (ap (get world.protests) (sym own) ∙ at) 21 none (lit< tt)) at);
+          (λ own. protest_token_decides world caller t person id token number text old is (ap (get world.protests) (sym own) ∙ at) (suc last_rule) none (lit< tt)) at);
       rounds = λ q r at is. stays_as_found world after q r at is refl refl;
       puzzles = puzzles_as_found world after refl;
     })
 
 -- a Rule rules its protest where no ruling stands
 rule_remains : (world : World) (caller : Option Person) (id entrant token : List ℕ) (ruling : Ruling) (t : ℕ) (found : PuzzleState) (given : Reply) (new : World) →
-    NoneBelow 21 world caller (action.RuleProtest id entrant token ruling) t → Allowed world caller (action.RuleProtest id entrant token ruling) t found given new → KeptRecords world new
+    NoneDecides world caller (action.RuleProtest id entrant token ruling) t → Allowed world caller (action.RuleProtest id entrant token ruling) t found given new → KeptRecords world new
 rule_remains world caller id entrant token ruling t found given new none (row, kept, told, made) =
     let own_key : ProtestKey = record { entrant = entrant; round = id; token = token } in
     let now : ProtestRow = record row { ruling = Some ruling } in
@@ -380,7 +381,7 @@ rule_remains world caller id entrant token ruling t found given new none (row, k
               after = now;
               found = inserted_there protest_total same_protest_keys world.protests own_key now key own;
               same = ap (λ (r : ProtestRow). let ruled_one : ProtestRow = record r { ruling = Some ruling } in ruled_one) one;
-              ruled = λ ruled is. absurd (ruling_decides world caller t id entrant token ruling ruled old there is 21 none (lit< tt));
+              ruled = λ ruled is. absurd (ruling_decides world caller t id entrant token ruling ruled old there is (suc last_rule) none (lit< tt));
             }
         | inr other ↦ protest_as_found after key old (others_stay protest_total same_protest_keys world.protests own_key now key old other at)
       ];
@@ -394,7 +395,7 @@ released_as_it_was round is = ap (λ (b : Bool). let now : Round = record round 
 
 -- a Release and a Publish change one flag of their round; what else takes effect is said above
 allowed_remains : (world : World) (caller : Option Person) (asked : Action) (t : ℕ) (found : PuzzleState) (given : Reply) (new : World) →
-    NoneBelow 21 world caller asked t → Allowed world caller asked t found given new → KeptRecords world new
+    NoneDecides world caller asked t → Allowed world caller asked t found given new → KeptRecords world new
 allowed_remains world caller (action.PutPuzzle key puzzle) t found given new none (text, canonical, inl h) = remains_same world new h.4
 allowed_remains world caller (action.PutPuzzle key puzzle) t found given new none (text, canonical, inr h) = put_remains world caller key puzzle t new none h.2
 allowed_remains world caller (action.Certify key budget) t found given new none (row, kept, inl h) = certify_remains world key row budget found given new kept h

@@ -9,7 +9,7 @@ use Rattle.hall_policy.specs.World.{World, puzzle_cmp, answer_cmp, protest_cmp, 
 use Rattle.hall_policy.specs.Ranges.{IsWorld}
 use Rattle.hall_policy.specs.Actions.{rules_asked, may}
 use Rattle.hall_policy.specs.Rules.{RoundIsMissing, ReadsAsTester, answers_given}
-use Rattle.hall_policy.specs.First.{First, NoneBelow}
+use Rattle.hall_policy.specs.First.{First, NoneDecides}
 use Rattle.hall_policy.specs.declared.record.Person.{Person}
 use Rattle.hall_policy.specs.declared.record.PuzzleRow.{PuzzleRow}
 use Rattle.hall_policy.specs.declared.record.PuzzleState.{PuzzleState}
@@ -99,7 +99,7 @@ module _ (ex : List ℕ → List ℕ → List ℕ) (hidden : List ℕ → Bool) 
         look.puzzles entry.puzzle (id, row.round, entry, at.head, released, started, (suc k, at.list (suc k) ∙ here), refl)
 
     -- so are those of a round that e reads: it has started, or e is its tester
-    read_alike : (id : List ℕ) (row : RoundRow) → IsRoundAt world id row → row.round.released ≡ true → NoneBelow 21 world (Some e) (action.ReadRound id) t →
+    read_alike : (id : List ℕ) (row : RoundRow) → IsRoundAt world id row → row.round.released ≡ true → NoneDecides world (Some e) (action.ReadRound id) t →
         (k : ℕ) (entry : Entry) → slice_get row.puzzles k ≡ Some entry → IsKeptAlike world later typed entry
     read_alike id row at released none k entry here =
         let tester : List ℕ → Option (Unit {0}) = λ round. get world.testers (record { round = round; name = name }) in
@@ -125,7 +125,7 @@ module _ (ex : List ℕ → List ℕ → List ℕ) (hidden : List ℕ → Bool) 
     ] refl
 
     submitted : (id : List ℕ) (number : ℕ) (token answer : List ℕ) (found again : PuzzleState) (given answered : Reply) (new changed : World) →
-        NoneBelow 21 world (Some e) (action.Submit id number token answer) t →
+        NoneDecides world (Some e) (action.Submit id number token answer) t →
         Allowed world (Some e) (action.Submit id number token answer) t found given new →
         Allowed later (Some e) (action.Submit id number token (ex id answer)) t again answered changed → answered ≡ given
     submitted id number token answer found again given answered new changed none
@@ -246,7 +246,7 @@ module _ (ex : List ℕ → List ℕ → List ℕ) (hidden : List ℕ → Bool) 
         ∙ ap (λ (p : Person). exchanged_reply ex (action.Answers id) (reply.Answers (map (answer_line (shows_verdict p round t)) rows))) (sym one)
         ∙ ap (exchanged_reply ex (action.Answers id)) (sym told)
 
-    read : (id : List ℕ) (found again : PuzzleState) (given answered : Reply) (new changed : World) → NoneBelow 21 world (Some e) (action.ReadRound id) t →
+    read : (id : List ℕ) (found again : PuzzleState) (given answered : Reply) (new changed : World) → NoneDecides world (Some e) (action.ReadRound id) t →
         Allowed world (Some e) (action.ReadRound id) t found given new → Allowed later (Some e) (action.ReadRound id) t again answered changed → answered ≡ given
     read id found again given answered new changed none ((row, shown, at, shows, told), same) ((row', shown', at', shows', told'), same') =
         let a : Action = action.ReadRound id in
@@ -255,7 +255,7 @@ module _ (ex : List ℕ → List ℕ → List ℕ) (hidden : List ℕ → Bool) 
         let shown_same = same_shown world later typed row shown shown' (read_alike id row at released none) shows (shows_tested later row row'.testers shown' (subst (λ (r : RoundRow). ShowsRound later r shown') one shows')) in
         told' ∙ ap reply.ReadRound (sym shown_same) ∙ sym told
 
-    solved : (id : List ℕ) (found again : PuzzleState) (given answered : Reply) (new changed : World) → NoneBelow 21 world (Some e) (action.Solutions id) t →
+    solved : (id : List ℕ) (found again : PuzzleState) (given answered : Reply) (new changed : World) → NoneDecides world (Some e) (action.Solutions id) t →
         Allowed world (Some e) (action.Solutions id) t found given new → Allowed later (Some e) (action.Solutions id) t again answered changed → answered ≡ given
     solved id found again given answered new changed none ((row, texts, at, are, told), same) ((row', texts', at', are', told'), same') =
         let a : Action = action.Solutions id in
@@ -288,7 +288,7 @@ module _ (ex : List ℕ → List ℕ → List ℕ) (hidden : List ℕ → Bool) 
         ∙ sym told
 
     -- a table of a published round: anyone's
-    pub table_read : (caller : Option Person) (id : List ℕ) (found again : PuzzleState) (given answered : Reply) (new changed : World) → NoneBelow 21 world caller (action.Table id) t →
+    pub table_read : (caller : Option Person) (id : List ℕ) (found again : PuzzleState) (given answered : Reply) (new changed : World) → NoneDecides world caller (action.Table id) t →
         Allowed world caller (action.Table id) t found given new → Allowed later caller (action.Table id) t again answered changed → answered ≡ given
     table_read caller id found again given answered new changed none ((text, (row, at, (totals, are, is)), told), same) ((text', (row', at', (totals', are', is')), told'), same') =
         let one : row' ≡ tested_by row row'.testers = one_round_row later world id row' row refl refl at' at in
@@ -307,7 +307,7 @@ module _ (ex : List ℕ → List ℕ → List ℕ) (hidden : List ℕ → Bool) 
         told' ∙ ap reply.Table (sym text_same) ∙ sym told
 
     -- ---- what is decided alike is answered alike
-    allowed_alike : (a : Action) (found again : PuzzleState) (given answered : Reply) (new changed : World) → may e.roles a ≡ true → NoneBelow 21 world (Some e) a t →
+    allowed_alike : (a : Action) (found again : PuzzleState) (given answered : Reply) (new changed : World) → may e.roles a ≡ true → NoneDecides world (Some e) a t →
         Allowed world (Some e) a t found given new → Allowed later (Some e) (exchanged ex a) t again answered changed → answered ≡ exchanged_reply ex a given
     allowed_alike (action.Submit id number token answer) found again given answered new changed may none h k = submitted id number token answer found again given answered new changed none h k
     allowed_alike (action.Answers id) found again given answered new changed may none h k = listed id found again given answered new changed h k

@@ -1,9 +1,9 @@
 -- An accepted answer stays accepted, whatever comes between.
-use Rattle.std.proofs.Common.{◌≡◌, ◌≢◌, ◌⊎◌, ◌≤◌, inl, inr, ℕ, true, false, List, Option, Some, None, refl, sym, ap, ◌∙◌, subst, arith, lit<, if◌then◌else◌}
+use Rattle.std.proofs.Common.{◌≡◌, ◌≢◌, ◌⊎◌, ◌≤◌, inl, inr, ℕ, true, false, List, Option, Some, None, refl, sym, ap, ◌∙◌, subst, arith, lit<, if◌then◌else◌, suc}
 use Rattle.std.proofs.Math.Bool.{and-false}
 use Rattle.std.specs.FinMap.{get}
 use Rattle.hall_policy.specs.World.{World, place_of, IsTesterOf}
-use Rattle.hall_policy.specs.Actions.{number_of}
+use Rattle.hall_policy.specs.Actions.{number_of, last_rule}
 use Rattle.hall_policy.specs.First.{First, NoneBelow, Forbids, Repeated}
 use Rattle.hall_policy.specs.declared.rule.Rule.{Rule}
 use Rattle.hall_policy.specs.declared.rule.Rule.TheVariants as rule
@@ -78,7 +78,7 @@ accepted world kept t key id number token answer n told (inr (found, (Allow, non
       since = inr (record {
         fresh = elim (get world.answers row.key) as (λ (o : Option AnswerRow). get world.answers row.key ≡ o → o ≡ None) [
           | None ↦ λ e. refl
-          | Some old ↦ λ e. absurd (token_decides world (caller_of world key) t person id number token answer old is e 21 none (lit< tt))
+          | Some old ↦ λ e. absurd (token_decides world (caller_of world key) t person id number token answer old is e (suc last_rule) none (lit< tt))
         ] refl;
         moment = refl;
         verdict = (entry, puzzle, place, grid, judged);
@@ -186,7 +186,7 @@ module _ (world later : World) (remains : KeptRecords world later) (caller : Opt
     retried state given new (Deny k) (r, own, forbids, before) (says, left) = (left, inr (inl (denied_again r k given own forbids before says)))
     retried state given new Repeat (r, repeated, before) (says, left) =
         (left, inr (inr (told_again given (first_reply later caller u person id number token again row is stands given (repeated_text later caller u person id number token again row is stands r repeated) says))))
-    retried state given new Allow before decided = absurd (token_decides later caller u person id number token again row is stands 21 before (lit< tt))
+    retried state given new Allow before decided = absurd (token_decides later caller u person id number token again row is stands (suc last_rule) before (lit< tt))
 
 -- a retry of an accepted answer changes nothing, and is answered as one
 answers_stay : (world kept later : World) (t : ℕ) (key : Option (List ℕ)) (id : List ℕ) (number : ℕ) (token answer : List ℕ) (n : ℕ) (told : Option ℕ) →

@@ -2,7 +2,7 @@
 use Rattle.std.proofs.Common.{◌≡◌, ℕ, Some, sym, ap, ◌∙◌, subst}
 use Rattle.std.specs.FinMap.{get}
 use Rattle.hall_policy.specs.World.{World}
-use Rattle.hall_policy.specs.Facts.{TrueUpTo}
+use Rattle.hall_policy.specs.Facts.{AreTrue}
 use Rattle.hall_policy.specs.Implies.{ProtestIsThere}
 use Rattle.hall_policy.specs.declared.facts.Facts.{Facts}
 use Rattle.hall_policy.specs.declared.record.ProtestRow.{ProtestRow}
@@ -18,7 +18,7 @@ use Rattle.hall_desk.specs.declared.rule_protest.RuleProtest.{RuleProtest}
 
 -- the protest may be ruled, and its ruling makes the plan
 pub ruled : (world : World) (facts : Facts) (asked : RuleProtest) (t : ℕ) (plan : Plan) → ProtestIsThere facts (rule_protest_action asked) →
-    TrueUpTo 20 facts world (rule_protest_action asked) → plan.reply ≡ reply.RuleProtest asked.ruling → plan.change ≡ change.RuleProtest (ruled_key asked) asked.ruling →
+    AreTrue facts world (rule_protest_action asked) → plan.reply ≡ reply.RuleProtest asked.ruling → plan.change ≡ change.RuleProtest (ruled_key asked) asked.ruling →
     IsMadePlan world facts.caller (rule_protest_action asked) t plan
 ruled world facts asked t plan there told replied changes =
     let row : ProtestRow = there.row in

@@ -1,7 +1,7 @@
 -- A ruling acts once.
 use Rattle.std.proofs.Common.{◌≡◌, ◌⊎◌, ◌<◌, inl, inr, ℕ, zero, suc, true, false, List, Option, Some, None, Contains, refl, sym, ap, ◌∙◌, subst, arith, lit<}
 use Rattle.hall_policy.specs.World.{World, protest_of}
-use Rattle.hall_policy.specs.Actions.{number_of, rules_asked}
+use Rattle.hall_policy.specs.Actions.{number_of, rules_asked, last_rule}
 use Rattle.hall_policy.specs.Rules.{RoundIsMissing}
 use Rattle.hall_policy.specs.First.{NoneBelow, Sentence, Forbids, Repeated}
 use Rattle.hall_policy.specs.declared.rule.Rule.{Rule}
@@ -90,4 +90,4 @@ rulings_act_once world t key id entrant token ruling ruled row given new stands 
 rulings_act_once world t key id entrant token ruling ruled row given new stands so (inr (found, (Repeat, (r, repeated, none), (first, left)))) =
     (left, inr (inr (told_again world (caller_of world key) t id entrant token ruling ruled row stands so given (repeated_ruling world (caller_of world key) t id entrant token ruling ruled row stands so r repeated) first)))
 rulings_act_once world t key id entrant token ruling ruled row given new stands so (inr (found, (Allow, none, decided))) =
-    absurd (ruling_decides world (caller_of world key) t id entrant token ruling ruled row stands so 21 none (lit< tt))
+    absurd (ruling_decides world (caller_of world key) t id entrant token ruling ruled row stands so (suc last_rule) none (lit< tt))

@@ -4,6 +4,7 @@ use Rattle.std.specs.Cmp.{unsigned_Decides}
 use Rattle.std.specs.FinMap.{get, entries, values}
 use Rattle.std.specs.List.{count_by, find}
 use Rattle.std.proofs.lemmas.List.Sums.{sum_by-cons}
+use Rattle.hall_policy.specs.Limits.{most_answers, most_protests, most_puzzles}
 use Rattle.hall_policy.specs.Ranges.{AreRowsInRange}
 use Rattle.hall_policy.specs.Rules.{StandsReleased, IsCertified, answers_given, protests_made, puzzles_put}
 use Rattle.hall_policy.specs.World.{World, same_text}
@@ -245,28 +246,28 @@ module _ (whole : Whole) (told : List Breaches) (are : AreAllTold (world_of_whol
       let other : b ≡ place.0.0.round = in_no_other place.0 place.1 (subst (λ (r : List ℕ). IsReleasedRound W r) (sym place.2) place.4) b (subst (λ (k : PuzzleKey). StandsReleased W k b) (sym place.3) second) in
       sym (other ∙ place.2)
 
-  few_answers_of : (entrant round : List ℕ) (number : ℕ) → answers_given W entrant round number ≤ 50
+  few_answers_of : (entrant round : List ℕ) (number : ℕ) → answers_given W entrant round number ≤ most_answers
   few_answers_of entrant round number =
       let p : AnswerRow → Bool = λ row. same_text row.key.entrant entrant && (same_text row.key.round round && (row.key.number == number)) in
-      low_count p (values W.answers) 50 (λ row among is.
+      low_count p (values W.answers) most_answers (λ row among is.
       let e : row.key.entrant ≡ entrant = (text_decides row.key.entrant entrant).0 (and_first (same_text row.key.entrant entrant) _ is) in
       let rest = and_second (same_text row.key.entrant entrant) (same_text row.key.round round && (row.key.number == number)) is in
       let r : row.key.round ≡ round = (text_decides row.key.round round).0 (and_first (same_text row.key.round round) _ rest) in
       let n : row.key.number ≡ number = (unsigned_Decides row.key.number number).0 (and_second (same_text row.key.round round) (row.key.number == number) rest) in
-      subst (λ (m : ℕ). answers_given W entrant round m ≤ 50) n (subst (λ (x : List ℕ). answers_given W entrant x row.key.number ≤ 50) r (subst (λ (x : List ℕ). answers_given W x row.key.round row.key.number ≤ 50) e (few_answers row among))))
+      subst (λ (m : ℕ). answers_given W entrant round m ≤ most_answers) n (subst (λ (x : List ℕ). answers_given W entrant x row.key.number ≤ most_answers) r (subst (λ (x : List ℕ). answers_given W x row.key.round row.key.number ≤ most_answers) e (few_answers row among))))
 
-  few_protests_of : (entrant round : List ℕ) → protests_made W entrant round ≤ 5
+  few_protests_of : (entrant round : List ℕ) → protests_made W entrant round ≤ most_protests
   few_protests_of entrant round =
       let p : ProtestRow → Bool = λ row. same_text row.key.entrant entrant && same_text row.key.round round in
-      low_count p (values W.protests) 5 (λ row among is.
+      low_count p (values W.protests) most_protests (λ row among is.
       let e : row.key.entrant ≡ entrant = (text_decides row.key.entrant entrant).0 (and_first (same_text row.key.entrant entrant) _ is) in
       let r : row.key.round ≡ round = (text_decides row.key.round round).0 (and_second (same_text row.key.entrant entrant) (same_text row.key.round round) is) in
-      subst (λ (x : List ℕ). protests_made W entrant x ≤ 5) r (subst (λ (x : List ℕ). protests_made W x row.key.round ≤ 5) e (few_protests row among)))
+      subst (λ (x : List ℕ). protests_made W entrant x ≤ most_protests) r (subst (λ (x : List ℕ). protests_made W x row.key.round ≤ most_protests) e (few_protests row among)))
 
-  few_puzzles_of : (author : List ℕ) → puzzles_put W author ≤ 500
+  few_puzzles_of : (author : List ℕ) → puzzles_put W author ≤ most_puzzles
   few_puzzles_of author =
-      low_count (λ (row : PuzzleRow). same_text row.key.author author) (values W.puzzles) 500 (λ row among is.
-      subst (λ (x : List ℕ). puzzles_put W x ≤ 500) ((text_decides row.key.author author).0 is) (few_puzzles row among))
+      low_count (λ (row : PuzzleRow). same_text row.key.author author) (values W.puzzles) most_puzzles (λ row among is.
+      subst (λ (x : List ℕ). puzzles_put W x ≤ most_puzzles) ((text_decides row.key.author author).0 is) (few_puzzles row among))
 
   pub sane : Sane W
   sane = record {

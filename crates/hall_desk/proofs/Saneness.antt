@@ -2,6 +2,7 @@
 use Rattle.std.proofs.Common.{◌≡◌, ◌≢◌, ◌==◌, ◌+◌, ◌&&◌, ◌<◌, ◌≤◌, ◌⊎◌, inl, inr, ℕ, Bool, true, false, cond, List, Option, Some, None, IsTrue, refl, sym, ap, ◌∙◌, subst, arith}
 use Rattle.std.specs.List.{count_by}
 use Rattle.std.specs.FinMap.{FinMap, get, insert, values}
+use Rattle.hall_policy.specs.Limits.{most_answers, most_puzzles}
 use Rattle.hall_policy.specs.World.{World, same_text, puzzle_cmp, answer_cmp}
 use Rattle.hall_policy.specs.Ranges.{IsPuzzleRow, IsAnswerRow, AreRowsInRange, IsWorld}
 use Rattle.hall_policy.specs.Rules.{StandsReleased, answers_given, puzzles_put}
@@ -40,25 +41,25 @@ module _ (world : World) (key : PuzzleKey) (row : PuzzleRow) where
   after_put q r found = found_after puzzle_total same_puzzle_keys world.puzzles key row q r found
 
   module _ (own : row.key ≡ key) (in_range : IsPuzzleRow row) (true_state : IsTrueState row.puzzle row.state) (sane : Sane world) (there : get world.people key.author ≢ None)
-      (free : (id : List ℕ) → ¬ (StandsReleased world key id)) (room : get world.puzzles key ≡ None → puzzles_put world key.author < 500) where
+      (free : (id : List ℕ) → ¬ (StandsReleased world key id)) (room : get world.puzzles key ≡ None → puzzles_put world key.author < most_puzzles) where
     unused : (id : List ℕ) (round : Round) (number : ℕ) (entry : Entry) → get world.rounds id ≡ Some round → IsTrue round.released →
         get world.places (record { round = id; number = number }) ≡ Some entry → entry.puzzle ≢ key
     unused id round number entry kept released place same = free id (round, entry, kept, released, (number, place), same)
 
-    few : (author : List ℕ) → count_by (λ r. same_text r.key.author author) (values new_puzzles) ≤ 500
-    few author = elim (get world.puzzles key) as (λ (o : Option PuzzleRow). get world.puzzles key ≡ o → count_by (λ r. same_text r.key.author author) (values new_puzzles) ≤ 500) [
+    few : (author : List ℕ) → count_by (λ r. same_text r.key.author author) (values new_puzzles) ≤ most_puzzles
+    few author = elim (get world.puzzles key) as (λ (o : Option PuzzleRow). get world.puzzles key ≡ o → count_by (λ r. same_text r.key.author author) (values new_puzzles) ≤ most_puzzles) [
       | None ↦ λ none.
           let more = count_by-insert_new puzzle_total (λ r. same_text r.key.author author) world.puzzles key row none in
-          elim (same_text row.key.author author) as (λ b. same_text row.key.author author ≡ b → count_by (λ r. same_text r.key.author author) (values new_puzzles) ≡ puzzles_put world author + cond b 1 0 → count_by (λ r. same_text r.key.author author) (values new_puzzles) ≤ 500) [
+          elim (same_text row.key.author author) as (λ b. same_text row.key.author author ≡ b → count_by (λ r. same_text r.key.author author) (values new_puzzles) ≡ puzzles_put world author + cond b 1 0 → count_by (λ r. same_text r.key.author author) (values new_puzzles) ≤ most_puzzles) [
             | true ↦ λ t e.
                 let author_is : key.author ≡ author = ap (λ (k : PuzzleKey). k.author) (sym own) ∙ (text_decides row.key.author author).0 t in
-                let bound : puzzles_put world author < 500 = subst (λ (a : List ℕ). puzzles_put world a < 500) author_is (room none) in
+                let bound : puzzles_put world author < most_puzzles = subst (λ (a : List ℕ). puzzles_put world a < most_puzzles) author_is (room none) in
                 omega (arith, e, bound)
             | false ↦ λ t e. omega (arith, e, sane.few_puzzles author)
           ] refl more
       | Some old ↦ λ kept.
           let alike = count_by-insert_alike puzzle_total (λ r. same_text r.key.author author) world.puzzles key row old kept (ap (λ (k : PuzzleKey). same_text k.author author) (own ∙ sym (sane.typed.puzzles key old kept))) in
-          subst (λ n. n ≤ 500) (sym alike) (sane.few_puzzles author)
+          subst (λ n. n ≤ most_puzzles) (sym alike) (sane.few_puzzles author)
     ] refl
 
     put_in_range : AreRowsInRange (record world { puzzles = new_puzzles })
@@ -151,7 +152,7 @@ module _ (world : World) (row : AnswerRow) where
 
   module _ (sane : Sane world) (in_range : IsAnswerRow row) (fresh : get world.answers row.key ≡ None) (entrant : get world.people row.key.entrant ≢ None) (released : IsReleasedRound world row.key.round)
       (part : MayTakePart world row.key.entrant row.key.round) (verdict : IsVerdictAt world row.key.round row.key.number row) (next : row.n ≡ answers_given world row.key.entrant row.key.round row.key.number + 1)
-      (room : answers_given world row.key.entrant row.key.round row.key.number < 50) where
+      (room : answers_given world row.key.entrant row.key.round row.key.number < most_answers) where
     counted_more : (e r : List ℕ) (n : ℕ) → count_by (of_place e r n) (values new_answers) ≡ answers_given world e r n + cond (of_place e r n row) 1 0
     counted_more e r n = count_by-insert_new answer_total (of_place e r n) world.answers row.key row fresh
 
@@ -164,11 +165,11 @@ module _ (world : World) (row : AnswerRow) where
         let parts = all_parts (same_text row.key.entrant e) (same_text row.key.round r) (row.key.number == n) h in
         ((text_decides row.key.entrant e).0 parts.0, (text_decides row.key.round r).0 parts.1, (unsigned_Decides row.key.number n).0 parts.2)
 
-    few_then : (e r : List ℕ) (n : ℕ) → count_by (of_place e r n) (values new_answers) ≤ 50
-    few_then e r n = elim (of_place e r n row) as (λ b. of_place e r n row ≡ b → count_by (of_place e r n) (values new_answers) ≡ answers_given world e r n + cond b 1 0 → count_by (of_place e r n) (values new_answers) ≤ 50) [
+    few_then : (e r : List ℕ) (n : ℕ) → count_by (of_place e r n) (values new_answers) ≤ most_answers
+    few_then e r n = elim (of_place e r n row) as (λ b. of_place e r n row ≡ b → count_by (of_place e r n) (values new_answers) ≡ answers_given world e r n + cond b 1 0 → count_by (of_place e r n) (values new_answers) ≤ most_answers) [
       | true ↦ λ t more.
           let at = same_place e r n t in
-          let bound : answers_given world e r n < 50 = subst (λ (m : ℕ). answers_given world e r m < 50) at.2 (subst (λ (x : List ℕ). answers_given world e x row.key.number < 50) at.1 (subst (λ (x : List ℕ). answers_given world x row.key.round row.key.number < 50) at.0 room)) in
+          let bound : answers_given world e r n < most_answers = subst (λ (m : ℕ). answers_given world e r m < most_answers) at.2 (subst (λ (x : List ℕ). answers_given world e x row.key.number < most_answers) at.1 (subst (λ (x : List ℕ). answers_given world x row.key.round row.key.number < most_answers) at.0 room)) in
           omega (arith, more, bound)
       | false ↦ λ t more. omega (arith, more, sane.few_answers e r n)
     ] refl (counted_more e r n)

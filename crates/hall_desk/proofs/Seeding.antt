@@ -2,7 +2,7 @@
 use Rattle.std.proofs.Common.{◌≡◌, ◌≤◌, ◌⊎◌, inl, inr, ℕ, false, List, Result, Ok, Err, IfOk, sym, ap, ◌∙◌, subst}
 use Rattle.std.specs.Prelude.{All, IsOk, OnErr}
 use Rattle.std.proofs.lemmas.Bool.{false≢true}
-use Rattle.hall_policy.specs.Facts.{TrueUpTo}
+use Rattle.hall_policy.specs.Facts.{AreTrue}
 use Rattle.hall_policy.specs.declared.facts.Facts.{Facts}
 use Rattle.hall_policy.specs.declared.record.PuzzleState.TheVariants as state
 use Rattle.hall_policy.specs.World.{World}
@@ -32,7 +32,7 @@ seed_plan world people plan clear is = record {
 }
 
 -- and it is that of an Import that is allowed
-pub import_plan : (world : World) (facts : Facts) (t : ℕ) (people : List Person) (plan : Plan) → TrueUpTo 20 facts world (Import people) → facts.conflict ≡ false →
+pub import_plan : (world : World) (facts : Facts) (t : ℕ) (people : List Person) (plan : Plan) → AreTrue facts world (Import people) → facts.conflict ≡ false →
     IsImportPlan world people plan → IsMadePlan world facts.caller (Import people) t plan
 import_plan world facts t people plan told clear is = record {
   found = state.New;

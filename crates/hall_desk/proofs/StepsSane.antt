@@ -4,10 +4,11 @@ use Rattle.std.specs.Prelude.{All}
 use Rattle.std.proofs.lemmas.List.Elements.{All-head, All-tail}
 use Rattle.std.proofs.Math.Nat.{lt_of_not-le}
 use Rattle.std.specs.FinMap.{get}
+use Rattle.hall_policy.specs.Limits.{most_answers}
 use Rattle.hall_policy.specs.World.{World, same_text}
 use Rattle.hall_policy.specs.Ranges.{IsMoment, IsAnswerRow, IsAction, IsRequest}
 use Rattle.hall_policy.specs.Rules.{answers_given}
-use Rattle.hall_policy.specs.First.{NoneBelow}
+use Rattle.hall_policy.specs.First.{NoneDecides}
 use Rattle.hall_policy.specs.declared.rule.Rule.TheVariants as rule
 use Rattle.hall_policy.specs.declared.rule.Decision.TheVariants.{Allow, Repeat, Deny}
 use Rattle.hall_policy.specs.declared.record.Person.{Person}
@@ -51,7 +52,7 @@ caller_there world sane (Some key) person e =
     subst (λ (name : List ℕ). get world.people name ≡ Some person) (sym own) under.1
 
 put_step : (world : World) (caller : Option Person) (key : PuzzleKey) (puzzle : Board) (t : ℕ) (found : PuzzleState) (given : Reply) (new : World) → Sane world →
-    IsAction (action.PutPuzzle key puzzle) → NoneBelow 21 world caller (action.PutPuzzle key puzzle) t → Allowed world caller (action.PutPuzzle key puzzle) t found given new → Sane new
+    IsAction (action.PutPuzzle key puzzle) → NoneDecides world caller (action.PutPuzzle key puzzle) t → Allowed world caller (action.PutPuzzle key puzzle) t found given new → Sane new
 put_step world caller key puzzle t found given new sane is none (text, canonical, inl h) = subst Sane (sym h.4) sane
 put_step world caller key puzzle t found given new sane is none (text, canonical, inr h) =
     subst Sane (sym h.2)
@@ -67,7 +68,7 @@ verdict_set board text names (inr (none, no_form)) = no_form.set
 
 submit_step : (world : World) (caller : Option Person) (id : List ℕ) (number : ℕ) (token answer : List ℕ) (t : ℕ) (found : PuzzleState) (given : Reply) (new : World) → Sane world →
     ((person : Person) → caller ≡ Some person → get world.people person.name ≡ Some person) → IsMoment t → IsAction (action.Submit id number token answer) →
-    NoneBelow 21 world caller (action.Submit id number token answer) t → Allowed world caller (action.Submit id number token answer) t found given new → Sane new
+    NoneDecides world caller (action.Submit id number token answer) t → Allowed world caller (action.Submit id number token answer) t found given new → Sane new
 submit_step world caller id number token answer t found given new sane there timed asked none (person, is, (round, entry, puzzle, verdict, kept, place, grid, told, (reply, made))) =
     let judged : Verdict puzzle.puzzle answer verdict = verdicts_are_judged world sane entry.puzzle puzzle answer verdict grid told in
     let row : AnswerRow = answer_row world person id number token answer t verdict in
@@ -76,7 +77,7 @@ submit_step world caller id number token answer t found given new sane there tim
       | Some r ↦ λ e. absurd ((none rule.TokenTaken (lit< tt)).0 ((4, lit< tt, refl), ((person, is, (r, e)), (λ same. (none rule.TokenTaken (lit< tt)).1 ((4, lit< tt, refl), same)))))
     ] refl in
     let released = released_found world caller (action.Submit id number token answer) id refl (λ missing. (none rule.Missing (lit< tt)).0 ((2, lit< tt, refl), inl missing)) in
-    let room : answers_given world person.name id number < 50 =
+    let room : answers_given world person.name id number < most_answers =
     lt_of_not-le (λ many. (none rule.LimitReached (lit< tt)).0 ((8, lit< tt, refl), (person, is, many))) in
     let in_range : IsAnswerRow row = record {
       key = record { entrant = (sane.typed.in_range.people person.name person (there person is)).name; round = asked.0; number = asked.1; token = asked.2 };
@@ -96,7 +97,7 @@ submit_step world caller id number token answer t found given new sane there tim
 
 allowed_sane : (world : World) (caller : Option Person) (asked : Action) (t : ℕ) (found : PuzzleState) (given : Reply) (new : World) → Sane world →
     ((person : Person) → caller ≡ Some person → get world.people person.name ≡ Some person) → IsMoment t → IsAction asked →
-    NoneBelow 21 world caller asked t → Allowed world caller asked t found given new → Sane new
+    NoneDecides world caller asked t → Allowed world caller asked t found given new → Sane new
 allowed_sane world caller (action.PutPuzzle key puzzle) t found given new sane there timed is none h = put_step world caller key puzzle t found given new sane is none h
 allowed_sane world caller (action.Submit id number token answer) t found given new sane there timed is none h = submit_step world caller id number token answer t found given new sane there timed is none h
 allowed_sane world caller (action.ReadRound id) t found given new sane there timed is none h = subst Sane (sym h.1) sane

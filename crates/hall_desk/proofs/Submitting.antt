@@ -3,7 +3,7 @@ use Rattle.std.proofs.Common.{◌≡◌, ◌+◌, ℕ, Option, Some, None, sym, 
 use Rattle.std.specs.FinMap.{insert}
 use Rattle.hall_policy.specs.World.{World, IsRoundAt}
 use Rattle.hall_policy.specs.Rules.{answers_given}
-use Rattle.hall_policy.specs.Facts.{TrueUpTo, IsRoundFound}
+use Rattle.hall_policy.specs.Facts.{AreTrue, IsRoundFound}
 use Rattle.hall_policy.specs.declared.facts.Facts.{Facts}
 use Rattle.hall_policy.specs.declared.record.Person.{Person}
 use Rattle.hall_policy.specs.declared.record.PuzzleState.TheVariants as state
@@ -22,7 +22,7 @@ use Rattle.hall_desk.specs.declared.reply.Reply.TheVariants as reply
 use Rattle.hall_desk.specs.declared.submit.Submit.{Submit}
 
 module _ (world : World) (facts : Facts) (asked : Submit) (person : Person) (n : ℕ) (caller : facts.caller ≡ Some person)
-    (told : TrueUpTo 20 facts world (submit_action asked)) (numbered : n ≡ facts.count + 1) where
+    (told : AreTrue facts world (submit_action asked)) (numbered : n ≡ facts.count + 1) where
   -- the number is the one after those that were given
   next_number : n ≡ answers_given world person.name asked.round.now asked.number + 1
   next_number = numbered ∙ ap (λ (m : ℕ). m + 1) (told.1.1.1.1.1.1.1.1.0 person caller)

@@ -1,7 +1,8 @@
 -- The plan of a table.
 use Rattle.std.proofs.Common.{◌≡◌, ℕ, List, Option, Some, None, refl, sym, subst}
+use Rattle.hall_policy.specs.Actions.{last_rule}
 use Rattle.hall_policy.specs.World.{IsRoundAt}
-use Rattle.hall_policy.specs.Facts.{TrueUpTo, IsRoundFound}
+use Rattle.hall_policy.specs.Facts.{AreTrue, IsRoundFound}
 use Rattle.hall_policy.specs.Decided.{IsDecided, IsDecidedUpTo}
 use Rattle.hall_policy.specs.declared.facts.Facts.{Facts}
 use Rattle.hall_policy.specs.declared.record.RoundRow.{RoundRow}
@@ -27,14 +28,14 @@ module _ (old mid : Content) (facts : Facts) (t : ℕ) (request : Request) (id :
     (caller : Asks old (λ world. IsCaller world request.key facts.caller)) (kept : Kept old mid)
     (read : mid.honest → mid.serves × IsRoundKept mid.world id facts.round) where
   -- what the rules read was found
-  found : mid.honest → TrueUpTo 20 facts mid.world request.action
+  found : mid.honest → AreTrue facts mid.world request.action
   found h = table_told mid.world facts request.action id is (read h).1.row
 
   -- the caller was found before
   caller_there : mid.honest → IsCaller mid.world request.key facts.caller
   caller_there h = carried (λ w. IsCaller w request.key facts.caller) old mid kept caller h (read h).0
 
-  module _ (decision : Decision) (decided : IsDecidedUpTo 20 facts request.action t decision) where
+  module _ (decision : Decision) (decided : IsDecidedUpTo last_rule facts request.action t decision) where
     -- a table that is denied
     pub table_denied : (rule : ℕ) (plan : Plan) → decision ≡ Deny rule → plan ≡ record { reply = reply.Denied rule; change = Nothing; visits = None } →
         mid.honest → mid.serves × IsPlanFor mid.world t request plan

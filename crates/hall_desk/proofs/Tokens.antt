@@ -1,8 +1,8 @@
 -- A token whose answer was accepted acts once.
-use Rattle.std.proofs.Common.{◌≡◌, ◌≢◌, ◌⊎◌, ◌<◌, ◌≤◌, inl, inr, ℕ, List, Option, Some, None, refl, sym, ap, ◌∙◌, subst, arith, lit<, lit≤}
+use Rattle.std.proofs.Common.{◌≡◌, ◌≢◌, ◌⊎◌, ◌<◌, ◌≤◌, inl, inr, ℕ, List, Option, Some, None, refl, sym, ap, ◌∙◌, subst, arith, lit<, lit≤, suc}
 use Rattle.std.specs.FinMap.{get}
 use Rattle.hall_policy.specs.World.{World}
-use Rattle.hall_policy.specs.Actions.{number_of}
+use Rattle.hall_policy.specs.Actions.{number_of, last_rule}
 use Rattle.hall_policy.specs.Rules.{LacksRole, IsMissing, IsOwnPuzzle, SameContent}
 use Rattle.hall_policy.specs.First.{NoneBelow, Forbids, Repeated}
 use Rattle.hall_policy.specs.declared.rule.Rule.{Rule}
@@ -99,4 +99,4 @@ tokens_act_once world t key person id number token answer row given new is stand
 tokens_act_once world t key person id number token answer row given new is stands (inr (found, (Repeat, (r, repeated, none), (first, left)))) =
     (left, inr (inr (inr (first_reply world (caller_of world key) t person id number token answer row is stands given (repeated_text world (caller_of world key) t person id number token answer row is stands r repeated) first))))
 tokens_act_once world t key person id number token answer row given new is stands (inr (found, (Allow, none, decided))) =
-    absurd (token_decides world (caller_of world key) t person id number token answer row is stands 21 none (lit< tt))
+    absurd (token_decides world (caller_of world key) t person id number token answer row is stands (suc last_rule) none (lit< tt))

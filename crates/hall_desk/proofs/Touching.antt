@@ -4,7 +4,7 @@ use Rattle.std.specs.FinMap.{get, insert}
 use Rattle.hall_grid.specs.Board.{Board}
 use Rattle.hall_policy.specs.World.{World, protest_of}
 use Rattle.hall_policy.specs.Rules.{answers_given}
-use Rattle.hall_policy.specs.First.{NoneBelow}
+use Rattle.hall_policy.specs.First.{NoneDecides}
 use Rattle.hall_policy.specs.declared.rule.Decision.TheVariants.{Allow, Repeat, Deny}
 use Rattle.hall_policy.specs.declared.record.Person.{Person}
 use Rattle.hall_policy.specs.declared.record.ProtestRow.{ProtestRow}
@@ -297,7 +297,7 @@ allowed_touches world caller (action.Table id) t found given new h = touches_not
 -- the request was allowed, and so touches the maps; or the people of the list joined
 abbrev pub Changes : World → Event → World → Type 0
 Changes world (requested t request given) next =
-    NoneBelow 21 world (caller_of world request.key) request.action t × Touches world (caller_of world request.key) request.action t given next
+    NoneDecides world (caller_of world request.key) request.action t × Touches world (caller_of world request.key) request.action t given next
 Changes world (seeded people given) next = (count : ℕ) × (given ≡ reply.Import count) × (next ≡ record world { people = with_people world.people people })
 
 -- an event leaves the world, or changes it so

@@ -3,8 +3,8 @@ use Rattle.std.proofs.Common.{◌≡◌, ◌∙◌, ℕ, Option, Some, None, Lis
 use Rattle.std.specs.Prelude.{Result, Ok, Err, IfOk, IfSome}
 use Rattle.std.specs.FinMap.{get}
 use Rattle.hall_policy.specs.World.{World}
-use Rattle.hall_policy.specs.Facts.{TrueUpTo}
-use Rattle.hall_policy.specs.First.{First, NoneBelow}
+use Rattle.hall_policy.specs.Facts.{AreTrue}
+use Rattle.hall_policy.specs.First.{First, NoneDecides}
 use Rattle.hall_policy.specs.Decided.{IsDecided}
 use Rattle.hall_policy.specs.declared.facts.Facts.{Facts}
 use Rattle.hall_policy.specs.declared.record.Person.{Person}
@@ -28,7 +28,7 @@ use Rattle.hall_desk.specs.declared.table_copy.TableCopy.{TableCopy}
 use Rattle.hall_store.proofs.Knowing.{carried}
 
 -- no rule that a Certify is asked speaks of the moment, since it names no round
-pub at_any_moment : (world : World) (caller : Option Person) (key : PuzzleKey) (budget t later : ℕ) → NoneBelow 21 world caller (Certify key budget) t → NoneBelow 21 world caller (Certify key budget) later
+pub at_any_moment : (world : World) (caller : Option Person) (key : PuzzleKey) (budget t later : ℕ) → NoneDecides world caller (Certify key budget) t → NoneDecides world caller (Certify key budget) later
 at_any_moment world caller key budget t later none rule.NotStarted below = ((λ (among, (director, reads, (id, round, named, kept, is))). absurd cc), (none rule.NotStarted below).1)
 at_any_moment world caller key budget t later none rule.Ended below = ((λ (among, (id, round, named, kept, is)). absurd cc), (none rule.Ended below).1)
 at_any_moment world caller key budget t later none rule.NotEnded below = ((λ (among, (id, round, named, kept, is)). absurd cc), (none rule.NotEnded below).1)
@@ -41,7 +41,7 @@ module _ (world : World) (request : Request) (facts : Facts) (sender : List ℕ)
     (asks : request.action ≡ Certify key budget) (sent : request.key ≡ Some sender) (caller : IsCaller world request.key facts.caller)
     (decided : IsDecided world facts request.action t Allow) where
   looked_up : facts.puzzle ≡ get world.puzzles key
-  looked_up = (subst (λ (a : Action). TrueUpTo 20 facts world a) asks decided.told).1.1.1.0
+  looked_up = (subst (λ (a : Action). AreTrue facts world a) asks decided.told).1.1.1.0
 
   allowed : (later : ℕ) → First world (caller_of world request.key) request.action later Allow
   allowed later =

@@ -21,7 +21,7 @@ use Rattle.hall_policy.specs.declared.facts.Facts.{Facts}
 use Rattle.hall_store.specs.Store.{Content, Leads, LeavesOneOf, Over, WritesOnce}
 use Rattle.hall_store.specs.declared.fault.StoreFault.{StoreFault}
 use Rattle.hall_store.specs.declared.fault.StoreFault.TheVariants.{Failed}
-use Rattle.hall_policy.specs.Facts.{TrueUpTo}
+use Rattle.hall_policy.specs.Facts.{AreTrue}
 use Rattle.hall_desk.specs.Sane.{Sane}
 use Rattle.hall_desk.specs.Judged.{IsVerdictOn}
 use Rattle.hall_grid.specs.Board.{Board}
@@ -93,7 +93,7 @@ pub record IsAllowedPlan (world : World) (caller : Option Person) (action : Acti
 -- the plan is that of the allowed action in each world that the facts are true of
 abbrev pub IsPlanOf : Facts → Action → Plan → Type 0
 IsPlanOf facts action plan =
-    (world : World) → TrueUpTo 20 facts world action → (t : ℕ) → IsAllowedPlan world facts.caller action t plan
+    (world : World) → AreTrue facts world action → (t : ℕ) → IsAllowedPlan world facts.caller action t plan
 
 -- the plan's reply and change are those of the allowed action, with what its search found, and the change may be
 -- made; an action that has nothing to write changes nothing
@@ -107,7 +107,7 @@ pub record IsMadePlan (world : World) (caller : Option Person) (action : Action)
 -- the plan is that of the allowed action, with what its search found, in each world that the facts are true of
 abbrev pub IsSearchPlanOf : Facts → Action → Plan → Type 0
 IsSearchPlanOf facts action plan =
-    (world : World) → TrueUpTo 20 facts world action → (t : ℕ) → IsMadePlan world facts.caller action t plan
+    (world : World) → AreTrue facts world action → (t : ℕ) → IsMadePlan world facts.caller action t plan
 
 -- the plan counts and adds the people of the list whose names are unknown
 pub record IsImportPlan (world : World) (people : List Person) (plan : Plan) : Type 0 where

@@ -3,6 +3,7 @@ use Rattle.std.specs.Prelude.{◌≡◌, ◌≢◌, ◌≤◌, ℕ, List, Some, 
 use Rattle.std.specs.FinMap.{get}
 use Rattle.hall_grid.specs.Board.{Board}
 use Rattle.hall_grid.specs.Answer.{AnswerText, IsFilling, Verdict}
+use Rattle.hall_policy.specs.Limits.{most_answers, most_protests, most_puzzles}
 use Rattle.hall_solve.specs.Puzzle.{IsRight}
 use Rattle.hall_policy.specs.World.{World, IsTesterOf}
 use Rattle.hall_policy.specs.Ranges.{IsWorld}
@@ -111,6 +112,6 @@ pub record Sane (world : World) : Type 0 where
   pub apart : (name : List ℕ) (person : Person) → get world.people name ≡ Some person → IsTrue person.roles.director →
       IsTrue person.roles.entrant → ⊥
   -- the limits
-  pub few_answers : (entrant round : List ℕ) (number : ℕ) → answers_given world entrant round number ≤ 50
-  pub few_protests : (entrant round : List ℕ) → protests_made world entrant round ≤ 5
-  pub few_puzzles : (author : List ℕ) → puzzles_put world author ≤ 500
+  pub few_answers : (entrant round : List ℕ) (number : ℕ) → answers_given world entrant round number ≤ most_answers
+  pub few_protests : (entrant round : List ℕ) → protests_made world entrant round ≤ most_protests
+  pub few_puzzles : (author : List ℕ) → puzzles_put world author ≤ most_puzzles

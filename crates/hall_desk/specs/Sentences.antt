@@ -4,6 +4,7 @@ use Rattle.std.specs.List.{filter}
 use Rattle.std.specs.FinMap.{get, entries, values}
 use Rattle.hall_grid.specs.Board.{Board}
 use Rattle.hall_grid.specs.Answer.{AnswerText}
+use Rattle.hall_policy.specs.Limits.{most_answers, most_protests, most_puzzles, most_testers}
 use Rattle.hall_policy.specs.Lists.{AreEntries}
 use Rattle.hall_policy.specs.World.{World, same_text}
 use Rattle.hall_policy.specs.Rules.{StandsReleased, IsCertified, answers_given, protests_made, puzzles_put}
@@ -36,9 +37,9 @@ abbrev pub IsKnown : World → List ℕ → Type 0
 IsKnown world name = get world.people name ≢ None
 
 -- ---- of a puzzle
--- the author has at most 500 puzzles
+-- the author has no more puzzles than are allowed
 abbrev pub HasFewPuzzles : World → PuzzleRow → Type 0
-HasFewPuzzles world row = puzzles_put world row.key.author ≤ 500
+HasFewPuzzles world row = puzzles_put world row.key.author ≤ most_puzzles
 
 -- in state one the stored solution is a solution of the puzzle
 abbrev pub HasSolution : Board → PuzzleState → Type 0
@@ -54,7 +55,7 @@ HasSolution puzzle state.New = Unit {0}
 abbrev pub places_of_round : World → List ℕ → List (PlaceKey × Entry)
 places_of_round world id = filter (λ place. same_text place.0.round id) (entries world.places)
 
--- the round has 1 to 40 puzzles, none twice, numbered from 1
+-- the round has a puzzle or more, no more than are allowed, none twice, numbered from 1
 abbrev pub HasList : World → List ℕ → Type 0
 HasList world id = (list : List Entry) × (places_of_round world id ≡ places_from id 1 list) × AreEntries list
 
@@ -64,9 +65,9 @@ IsListTold places id (Some list) = filter (λ place. same_text place.0.round id)
 IsListTold places id None =
     (list : List Entry) → ¬ (filter (λ place. same_text place.0.round id) places ≡ places_from id 1 list)
 
--- the round has at most 20 testers
+-- the round has no more testers than are allowed
 abbrev pub HasFewTesters : World → List ℕ → Type 0
-HasFewTesters world id = count_by (λ tester. same_text tester.0.round id) (entries world.testers) ≤ 20
+HasFewTesters world id = count_by (λ tester. same_text tester.0.round id) (entries world.testers) ≤ most_testers
 
 -- a published round is released
 abbrev pub IsReleasedFirst : Round → Type 0
@@ -124,9 +125,9 @@ is_numbered_alike row other =
 abbrev pub IsNumberedOnce : World → AnswerRow → Type 0
 IsNumberedOnce world row = count_by (is_numbered_alike row) (values world.answers) ≤ 1
 
--- its entrant has at most 50 answers to the puzzle
+-- its entrant has no more answers to the puzzle than are allowed
 abbrev pub IsOneOfFewAnswers : World → AnswerRow → Type 0
-IsOneOfFewAnswers world row = answers_given world row.key.entrant row.key.round row.key.number ≤ 50
+IsOneOfFewAnswers world row = answers_given world row.key.entrant row.key.round row.key.number ≤ most_answers
 
 -- ---- of a protest
 -- it is no open protest in a published round
@@ -134,6 +135,6 @@ abbrev pub IsRuledFirst : World → ProtestRow → Type 0
 IsRuledFirst world row =
     (round : Round) → get world.rounds row.key.round ≡ Some round → IsTrue round.published → row.ruling ≢ None
 
--- its entrant has at most 5 protests in the round
+-- its entrant has no more protests in the round than are allowed
 abbrev pub IsOneOfFewProtests : World → ProtestRow → Type 0
-IsOneOfFewProtests world row = protests_made world row.key.entrant row.key.round ≤ 5
+IsOneOfFewProtests world row = protests_made world row.key.entrant row.key.round ≤ most_protests

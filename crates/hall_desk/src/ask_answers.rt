@@ -9,7 +9,7 @@ use crate::group::{ToPuzzle, WithNumber};
 use crate::tally::{KeyOf, count_at};
 use crate::verdict::judge;
 use crate::whole::Whole;
-use hall_policy::{AnswerRow, Name, Person, PuzzleNumber, RoundId};
+use hall_policy::{AnswerRow, MOST_ANSWERS, Name, Person, PuzzleNumber, RoundId};
 use hall_store::Place;
 use std::alloc::{AllocError, Global};
 use std::collections::BTreeMap;
@@ -157,7 +157,7 @@ impl<'a> Ask<AnswerRow> for NumberedOnce<'a> {
     }
 }
 
-/// The entrant has at most 50 answers to the puzzle.
+/// The entrant has at most `MOST_ANSWERS` answers to the puzzle.
 #[derive(Clone, Copy)]
 pub(crate) struct FewAnswers<'a> {
     pub(crate) whole: &'a Whole,
@@ -177,7 +177,7 @@ impl<'a> Ask<AnswerRow> for FewAnswers<'a> {
 
     fn is_true_of(&self, _alloc: Global, row: &AnswerRow) -> Result<bool, AllocError> {
         let key = ToPuzzle::of(row)?;
-        Ok(count_at(self.counts, &key) <= 50)
+        Ok(count_at(self.counts, &key) <= MOST_ANSWERS)
     }
 }
 

@@ -4,7 +4,7 @@ use crate::ask_answers::{has_place, may_take_part};
 use crate::group::InRound;
 use crate::tally::{KeyOf, count_at};
 use crate::whole::Whole;
-use hall_policy::ProtestRow;
+use hall_policy::{MOST_PROTESTS, ProtestRow};
 use std::alloc::{AllocError, Global};
 use std::collections::BTreeMap;
 
@@ -106,7 +106,7 @@ impl<'a> Ask<ProtestRow> for RuledFirst<'a> {
     }
 }
 
-/// The entrant has at most 5 protests in the round.
+/// The entrant has at most `MOST_PROTESTS` protests in the round.
 #[derive(Clone, Copy)]
 pub(crate) struct FewProtests<'a> {
     pub(crate) whole: &'a Whole,
@@ -126,6 +126,6 @@ impl<'a> Ask<ProtestRow> for FewProtests<'a> {
 
     fn is_true_of(&self, _alloc: Global, row: &ProtestRow) -> Result<bool, AllocError> {
         let key = InRound::of(row)?;
-        Ok(count_at(self.counts, &key) <= 5)
+        Ok(count_at(self.counts, &key) <= MOST_PROTESTS)
     }
 }

@@ -7,7 +7,7 @@ use crate::tally::{KeyOf, count_at};
 use crate::verdict::judge;
 use crate::whole::Whole;
 use hall_grid::Puzzle;
-use hall_policy::{Name, PuzzleRow, PuzzleState};
+use hall_policy::{MOST_PUZZLES, Name, PuzzleRow, PuzzleState};
 use std::alloc::{AllocError, Global};
 use std::collections::BTreeMap;
 
@@ -38,7 +38,7 @@ impl KeyOf<PuzzleRow> for Name {
     }
 }
 
-/// The author has at most 500 puzzles.
+/// The author has at most `MOST_PUZZLES` puzzles.
 #[derive(Clone, Copy)]
 pub(crate) struct FewPuzzles<'a> {
     pub(crate) whole: &'a Whole,
@@ -57,7 +57,7 @@ impl<'a> Ask<PuzzleRow> for FewPuzzles<'a> {
         × IsTally text_cmp (λ row. row.key.author) ask.whole.now.puzzles.items ask.counts.now.entries };
 
     fn is_true_of(&self, _alloc: Global, row: &PuzzleRow) -> Result<bool, AllocError> {
-        Ok(count_at(self.counts, &row.key.author) <= 500)
+        Ok(count_at(self.counts, &row.key.author) <= MOST_PUZZLES)
     }
 }
 

@@ -7,12 +7,12 @@ use crate::ask::Ask;
 use crate::rows::push;
 use crate::tally::{KeyOf, count_at};
 use crate::whole::Whole;
-use hall_policy::{Entries, Entry, Round, RoundId};
+use hall_policy::{Entries, Entry, MOST_TESTERS, Round, RoundId};
 use hall_store::{Place, Tester};
 use std::alloc::{AllocError, Global};
 use std::collections::BTreeMap;
 
-/// The round has 1 to 40 puzzles, none twice, numbered from 1.
+/// The round has 1 to `MOST_ENTRIES` puzzles, none twice, numbered from 1.
 #[derive(Clone, Copy)]
 pub(crate) struct ListWhole<'a> {
     pub(crate) whole: &'a Whole,
@@ -81,7 +81,7 @@ impl KeyOf<Tester> for RoundId {
     }
 }
 
-/// The round has at most 20 testers.
+/// The round has at most `MOST_TESTERS` testers.
 #[derive(Clone, Copy)]
 pub(crate) struct FewTesters<'a> {
     pub(crate) whole: &'a Whole,
@@ -100,7 +100,7 @@ impl<'a> Ask<Round> for FewTesters<'a> {
         × IsTally text_cmp (λ tester. tester.0.round) ask.whole.now.testers.items ask.counts.now.entries };
 
     fn is_true_of(&self, _alloc: Global, row: &Round) -> Result<bool, AllocError> {
-        Ok(count_at(self.counts, &row.id) <= 20)
+        Ok(count_at(self.counts, &row.id) <= MOST_TESTERS as u64)
     }
 }
 

@@ -9,7 +9,7 @@ use std::alloc::{AllocError, Global};
 pub(crate) trait Handler {
     ghost use Rattle.std.specs.Prelude.{◌≡◌, IfOk, IfSome, IfNone};
     ghost use Rattle.hall_policy.specs.World.{World};
-    ghost use Rattle.hall_policy.specs.Facts.{TrueUpTo, deciding};
+    ghost use Rattle.hall_policy.specs.Facts.{TrueUpTo, deciding, AreTrue};
     ghost use Rattle.hall_policy.specs.Implies.{Implies, IsAllowable, IsRepetition};
     ghost use Rattle.hall_policy.specs.Decided.{IsDecided, PassesUpTo};
     ghost use Rattle.hall_policy.specs.declared.request.Action.{Action};
@@ -58,7 +58,7 @@ pub(crate) trait Handler {
         facts: &Facts,
     ) -> Result<Plan, StoreFault>
         requires allowed { IsAllowable facts.now (action_of self.now) }
-        requires told { Asks (S.content store.old) (λ world. TrueUpTo 20 facts.now world (action_of self.now)) }
+        requires told { Asks (S.content store.old) (λ world. AreTrue facts.now world (action_of self.now)) }
         requires there { Asks (S.content store.old) (λ world. IsThere world facts.now.caller) }
         ensures kept { Kept (S.content store.old) (S.content store.new) }
         ensures fault { FailsIn S.can_fail (S.content store.new) result }

@@ -1,6 +1,7 @@
 //! ReadRound: a round with its puzzles' texts.
 ghost use Rattle.std.specs.Prelude.{◌≡◌, ◌≢◌, ◌≤◌, ◌<◌, ◌+◌, None, length};
 ghost use Rattle.std.specs.FinMap.{get};
+ghost use Rattle.hall_policy.specs.Limits.{most_entries};
 ghost use Rattle.hall_store.specs.Store.{Asks, Kept, Told};
 ghost use Rattle.hall_desk.specs.Sane.{Sane};
 ghost use Rattle.hall_desk.specs.Shown.{ShowsRound, ShowsPuzzles, ShowsPuzzle};
@@ -94,7 +95,7 @@ fn show_puzzles<S: ReadStore>(
     store: &mut S,
     entries: &[Entry],
 ) -> Result<Rows<ShownPuzzle>, StoreFault>
-    requires few { length entries.now ≤ 40 }
+    requires few { length entries.now ≤ most_entries }
     requires listed { Asks (S.content store.old) (λ world. Sane world → AreKept world entries.now) }
     ensures kept { Kept (S.content store.old) (S.content store.new) }
     ensures fault { FailsIn S.can_fail (S.content store.new) result }
@@ -116,7 +117,7 @@ fn show_puzzle<S: ReadStore>(
     place: usize,
     entry: &Entry,
 ) -> Result<ShownPuzzle, StoreFault>
-    requires few { place < 40 }
+    requires few { place < most_entries }
     requires listed { Asks (S.content store.old) (λ world. Sane world → get world.puzzles entry.now.puzzle ≢ None) }
     ensures kept { Kept (S.content store.old) (S.content store.new) }
     ensures fault { FailsIn S.can_fail (S.content store.new) result }

@@ -20,13 +20,13 @@ pub enum Sentence {
     RolesApart,
     /// The puzzle's author is there.
     AuthorThere,
-    /// The puzzle's author has at most 500 puzzles.
+    /// The puzzle's author has at most `MOST_PUZZLES` puzzles.
     FewPuzzles,
     /// A puzzle in state one has its stored solution as a solution.
     SolutionRight,
-    /// The round has 1 to 40 puzzles, none twice, numbered from 1.
+    /// The round has 1 to `MOST_ENTRIES` puzzles, none twice, numbered from 1.
     ListWhole,
-    /// The round has at most 20 testers.
+    /// The round has at most `MOST_TESTERS` testers.
     FewTesters,
     /// A published round is released.
     ReleasedFirst,
@@ -56,7 +56,7 @@ pub enum Sentence {
     Numbered,
     /// No other answer of its entrant to the puzzle has the answer's number.
     NumberedOnce,
-    /// The entrant of the answer has at most 50 to the puzzle.
+    /// The entrant of the answer has at most `MOST_ANSWERS` to the puzzle.
     FewAnswers,
     /// The entrant of the protest is there.
     ProtesterThere,
@@ -68,7 +68,7 @@ pub enum Sentence {
     MayProtest,
     /// A protest in a published round is ruled.
     RuledFirst,
-    /// The entrant of the protest has at most 5 in the round.
+    /// The entrant of the protest has at most `MOST_PROTESTS` in the round.
     FewProtests,
     /// The puzzle's state is what a search of it finds.
     StateTrue,

@@ -1,5 +1,6 @@
 //! Submit: an answer to a puzzle of a round is judged and stored.
 ghost use Rattle.std.specs.Prelude.{◌≡◌, ◌+◌, ◌<◌, IfOk, Some};
+ghost use Rattle.hall_policy.specs.Limits.{most_answers};
 ghost use Rattle.hall_policy.specs.World.{entry_at};
 ghost use Rattle.hall_policy.specs.Implies.{EntryIsThere};
 ghost use Rattle.hall_policy.specs.declared.record.Entry.{Entry};
@@ -148,7 +149,7 @@ fn count_answers<S: ReadStore>(
 
 /// The number of the answer after so many.
 fn number_after(count: u64) -> AnswerNumber
-    requires { count < 50 }
+    requires { count < most_answers }
     ensures { result ≡ count + 1 }
 {
     let Some(n) = AnswerNumber::new(count + 1) else {

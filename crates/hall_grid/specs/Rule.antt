@@ -1,6 +1,7 @@
 -- The names of rules, sets of them as numbers, and how a verdict is written.
 use Rattle.std.specs.Prelude.{◌≡◌, ◌↔◌, ◌⊎◌, IsTrue, ℕ, ◌<◌, Bool, not, List, [], ◌∷◌, ◌++◌, codes, bit_and, ◌^◌, ◌==◌, if◌then◌else◌, IsBitSet}
 use Rattle.std.specs.List.{flat_map}
+use Rattle.hall_grid.specs.declared.rule.TheConstants.{NAMES}
 use Rattle.hall_grid.specs.declared.rule.Rule.{Rule}
 use Rattle.hall_grid.specs.declared.rule.Rule.TheVariants.{A0, U1, U2, U3, U4, S1, S2, S3, S4, S5, N1, N2, N3, N4, N5, N6}
 
@@ -29,7 +30,7 @@ Names names rule = IsBitSet names (place rule)
 
 -- a set has no names beyond those of the table
 abbrev pub IsNameSet : ℕ → Type 0
-IsNameSet names = names < 2 ^ 16
+IsNameSet names = names < 2 ^ NAMES
 
 -- new is old with the name where its sentence holds
 pub record Adds (old new : ℕ) (rule : Rule) (holds : Bool) : Type 0 where

@@ -12,6 +12,7 @@ use Rattle.std.proofs.lemmas.List.Sums.{list_all-from_AllPass, AllPass-from_list
 use Rattle.std.proofs.lemmas.List.Folds.{list_all-append}
 use Rattle.std.proofs.lemmas.Fmt.{length-decimal-le, digits_decimal}
 use Rattle.std.proofs.Math.Seq.{drop-append-add}
+use Rattle.hall_policy.specs.Limits.{last_second}
 use Rattle.hall_http.specs.Words.{cut, decimal_in}
 use Rattle.hall_http.specs.Records.{header_of, header_in, numbers_in}
 use Rattle.hall_http.proofs.Texts.{own, AreDigits, number_writes, number_reads}
@@ -34,7 +35,7 @@ header_free m n small few =
     list_all-append (λ y. not (y == 10)) (decimal m) (32 ∷ decimal n)
     ∙ and_from _ _ (decimal_free 10 m (omega arith) small) (decimal_free 10 n (omega arith) few)
 
-pub header_short : (m n : ℕ) → m ≤ 4102444800 → n ≤ 73728 → length (header_of m n) ≤ 17
+pub header_short : (m n : ℕ) → m ≤ last_second → n ≤ 73728 → length (header_of m n) ≤ 17
 header_short m n late long =
     let a : length (decimal m) ≤ 10 = length-decimal-le 10 m (omega arith) (omega arith) (omega arith) in
     let b : length (decimal n) ≤ 5 = length-decimal-le 5 n (omega arith) (omega arith) (omega arith) in
@@ -54,7 +55,7 @@ cut_at x a b f =
     rw (place_at x a b f, lt-ltb _ _ inside, front, rest) refl
 
 -- what was written is read
-pub header_reads : (m n : ℕ) → m ≤ 4102444800 → n ≤ 73728 → header_in (header_of m n) ≡ Some (m, n)
+pub header_reads : (m n : ℕ) → m ≤ last_second → n ≤ 73728 → header_in (header_of m n) ≡ Some (m, n)
 header_reads m n late long =
     let small : m < 2 ^ 64 = omega arith in
     let few : n < 2 ^ 64 = omega arith in
@@ -62,7 +63,7 @@ header_reads m n late long =
       cut_at 32 (decimal m) (decimal n) (decimal_free 32 m (omega arith) small),
       number_reads m small,
       number_reads n few,
-      le-leb m 4102444800 late,
+      le-leb m last_second late,
       le-leb n 73728 long,
     ) refl
 
@@ -85,7 +86,7 @@ marked [] e = absurd cc
 marked (y ∷ rest) e = ap (λ z. z ∷ rest) (sym (eqb-true 64 y (and_parts _ _ e).0))
 
 numbers_told : (a b : List ℕ) (m n : ℕ) → numbers_in (a, b) ≡ Some (m, n)
-    → (a ≡ decimal m) × (b ≡ decimal n) × (m ≤ 4102444800) × (n ≤ 73728)
+    → (a ≡ decimal m) × (b ≡ decimal n) × (m ≤ last_second) × (n ≤ 73728)
 numbers_told a b m n e =
     let (x, xs, more) = and_then_some _ (decimal_in a) (m, n) e in
     let (y, ys, last) = and_then_some _ (decimal_in b) (m, n) more in
@@ -95,13 +96,13 @@ numbers_told a b m n e =
     let second : y ≡ n = ap (λ p. p.1) same in (
       (number_writes a x xs).0 ∙ ap decimal first,
       (number_writes b y ys).0 ∙ ap decimal second,
-      rw first at (leb-true x 4102444800 late),
+      rw first at (leb-true x last_second late),
       rw second at (leb-true y 73728 long),
     )
 
 -- what is read was written
 pub header_writes : (line : List ℕ) (m n : ℕ) → header_in line ≡ Some (m, n)
-    → (line ≡ header_of m n) × (m ≤ 4102444800) × (n ≤ 73728)
+    → (line ≡ header_of m n) × (m ≤ last_second) × (n ≤ 73728)
 header_writes line m n e =
     let (parts, cuts, numbers) = and_then_some numbers_in _ (m, n) e in
     let (rest, fronts, halves) = and_then_some (cut 32) _ parts cuts in

@@ -6,6 +6,7 @@ use Rattle.std.specs.Str.{bytes_eq, is_utf8}
 use Rattle.serde_json.specs.Data.{Members, no_members, member}
 use Rattle.serde_json.specs.Read.{read}
 use Rattle.serde_json.specs.Find.{get_member, as_object, as_bool, as_str, as_number, as_integer}
+use Rattle.hall_policy.specs.Limits.{most_number, most_points, most_visits}
 use Rattle.hall_policy.specs.Text.{as_answer, as_puzzle_text, as_protest_text}
 use Rattle.hall_policy.specs.declared.record.Ruling.{Ruling}
 use Rattle.hall_policy.specs.declared.record.Ruling.TheVariants.{Upheld, Rejected}
@@ -64,7 +65,7 @@ text_in_body body = object_in (codes "text" ∷ []) body >>= text_among
 -- the budget among the members: 0 to 1,000,000
 abbrev pub budget_among : Members → Result ℕ FormFault
 budget_among ms =
-    integer_of_member field.Budget (codes "budget") ms >>= in_range_or_fault (fault.Range field.Budget) 0 1000000
+    integer_of_member field.Budget (codes "budget") ms >>= in_range_or_fault (fault.Range field.Budget) 0 most_visits
 
 -- the budget of a body
 abbrev pub budget_in_body : List ℕ → Result ℕ FormFault
@@ -74,7 +75,7 @@ budget_in_body body = object_in (codes "budget" ∷ []) body >>= budget_among
 abbrev pub protest_among : Members → Result (ℕ × List ℕ) FormFault
 protest_among ms =
     integer_of_member field.Number (codes "number") ms
-    >>= in_range_or_fault (fault.Range field.Number) 1 99
+    >>= in_range_or_fault (fault.Range field.Number) 1 most_number
     >>= (λ number. text_of_member field.Text (codes "text") ms
     >>= as_protest_text (of_kind (fault.Range field.Text))
     >>= (λ text. Ok (number, text)))
@@ -85,8 +86,8 @@ protest_in_body body = object_in (codes "number" ∷ codes "text" ∷ []) body >
 
 -- the points of a ruling: -1,000 to 1,000
 abbrev pub points_in : ℤ → Result ℤ FormFault
-points_in (pos n) = unless (fault.Range field.Points) (nat_le n 1000) >>= (λ _. Ok (pos n))
-points_in (negsuc n) = unless (fault.Range field.Points) (nat_le (suc n) 1000) >>= (λ _. Ok (negsuc n))
+points_in (pos n) = unless (fault.Range field.Points) (nat_le n most_points) >>= (λ _. Ok (pos n))
+points_in (negsuc n) = unless (fault.Range field.Points) (nat_le (suc n) most_points) >>= (λ _. Ok (negsuc n))
 
 -- the ruling of these points: where the protest isn't upheld there are none
 abbrev pub ruling_from : ℤ → Bool → Result Ruling FormFault

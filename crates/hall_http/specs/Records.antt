@@ -2,6 +2,7 @@
 use Rattle.std.specs.Prelude.{◌≡◌, ◌≢◌, ◌<◌, ◌≤◌, ◌-◌, ◌&&◌, nat_le, if◌then◌else◌, ℕ, List, ◌∷◌, ◌++◌, length}
 use Rattle.std.specs.Prelude.{take, drop}
 use Rattle.std.specs.Prelude.{flat_map, All, Option, Some, None, option_and_then, codes, decimal}
+use Rattle.hall_policy.specs.Limits.{last_second}
 use Rattle.hall_http.specs.declared.record.RecordCut.{RecordCut}
 use Rattle.hall_http.specs.declared.record.RecordCut.TheVariants.{Whole, More, Never}
 use Rattle.hall_http.specs.Words.{cut, after_front, decimal_in}
@@ -13,7 +14,7 @@ pub record Record : Type 0 where
 
 -- the moment is one, and the request has at most 73,728 bytes
 pub record IsRecord (r : Record) : Type 0 where
-  pub moment : r.moment ≤ 4102444800
+  pub moment : r.moment ≤ last_second
   pub size : length r.request ≤ 73728
 
 -- @MOMENT LENGTH, without the line feed
@@ -47,7 +48,7 @@ pub record Records (stream : List ℕ) (records : List Record) (rest : List ℕ)
 
 -- a moment and a length, where they are in their ranges
 abbrev pub in_ranges : ℕ → ℕ → Option (ℕ × ℕ)
-in_ranges moment size = if nat_le moment 4102444800 && nat_le size 73728 then Some (moment, size) else None
+in_ranges moment size = if nat_le moment last_second && nat_le size 73728 then Some (moment, size) else None
 
 -- what a header's numbers say: a moment and a length in their ranges
 abbrev pub numbers_in : List ℕ × List ℕ → Option (ℕ × ℕ)

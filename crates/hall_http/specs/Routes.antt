@@ -12,6 +12,7 @@ use Rattle.std.specs.Prelude.{nat_le}
 use Rattle.std.specs.List.{list_all}
 use Rattle.std.specs.Char.{is_ascii}
 use Rattle.std.specs.Str.{bytes_eq}
+use Rattle.hall_policy.specs.Limits.{most_number}
 use Rattle.hall_policy.specs.Text.{as_word, as_token}
 use Rattle.hall_policy.specs.Reading.{◌>>=◌, or_fault, unless, of_kind}
 use Rattle.hall_policy.specs.declared.record.PuzzleKey.{PuzzleKey}
@@ -80,7 +81,8 @@ token_in_path text = as_token (of_kind fault.NoRoute) text
 -- a puzzle's number: 1 to 99 in decimal
 abbrev pub puzzle_number : List ℕ → Result ℕ FormFault
 puzzle_number text =
-    or_fault fault.NoRoute (decimal_in text) >>= (λ n. unless fault.NoRoute (nat_le 1 n && nat_le n 99) >>= (λ _. Ok n))
+    or_fault fault.NoRoute (decimal_in text) >>=
+    (λ n. unless fault.NoRoute (nat_le 1 n && nat_le n most_number) >>= (λ _. Ok n))
 
 -- nothing, where the method is this one
 abbrev pub by_method : List ℕ → List ℕ → Result (Unit {0}) FormFault

@@ -3,6 +3,7 @@ use Rattle.std.proofs.Common.{◌≡◌, ◌≢◌, ◌↔◌, ◌==◌, ◌&&�
 use Rattle.std.specs.List.{AllByRecursion}
 use Rattle.std.specs.Option.{option_map}
 use Rattle.std.specs.FinMap.{FinMap, get}
+use Rattle.hall_policy.specs.Limits.{most_answers, most_protests}
 use Rattle.hall_policy.specs.World.{World, puzzle_cmp, answer_cmp, protest_cmp, answer_of, protest_of, same_text}
 use Rattle.hall_policy.specs.Ranges.{IsWorld}
 use Rattle.hall_policy.specs.Actions.{rules_asked}
@@ -141,17 +142,17 @@ module _ (ex : List ℕ → List ℕ → List ℕ) (hidden : List ℕ → Bool) 
     both_not f g = ((λ h. (f.0 h.0, λ s. h.1 (g.1 s))), (λ h. (f.1 h.0, λ r. h.1 (g.0 r))))
 
     few_answers : (id : List ℕ) (number : ℕ) →
-        TheCaller caller (λ person. 50 ≤ answers_given world person.name id number) ↔ TheCaller caller (λ person. 50 ≤ answers_given other person.name id number)
+        TheCaller caller (λ person. most_answers ≤ answers_given world person.name id number) ↔ TheCaller caller (λ person. most_answers ≤ answers_given other person.name id number)
     few_answers id number = (
-      (λ (person, is, many). (person, is, subst (λ n. 50 ≤ n) (given_alike person (own person is) id number) many)),
-      (λ (person, is, many). (person, is, subst (λ n. 50 ≤ n) (sym (given_alike person (own person is) id number)) many)),
+      (λ (person, is, many). (person, is, subst (λ n. most_answers ≤ n) (given_alike person (own person is) id number) many)),
+      (λ (person, is, many). (person, is, subst (λ n. most_answers ≤ n) (sym (given_alike person (own person is) id number)) many)),
     )
 
     few_protests : (id : List ℕ) →
-        TheCaller caller (λ person. 5 ≤ protests_made world person.name id) ↔ TheCaller caller (λ person. 5 ≤ protests_made other person.name id)
+        TheCaller caller (λ person. most_protests ≤ protests_made world person.name id) ↔ TheCaller caller (λ person. most_protests ≤ protests_made other person.name id)
     few_protests id = (
-      (λ (person, is, many). (person, is, subst (λ n. 5 ≤ n) (made_alike person (own person is) id) many)),
-      (λ (person, is, many). (person, is, subst (λ n. 5 ≤ n) (sym (made_alike person (own person is) id)) many)),
+      (λ (person, is, many). (person, is, subst (λ n. most_protests ≤ n) (made_alike person (own person is) id) many)),
+      (λ (person, is, many). (person, is, subst (λ n. most_protests ≤ n) (sym (made_alike person (own person is) id)) many)),
     )
 
     involved : (id entrant token : List ℕ) (ruling : Ruling) →

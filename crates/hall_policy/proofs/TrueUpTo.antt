@@ -1,6 +1,7 @@
 -- From facts that are true up to a rule to what one rule reads, and to fewer rules.
-use Rattle.std.proofs.Common.{◌≡◌, ℕ, zero, suc, ◌≤◌, Bool, true, false, nat_le, List, [], ◌∷◌, Some, None, Contains, slice_get, arith, refl, ap, subst, ◌∙◌}
-use Rattle.std.specs.List.{AllByRecursion}
+use Rattle.std.proofs.Common.{◌≡◌, ℕ, zero, suc, ◌<◌, ◌≤◌, Bool, true, false, ◌&&◌, nat_le, nat_lt, List, [], ◌∷◌, drop, Some, None, Contains, slice_get, arith, refl, sym, ap, subst, ◌∙◌}
+use Rattle.std.specs.List.{AllByRecursion, list_all}
+use borrow.Author.Tests.{leb-true, lt-leb, ltb-true}
 use Rattle.std.proofs.lemmas.Option.{slice_get-get_or}
 use Rattle.std.proofs.lemmas.Bool.Decides.{nat_tests}
 use Rattle.hall_policy.specs.World.{World}
@@ -52,3 +53,37 @@ less_of m n facts world action (x ∷ rules) l h = (
 -- facts that are true up to a rule are so up to an earlier one
 pub true_up_to_less : (m n : ℕ) (facts : Facts) (world : World) (action : Action) → m ≤ n → TrueUpTo n facts world action → TrueUpTo m facts world action
 true_up_to_less m n facts world action l told = less_of m n facts world action (rules_asked action) l told
+
+-- the facts are true up to a rule where each of the rules asked up to there is told what it reads
+pub told_of : (n : ℕ) (facts : Facts) (world : World) (action : Action) (rules : List Rule) → ((r : Rule) → number_of r ≤ n → Tells r facts world action)
+    → AllByRecursion (λ r. Where (nat_le (number_of r) n) (Tells r facts world action)) rules
+told_of n facts world action [] tells = tt
+told_of n facts world action (r ∷ rules) tells = (
+  elim (nat_le (number_of r) n) as (λ b. nat_le (number_of r) n ≡ b → Where b (Tells r facts world action)) [
+    | true ↦ λ small. tells r (leb-true _ _ small)
+    | false ↦ λ large. tt
+  ] refl,
+  told_of n facts world action rules tells,
+)
+
+pub and_first : (a b : Bool) → (a && b) ≡ true → a ≡ true
+and_first true b h = refl
+and_first false b h = h
+
+pub and_second : (a b : Bool) → (a && b) ≡ true → b ≡ true
+and_second true b h = h
+and_second false b h = cc
+
+none_told : (n : ℕ) (facts : Facts) (world : World) (action : Action) (rules : List Rule) → list_all (λ r. nat_lt n (number_of r)) rules ≡ true
+    → AllByRecursion (λ r. Where (nat_le (number_of r) n) (Tells r facts world action)) rules
+none_told n facts world action [] above = tt
+none_told n facts world action (r ∷ rules) above =
+    let large : n < number_of r = ltb-true _ _ (and_first (nat_lt n (number_of r)) (list_all (λ later. nat_lt n (number_of later)) rules) above) in (
+      subst (λ (b : Bool). Where b (Tells r facts world action)) (sym (lt-leb (number_of r) n large)) tt,
+      none_told n facts world action rules (and_second (nat_lt n (number_of r)) (list_all (λ later. nat_lt n (number_of later)) rules) above),
+    )
+
+-- of the rules from a place on, which have greater numbers, nothing is read
+pub untold : (n place : ℕ) (facts : Facts) (world : World) (action : Action) → list_all (λ r. nat_lt n (number_of r)) (drop place (rules_asked action)) ≡ true
+    → AllByRecursion (λ r. Where (nat_le (number_of r) n) (Tells r facts world action)) (drop place (rules_asked action))
+untold n place facts world action above = none_told n facts world action (drop place (rules_asked action)) above

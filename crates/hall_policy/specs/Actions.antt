@@ -1,5 +1,5 @@
 -- Which rules are asked of an action, which roles may take it, and what it names.
-use Rattle.std.specs.Prelude.{ℕ, Bool, true, false, List, [], ◌∷◌, Option, Some, None, ◌||◌}
+use Rattle.std.specs.Prelude.{ℕ, Bool, true, false, List, [], ◌∷◌, length, Option, Some, None, ◌||◌}
 use Rattle.hall_policy.specs.declared.record.Roles.{Roles}
 use Rattle.hall_policy.specs.declared.record.PuzzleKey.{PuzzleKey}
 use Rattle.hall_policy.specs.declared.request.Action.{Action}
@@ -36,6 +36,17 @@ number_of Involved = 17
 number_of RuledOtherwise = 18
 number_of LimitReached = 19
 number_of ListConflict = 20
+
+-- all of them, in that order
+abbrev pub the_rules : List rule.Rule
+the_rules =
+    UnknownKey ∷ NoRole ∷ OtherAuthor ∷ Missing ∷ OwnPuzzle ∷ TokenTaken ∷ NotStarted ∷ Ended ∷ NotEnded ∷ Closed
+    ∷ InReleasedRound ∷ NotCertified ∷ NoDraft ∷ Started ∷ Published ∷ OpenProtest ∷ Involved ∷ RuledOtherwise
+    ∷ LimitReached ∷ ListConflict ∷ []
+
+-- the number of the last
+abbrev pub last_rule : ℕ
+last_rule = length the_rules
 
 -- the rules asked of an action, by number
 abbrev pub rules_asked : Action → List rule.Rule

@@ -3,7 +3,7 @@ use Rattle.std.specs.Prelude.{◌≡◌, ◌↔◌, ◌&&◌, nat_le, ℕ, Bool,
 use Rattle.std.specs.FinMap.{get}
 use Rattle.std.specs.List.{AllByRecursion}
 use Rattle.hall_policy.specs.World.{World, IsRoundAt, entry_at, answer_of, protest_of}
-use Rattle.hall_policy.specs.Actions.{number_of, rules_asked, round_named, finds_drafts}
+use Rattle.hall_policy.specs.Actions.{number_of, last_rule, rules_asked, round_named, finds_drafts}
 use Rattle.hall_policy.specs.Rules.{TheCaller, is_director, SheetLacks, ListsAuthor, ListsTester, ReadsAsTester}
 use Rattle.hall_policy.specs.Rules.{HasHandIn, IsInReleasedRound, IsUncertified, HasOpenProtest}
 use Rattle.hall_policy.specs.Rules.{IsInvolved, HasConflict, answers_given, protests_made, puzzles_put}
@@ -94,7 +94,7 @@ abbrev pub deciding : Action → Decision → ℕ
 deciding action (Deny k) = k
 deciding (RuleProtest round entrant token ruling) Repeat = 18
 deciding action Repeat = 6
-deciding action Allow = 20
+deciding action Allow = last_rule
 
 -- P, where the test passes
 abbrev pub Where : Bool → Type 0 → Type 0
@@ -105,6 +105,10 @@ Where false P = Unit {0}
 abbrev pub TrueUpTo : ℕ → Facts → World → Action → Type 0
 TrueUpTo n facts world action =
     AllByRecursion (λ r. Where (nat_le (number_of r) n) (Tells r facts world action)) (rules_asked action)
+
+-- the facts that the asked rules read are true of the world
+abbrev pub AreTrue : Facts → World → Action → Type 0
+AreTrue facts world action = TrueUpTo last_rule facts world action
 
 -- no round was found, or a draft that the action doesn't find
 abbrev pub HidesRound : Facts → Action → Type 0

@@ -1,7 +1,7 @@
 -- Which rule decides.
-use Rattle.std.specs.Prelude.{◌≡◌, ◌<◌, ℕ, Contains, Option}
+use Rattle.std.specs.Prelude.{◌≡◌, ◌<◌, ℕ, suc, Contains, Option}
 use Rattle.hall_policy.specs.World.{World}
-use Rattle.hall_policy.specs.Actions.{number_of, rules_asked}
+use Rattle.hall_policy.specs.Actions.{number_of, last_rule, rules_asked}
 use Rattle.hall_policy.specs.Rules.{KeyIsUnknown, LacksRole, NamesOtherAuthor, IsMissing, IsOwnPuzzle, TokenStands}
 use Rattle.hall_policy.specs.Rules.{SameContent, IsBeforeStart, IsAfterEnd, IsBeforeEnd, IsAfterClose}
 use Rattle.hall_policy.specs.Rules.{IsInReleasedRound, IsUncertified, IsNoDraft, IsAfterStart, IsPublished}
@@ -59,6 +59,10 @@ abbrev pub NoneBelow : ℕ → World → Option Person → Action → ℕ → Ty
 NoneBelow n world caller action t =
     (rule : Rule) → number_of rule < n → ¬ (Forbids rule world caller action t) × ¬ (Repeated rule world caller action)
 
+-- no rule forbids or repeats
+abbrev pub NoneDecides : World → Option Person → Action → ℕ → Type 0
+NoneDecides world caller action t = NoneBelow (suc last_rule) world caller action t
+
 -- the first rule that forbids: of the rules asked, the least that forbids or repeats decides;
 -- where there is none, the action is allowed
 abbrev pub First : World → Option Person → Action → ℕ → Decision → Type 0
@@ -66,4 +70,4 @@ First world caller action t (Deny k) =
     (rule : Rule) × (number_of rule ≡ k) × Forbids rule world caller action t × NoneBelow k world caller action t
 First world caller action t Repeat =
     (rule : Rule) × Repeated rule world caller action × NoneBelow (number_of rule) world caller action t
-First world caller action t Allow = NoneBelow 21 world caller action t
+First world caller action t Allow = NoneDecides world caller action t

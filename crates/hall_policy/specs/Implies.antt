@@ -1,5 +1,6 @@
 -- What follows, of the facts alone, where a rule passes, where a request repeats another, and from a decision.
 use Rattle.std.specs.Prelude.{◌≡◌, ◌⊎◌, ◌<◌, ◌||◌, ◌&&◌, ℕ, false, List, Some, None, IsTrue, IsSome, Contains}
+use Rattle.hall_policy.specs.Limits.{most_answers, most_protests, most_puzzles}
 use Rattle.hall_policy.specs.World.{entry_at}
 use Rattle.hall_policy.specs.Actions.{number_of, rules_asked, may, finds_drafts, puzzle_named}
 use Rattle.hall_policy.specs.Rules.{TheCaller, LacksRole, is_director}
@@ -179,9 +180,9 @@ RulingIsNew facts _ = Unit {0}
 
 -- There are fewer than the limit.
 abbrev pub IsBelowLimit : Facts → Action → Type 0
-IsBelowLimit facts (Submit round number token answer) = facts.count < 50
-IsBelowLimit facts (Protest round token number text) = facts.count < 5
-IsBelowLimit facts (PutPuzzle key puzzle) = facts.puzzle ≡ None → facts.count < 500
+IsBelowLimit facts (Submit round number token answer) = facts.count < most_answers
+IsBelowLimit facts (Protest round token number text) = facts.count < most_protests
+IsBelowLimit facts (PutPuzzle key puzzle) = facts.puzzle ≡ None → facts.count < most_puzzles
 IsBelowLimit facts _ = Unit {0}
 
 -- The same was handed in, protested or ruled before.

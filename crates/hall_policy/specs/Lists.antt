@@ -2,6 +2,7 @@
 use Rattle.std.specs.Prelude.{◌≡◌, ◌⊎◌, ◌≤◌, ◌||◌, ℕ, List, length, AllPairs}
 use Rattle.std.specs.Ordering.{is_eq}
 use Rattle.std.specs.BTreeSet.{BTreeSet, contains}
+use Rattle.hall_policy.specs.Limits.{most_people, most_entries, most_testers}
 use Rattle.hall_policy.specs.Text.{text_cmp}
 use Rattle.hall_policy.specs.declared.record.Person.{Person}
 use Rattle.hall_policy.specs.declared.record.Entry.{Entry}
@@ -10,20 +11,20 @@ use Rattle.hall_policy.specs.declared.record.Entry.{Entry}
 abbrev pub ArePeopleDifferent : List Person → Type 0
 ArePeopleDifferent people = AllPairs (λ a b. ¬ ((a.name ≡ b.name) ⊎ (a.key ≡ b.key))) people
 
--- at most 5,000 people, and no name or key twice
+-- few enough people, and no name or key twice
 pub record ArePeople (people : List Person) : Type 0 where
-  pub few : length people ≤ 5000
+  pub few : length people ≤ most_people
   pub different : ArePeopleDifferent people
 
--- 1 to 40 puzzles, none twice
+-- one puzzle or more, few enough, none twice
 pub record AreEntries (entries : List Entry) : Type 0 where
   pub some : 1 ≤ length entries
-  pub few : length entries ≤ 40
+  pub few : length entries ≤ most_entries
   pub different : AllPairs (λ a b. ¬ (a.puzzle ≡ b.puzzle)) entries
 
--- at most 20 names, none twice
+-- few enough names, none twice
 pub record AreTesters (testers : List (List ℕ)) : Type 0 where
-  pub few : length testers ≤ 20
+  pub few : length testers ≤ most_testers
   pub different : AllPairs (λ a b. ¬ (a ≡ b)) testers
 
 -- the text is seen too

@@ -1,7 +1,10 @@
 -- The ranges of the types: of which worlds and requests every definition and law speaks.
-use Rattle.std.specs.Prelude.{◌≡◌, ◌≢◌, ◌<◌, ◌≤◌, ◌^◌, ◌≤ℤ◌, ℕ, pos, negsuc, List, Some, None, IfSome, All}
+use Rattle.std.specs.Prelude.{◌≡◌, ◌≢◌, ◌≤◌, ◌≤ℤ◌, ℕ, pos, negsuc, List, Some, None, IfSome, All}
 use Rattle.std.specs.FinMap.{get}
 use Rattle.hall_grid.specs.Board.{IsBoard}
+use Rattle.hall_grid.specs.Rule.{IsNameSet}
+use Rattle.hall_policy.specs.Limits.{most_answers, most_number, last_second, most_minutes, most_protest_minutes}
+use Rattle.hall_policy.specs.Limits.{most_points, most_visits}
 use Rattle.hall_policy.specs.Text.{IsOfKind, as_word, as_token, as_key, as_title, as_protest_text, as_answer}
 use Rattle.hall_policy.specs.HasRole.{HasRole}
 use Rattle.hall_policy.specs.Lists.{ArePeople, AreEntries, AreTesters}
@@ -66,9 +69,9 @@ IsAnswer = as_answer IsOfKind
 abbrev pub IsWithin : ℕ → ℕ → ℕ → Type 0
 IsWithin least most n = (least ≤ n) × (n ≤ most)
 
--- a whole Unix second, from 0 to 4,102,444,800
+-- a whole Unix second
 abbrev pub IsMoment : ℕ → Type 0
-IsMoment = IsWithin 0 4102444800
+IsMoment = IsWithin 0 last_second
 
 -- the points of a ruling, from -1,000 to 1,000
 abbrev pub IsRuling : Ruling → Type 0
@@ -102,15 +105,15 @@ pub record IsRound (round : Round) : Type 0 where
   pub id : IsRoundId round.id
   pub title : IsTitle round.title
   pub start : IsMoment round.start
-  pub minutes : IsWithin 1 1440 round.minutes
-  pub protest_minutes : IsWithin 0 10080 round.protest_minutes
-  pub penalty : IsWithin 0 1000 round.penalty
-  pub bonus : IsWithin 0 1000 round.bonus
+  pub minutes : IsWithin 1 most_minutes round.minutes
+  pub protest_minutes : IsWithin 0 most_protest_minutes round.protest_minutes
+  pub penalty : IsWithin 0 most_points round.penalty
+  pub bonus : IsWithin 0 most_points round.bonus
 
 -- a puzzle in a round, and the points for it
 pub record IsEntry (entry : Entry) : Type 0 where
   pub puzzle : IsPuzzleKey entry.puzzle
-  pub points : IsWithin 1 1000 entry.points
+  pub points : IsWithin 1 most_points entry.points
 
 -- a round's list, whole
 pub record IsEntryList (entries : List Entry) : Type 0 where
@@ -132,16 +135,16 @@ pub record IsRoundRow (row : RoundRow) : Type 0 where
 pub record IsAnswerKey (key : AnswerKey) : Type 0 where
   pub entrant : IsName key.entrant
   pub round : IsRoundId key.round
-  pub number : IsWithin 1 99 key.number
+  pub number : IsWithin 1 most_number key.number
   pub token : IsToken key.token
 
 -- an accepted answer
 pub record IsAnswerRow (row : AnswerRow) : Type 0 where
   pub key : IsAnswerKey row.key
-  pub n : IsWithin 1 50 row.n
+  pub n : IsWithin 1 most_answers row.n
   pub moment : IsMoment row.moment
   pub answer : IsAnswer row.answer
-  pub verdict : row.verdict < 2 ^ 16
+  pub verdict : IsNameSet row.verdict
 
 -- where a protest is kept
 pub record IsProtestKey (key : ProtestKey) : Type 0 where
@@ -152,7 +155,7 @@ pub record IsProtestKey (key : ProtestKey) : Type 0 where
 -- a protest of an entrant
 pub record IsProtestRow (row : ProtestRow) : Type 0 where
   pub key : IsProtestKey row.key
-  pub number : IsWithin 1 99 row.number
+  pub number : IsWithin 1 most_number row.number
   pub text : IsProtestText row.text
   pub ruling : IfSome row.ruling IsRuling
 
@@ -182,7 +185,7 @@ pub record IsWorld (world : World) : Type 0 where
   -- keys of people differ
   pub keys_differ : (a b : List ℕ) (p q : Person) → get world.people a ≡ Some p → get world.people b ≡ Some q →
       p.key ≡ q.key → a ≡ b
-  -- a round has 1 to 40 puzzles, numbered from 1, and at most 20 testers; a place and a tester belong to a round
+  -- a round has its puzzles, numbered from 1, and its testers, few of each; a place and a tester belong to a round
   pub lists : (id : List ℕ) (round : Round) → get world.rounds id ≡ Some round → HasWholeList world id
   pub homes : (key : PlaceKey) (entry : Entry) → get world.places key ≡ Some entry → get world.rounds key.round ≢ None
   pub tester_homes : (key : TesterKey) → get world.testers key ≡ Some tt → get world.rounds key.round ≢ None
@@ -191,10 +194,10 @@ pub record IsWorld (world : World) : Type 0 where
 pub record IsSheet (sheet : Sheet) : Type 0 where
   pub title : IsTitle sheet.title
   pub start : IsMoment sheet.start
-  pub minutes : IsWithin 1 1440 sheet.minutes
-  pub protest_minutes : IsWithin 0 10080 sheet.protest_minutes
-  pub penalty : IsWithin 0 1000 sheet.penalty
-  pub bonus : IsWithin 0 1000 sheet.bonus
+  pub minutes : IsWithin 1 most_minutes sheet.minutes
+  pub protest_minutes : IsWithin 0 most_protest_minutes sheet.protest_minutes
+  pub penalty : IsWithin 0 most_points sheet.penalty
+  pub bonus : IsWithin 0 most_points sheet.bonus
   pub puzzles : IsEntryList sheet.puzzles
   pub testers : IsTesterList sheet.testers
 
@@ -204,16 +207,17 @@ IsAction (Import people) = ArePeople people × All IsPerson people
 IsAction (PutPuzzle key puzzle) = IsPuzzleKey key × IsBoard puzzle
 IsAction (ReadPuzzle key) = IsPuzzleKey key
 IsAction ListPuzzles = Unit {0}
-IsAction (Certify key budget) = IsPuzzleKey key × IsWithin 0 1000000 budget
+IsAction (Certify key budget) = IsPuzzleKey key × IsWithin 0 most_visits budget
 IsAction (PutRound round sheet) = IsRoundId round × IsSheet sheet
 IsAction (Release round) = IsRoundId round
 IsAction ListRounds = Unit {0}
 IsAction (ReadRound round) = IsRoundId round
-IsAction (Submit round number token answer) = IsRoundId round × IsWithin 1 99 number × IsToken token × IsAnswer answer
+IsAction (Submit round number token answer) =
+    IsRoundId round × IsWithin 1 most_number number × IsToken token × IsAnswer answer
 IsAction (Answers round) = IsRoundId round
 IsAction (Solutions round) = IsRoundId round
 IsAction (Protest round token number text) =
-    IsRoundId round × IsToken token × IsWithin 1 99 number × IsProtestText text
+    IsRoundId round × IsToken token × IsWithin 1 most_number number × IsProtestText text
 IsAction (Protests round) = IsRoundId round
 IsAction (RuleProtest round entrant token ruling) = IsRoundId round × IsName entrant × IsToken token × IsRuling ruling
 IsAction (Publish round) = IsRoundId round

@@ -2,6 +2,7 @@
 use Rattle.std.specs.Prelude.{◌≡◌, ◌≢◌, ◌==◌, ◌≤◌, ◌<◌, ◌&&◌, ◌||◌, ◌⊎◌, ℕ, Bool, false, List, Option}
 use Rattle.std.specs.Prelude.{Some, None, IsTrue, Contains, count_by}
 use Rattle.std.specs.FinMap.{get, values}
+use Rattle.hall_policy.specs.Limits.{most_answers, most_protests, most_puzzles}
 use Rattle.hall_policy.specs.World.{World, place_of, IsTesterOf, answer_of, protest_of, end_of, close_of, same_text}
 use Rattle.hall_policy.specs.Actions.{may, puzzle_named, round_named, finds_drafts}
 use Rattle.hall_policy.specs.declared.record.Person.{Person}
@@ -247,14 +248,14 @@ protests_made world entrant round =
 abbrev pub puzzles_put : World → List ℕ → ℕ
 puzzles_put world author = count_by (λ row. same_text row.key.author author) (values world.puzzles)
 
--- 19. The limit: 50 answers of the caller to the puzzle in the round; 5 protests of the caller in the round;
--- 500 puzzles of the named author, where the label is new.
+-- 19. As many as are allowed stand there: answers of the caller to the puzzle in the round; protests of the caller in
+-- the round; puzzles of the named author, where the label is new.
 abbrev pub IsAtLimit : World → Option Person → Action → Type 0
 IsAtLimit world caller (Submit round number token answer) =
-    TheCaller caller (λ person. 50 ≤ answers_given world person.name round number)
+    TheCaller caller (λ person. most_answers ≤ answers_given world person.name round number)
 IsAtLimit world caller (Protest round token number text) =
-    TheCaller caller (λ person. 5 ≤ protests_made world person.name round)
-IsAtLimit world caller (PutPuzzle key puzzle) = (get world.puzzles key ≡ None) × (500 ≤ puzzles_put world key.author)
+    TheCaller caller (λ person. most_protests ≤ protests_made world person.name round)
+IsAtLimit world caller (PutPuzzle key puzzle) = (get world.puzzles key ≡ None) × (most_puzzles ≤ puzzles_put world key.author)
 IsAtLimit world caller _ = ⊥
 
 -- a person of the list has a known name with another key or other roles, or the key of another person, or is

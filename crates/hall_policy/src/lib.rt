@@ -17,10 +17,10 @@ mod text;
 
 pub use facts::Facts;
 pub use law::law_decisions;
-pub use list::{Entries, People, Testers, is_new};
+pub use list::{Entries, MOST_ENTRIES, MOST_PEOPLE, MOST_TESTERS, People, Testers, is_new};
 pub use number::{
-    AnswerNumber, Bonus, Budget, Minutes, Moment, Penalty, Points, ProtestMinutes, PuzzleNumber,
-    RulingPoints, Within,
+    AnswerNumber, Bonus, Budget, MOST_ANSWERS, MOST_PROTESTS, MOST_PUZZLES, Minutes, Moment,
+    Penalty, Points, ProtestMinutes, PuzzleNumber, RulingPoints, Within,
 };
 pub use record::{
     AnswerKey, AnswerRow, Entry, Mode, Person, PlaceKey, ProtestKey, ProtestRow, PuzzleKey,

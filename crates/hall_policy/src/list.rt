@@ -2,6 +2,7 @@
 ghost use Rattle.std.specs.Prelude.{◌≡◌, ◌↔◌, ◌≤◌, not, [], length, IsTrue, IfSome, IfNone, IfOk, OnErr, AllPairs};
 ghost use Rattle.std.specs.Prelude.{Any, Contains};
 ghost use Rattle.std.specs.BTreeSet.{contains, IsUnchanged};
+ghost use Rattle.hall_policy.specs.Limits.{most_people};
 ghost use Rattle.hall_policy.specs.Text.{text_cmp};
 ghost use Rattle.hall_policy.specs.Lists.{AreEntries, AreTesters, ArePeople, ArePeopleDifferent, IsSeenToo};
 
@@ -11,6 +12,15 @@ use std::alloc::{AllocError, Global};
 use std::collections::BTreeSet;
 use std::marker::Model;
 use std::rc::RcSlice;
+
+/// The puzzles that a round may have.
+pub const MOST_ENTRIES: usize = 40;
+
+/// The testers that a round may have.
+pub const MOST_TESTERS: usize = 20;
+
+/// The people that a list may have.
+pub const MOST_PEOPLE: usize = 5000;
 
 /// Whether no puzzle is listed again.
 fn puzzles_differ(entries: &[Entry]) -> bool
@@ -126,7 +136,7 @@ impl Entries {
         ensures none { IfOk result (λ made. IfNone made (¬ (AreEntries list.items))) }
     {
         let count = list.len();
-        if count == 0 || count > 40 || !puzzles_differ(list.as_slice()) {
+        if count == 0 || count > MOST_ENTRIES || !puzzles_differ(list.as_slice()) {
             return Ok(None);
         }
         let list = RcSlice::from_vec(list)?;
@@ -186,7 +196,7 @@ impl Testers {
         ensures some { IfSome result (λ testers. (testers ≡ names.items) × AreTesters testers) }
         ensures none { IfNone result (¬ (AreTesters names.items)) }
     {
-        if names.len() > 20 || !testers_differ(names.as_slice()) {
+        if names.len() > MOST_TESTERS || !testers_differ(names.as_slice()) {
             return None;
         }
         Some(Testers { names })
@@ -237,9 +247,9 @@ impl People {
     pub fn new(alloc: Global, people: Vec<Person>) -> Result<Option<People>, AllocError>
         ensures some { IfOk result (λ made. IfSome made (λ list. (list ≡ people.items) × ArePeople list)) }
         ensures none { IfOk result (λ made. IfNone made (¬ (ArePeople people.items))) }
-        ensures err { OnErr result (length people.items ≤ 5000) }
+        ensures err { OnErr result (length people.items ≤ most_people) }
     {
-        if people.len() > 5000 || !are_different(alloc, people.as_slice())? {
+        if people.len() > MOST_PEOPLE || !are_different(alloc, people.as_slice())? {
             return Ok(None);
         }
         Ok(Some(People { people }))

@@ -3,6 +3,20 @@ ghost use Rattle.std.specs.Prelude.{◌≡◌, ◌↔◌, ℕ, ℤ, pos, negsuc,
 
 use std::marker::Model;
 
+/// The answers that an entrant may give to a puzzle of a round.
+pub const MOST_ANSWERS: u64 = 50;
+
+/// The protests that an entrant may make in a round.
+pub const MOST_PROTESTS: u64 = 5;
+
+/// The puzzles that an author may put in.
+pub const MOST_PUZZLES: u64 = 500;
+
+/// The last second that a moment may be, 2100-01-01T00:00:00Z.
+const LAST_SECOND: u64 = 4_102_444_800;
+
+const MOST_POINTS: u64 = 1000;
+
 /// A number from LEAST to MOST.
 #[derive(Clone, Copy, Debug, PartialEq, Eq, PartialOrd, Ord)]
 pub struct Within<const LEAST: u64, const MOST: u64> {
@@ -45,16 +59,16 @@ impl<const LEAST: u64, const MOST: u64> Within<LEAST, MOST> {
 }
 
 /// A whole Unix second, from 0 to 4,102,444,800.
-pub type Moment = Within<0, 4_102_444_800>;
+pub type Moment = Within<0, LAST_SECOND>;
 
 /// The number of a puzzle in a round, counted from 1.
 pub type PuzzleNumber = Within<1, 99>;
 
 /// The number of an answer among its entrant's answers to one puzzle of a round, counted from 1.
-pub type AnswerNumber = Within<1, 50>;
+pub type AnswerNumber = Within<1, MOST_ANSWERS>;
 
 /// The points for a puzzle.
-pub type Points = Within<1, 1000>;
+pub type Points = Within<1, MOST_POINTS>;
 
 /// How long a round runs.
 pub type Minutes = Within<1, 1440>;
@@ -63,10 +77,10 @@ pub type Minutes = Within<1, 1440>;
 pub type ProtestMinutes = Within<0, 10_080>;
 
 /// The points that a wrong answer costs.
-pub type Penalty = Within<0, 1000>;
+pub type Penalty = Within<0, MOST_POINTS>;
 
 /// The points for each whole minute that is left.
-pub type Bonus = Within<0, 1000>;
+pub type Bonus = Within<0, MOST_POINTS>;
 
 /// The most visits that a search may make.
 pub type Budget = Within<0, 1_000_000>;

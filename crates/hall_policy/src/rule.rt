@@ -53,6 +53,9 @@ pub enum Rule {
 }
 
 impl Rule {
+    /// The rule with the greatest number.
+    pub const LAST: Rule = Rule::ListConflict;
+
     /// The number by which a denial names the rule.
     pub fn number(self) -> u8
         ensures { result ≡ number_of self }

@@ -1,7 +1,7 @@
 //! The check of each rule, and which rule decides a request.
 ghost use Rattle.std.specs.Prelude.{◌≤◌, ◌≡◌, ◌↔◌, ◌<◌, ℕ, IsTrue, IsSome, IfSome, IfNone, option_copied, false};
 ghost use Rattle.hall_policy.specs.World.{entry_at};
-ghost use Rattle.hall_policy.specs.Actions.{number_of};
+ghost use Rattle.hall_policy.specs.Actions.{number_of, last_rule};
 ghost use Rattle.hall_policy.specs.Rules.{LacksRole, NamesOtherAuthor, is_director};
 ghost use Rattle.hall_policy.specs.Facts.{HidesRound, LacksNumber, HasEntryBy, RoundHasTester, ReadsFoundAsTester};
 ghost use Rattle.hall_policy.specs.Facts.{TellsAuthor, TellsTester, TellsReading, TellsHand, deciding};
@@ -15,7 +15,7 @@ ghost use Rattle.hall_policy.specs.declared.record.RoundRow.{RoundRow};
 use crate::asked::{finds_drafts, may, puzzle_named, rules_asked};
 use crate::facts::Facts;
 use crate::list::is_named;
-use crate::number::{Moment, PuzzleNumber};
+use crate::number::{MOST_ANSWERS, MOST_PROTESTS, MOST_PUZZLES, Moment, PuzzleNumber};
 use crate::record::Entry;
 use crate::request::Action;
 use crate::rule::{Decision, Rule};
@@ -309,9 +309,9 @@ fn is_at_limit(facts: &Facts, action: &Action) -> bool
     ensures below { result ≡ false → IsSome facts.now.caller → IsBelowLimit facts.now action.now }
 {
     match action {
-        Action::Submit { .. } => facts.caller.is_some() && facts.count >= 50,
-        Action::Protest { .. } => facts.caller.is_some() && facts.count >= 5,
-        Action::PutPuzzle { .. } => facts.puzzle.is_none() && facts.count >= 500,
+        Action::Submit { .. } => facts.caller.is_some() && facts.count >= MOST_ANSWERS,
+        Action::Protest { .. } => facts.caller.is_some() && facts.count >= MOST_PROTESTS,
+        Action::PutPuzzle { .. } => facts.puzzle.is_none() && facts.count >= MOST_PUZZLES,
         _ => false,
     }
 }
@@ -347,7 +347,7 @@ fn check_rule(rule: Rule, facts: &Facts, action: &Action, t: Moment) -> Finding
 /// The first rule that forbids or repeats, of those asked of the action.
 pub fn decide(facts: &Facts, action: &Action, t: Moment) -> Decision
     ensures first { IsDecidedUpTo (deciding action.now result) facts.now action.now t result }
-    ensures decided { IsDecidedUpTo 20 facts.now action.now t result }
+    ensures decided { IsDecidedUpTo last_rule facts.now action.now t result }
     ensures passes { (n : ℕ) → n < deciding action.now result → PassesUpTo n facts.now action.now t }
     ensures implies { Implies result facts.now action.now }
 {
@@ -367,7 +367,7 @@ pub fn decide_up_to(facts: &Facts, action: &Action, t: Moment, most: Rule) -> Op
     ensures implies { IfSome result (λ decision. Implies decision facts.now action.now) }
     ensures none { IfNone result (PassesUpTo (number_of most) facts.now action.now t) }
     ensures within { IfSome result (λ decision. deciding action.now decision ≤ number_of most) }
-    ensures whole { IfNone result (number_of most < 20) }
+    ensures whole { IfNone result (number_of most < last_rule) }
 {
     let decision = decide(facts, action, t);
     if deciding(action, decision) <= most.number() {
@@ -377,7 +377,7 @@ pub fn decide_up_to(facts: &Facts, action: &Action, t: Moment, most: Rule) -> Op
     }
 }
 
-/// The number of the rule that makes the decision; 20, the greatest, where all let it pass.
+/// The number of the rule that makes the decision; the last, where all let it pass.
 fn deciding(action: &Action, decision: Decision) -> u8
     ensures { result ≡ deciding action.now decision }
 {
@@ -385,6 +385,6 @@ fn deciding(action: &Action, decision: Decision) -> u8
         (Decision::Deny(rule), _) => rule,
         (Decision::Repeat, Action::RuleProtest { .. }) => 18,
         (Decision::Repeat, _) => 6,
-        (Decision::Allow, _) => 20,
+        (Decision::Allow, _) => Rule::LAST.number(),
     }
 }

@@ -1,5 +1,6 @@
 //! What a tally knows of an entrant: what the answers of the round give, and the protests.
 ghost use Rattle.std.specs.Prelude.{◌≤◌, ◌<◌, ◌*◌, unsigned_abs};
+ghost use Rattle.hall_policy.specs.Limits.{last_second};
 
 use hall_policy::{AnswerNumber, Name, PuzzleNumber};
 
@@ -10,7 +11,7 @@ pub(crate) struct Score {
     pub(crate) solved: u64,
     pub(crate) last: u64,
     ghost most_points: { points ≤ 1000 * solved },
-    ghost most_last: { last ≤ 4102444800 },
+    ghost most_last: { last ≤ last_second },
 }
 
 /// The answers to the puzzle at hand: how many are wrong, whether one is right, and what they give.

@@ -1,6 +1,7 @@
 //! An entrant's points in a round.
 ghost use Rattle.std.specs.Prelude.{◌≡◌, ◌≤◌, ◌*◌, ◌*ℤ◌, ◌≤ℤ◌, pos, neg_ℤ, length};
 ghost use Rattle.std.specs.Prelude.{sum_by, option_copied, unsigned_abs};
+ghost use Rattle.hall_policy.specs.Limits.{last_second};
 ghost use Rattle.hall_policy.specs.World.{entry_at};
 ghost use Rattle.hall_score.specs.Total.{is_right, same_puzzle, has_right_before, has_later, does_count};
 ghost use Rattle.hall_score.specs.Total.{wrong_before, cost_of, points_of, does_score, points_for};
@@ -142,7 +143,7 @@ fn are_all_solved(round: &RoundRow, answers: &[AnswerRow]) -> bool
 /// The greatest moment of the answers that score, and 0 where none does.
 fn last_moment(round: &RoundRow, answers: &[AnswerRow]) -> u64
     ensures value { result ≡ last_moment round.now answers.now }
-    ensures bound { result ≤ 4102444800 }
+    ensures bound { result ≤ last_second }
 {
     let mut last = 0;
     for row in answers {
@@ -155,7 +156,7 @@ fn last_moment(round: &RoundRow, answers: &[AnswerRow]) -> u64
 
 /// The whole minutes from the moment to the end, rounded down; below 0 where it lies after the end.
 fn minutes_left(round: &RoundRow, moment: u64) -> i64
-    requires { moment ≤ 4102444800 }
+    requires { moment ≤ last_second }
     ensures value { result ≡ minutes_left round.now moment }
     ensures bound { unsigned_abs result ≤ 100000000 }
 {
@@ -165,7 +166,7 @@ fn minutes_left(round: &RoundRow, moment: u64) -> i64
 
 /// The bonus for the minutes that are left from the moment on.
 pub(crate) fn bonus_from(round: &RoundRow, moment: u64) -> i64
-    requires { moment ≤ 4102444800 }
+    requires { moment ≤ last_second }
     ensures value { result ≡ pos round.now.round.bonus *ℤ minutes_left round.now moment }
     ensures bound { unsigned_abs result ≤ 100000000000 }
 {

@@ -1,5 +1,6 @@
 //! One entrant's answers of a round, taken in the order of their numbers, then of their n.
 ghost use Rattle.std.specs.Prelude.{◌≡◌, ◌↔◌, ◌⊎◌, ◌≤◌, ◌<◌, ◌+◌, ◌++◌, ◌∷◌, [], List, IsTrue, unsigned_abs};
+ghost use Rattle.hall_policy.specs.Limits.{most_number};
 ghost use Rattle.hall_policy.specs.declared.record.AnswerRow.{AnswerRow};
 ghost use Rattle.hall_policy.specs.declared.record.RoundRow.{RoundRow};
 ghost use Rattle.hall_score.specs.Total.{answer_points};
@@ -39,7 +40,7 @@ impl Progress {
         ensures score { (round : RoundRow) (rows : List AnswerRow) → IsProgressOf round rows self.now
             → IsScoreOf round rows result }
         ensures solved { result.solved ≤ self.now.number }
-        ensures most { result.solved ≤ 99 }
+        ensures most { result.solved ≤ most_number }
     {
         // It is read for the limits that its type keeps.
         let _number = self.number.get();

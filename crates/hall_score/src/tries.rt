@@ -1,5 +1,6 @@
 //! One entrant's answers to one puzzle of a round, taken in the order of their n.
 ghost use Rattle.std.specs.Prelude.{◌≡◌, ◌≤◌, ◌<◌, ◌+◌, ◌-◌, ◌*◌, ◌++◌, ◌∷◌, [], List, true, false, is_some};
+ghost use Rattle.hall_policy.specs.Limits.{most_answers};
 ghost use Rattle.hall_policy.specs.World.{entry_at};
 ghost use Rattle.hall_policy.specs.declared.record.AnswerRow.{AnswerRow};
 ghost use Rattle.hall_policy.specs.declared.record.RoundRow.{RoundRow};
@@ -69,7 +70,7 @@ impl Tries {
     /// The score of an instant round after another answer: the first right one counts, less the wrong ones before it.
     fn instant_score(&self, round: &RoundRow, row: &AnswerRow) -> Score
         requires mode { round.now.round.mode ≡ Instant }
-        requires few { self.now.wrong ≤ 50 }
+        requires few { self.now.wrong ≤ most_answers }
         ensures score { (rows : List AnswerRow) → AreTriedBefore rows row.now → AreTriesOf round.now rows self.now
             → IsScoreOf round.now (rows ++ row.now ∷ []) result }
         ensures once { result.solved ≤ 1 }
@@ -83,7 +84,7 @@ impl Tries {
 
     /// The score after another answer.
     fn next_score(&self, round: &RoundRow, row: &AnswerRow) -> Score
-        requires { self.now.wrong ≤ 50 }
+        requires { self.now.wrong ≤ most_answers }
         ensures score { (rows : List AnswerRow) → AreTriedBefore rows row.now → AreTriesOf round.now rows self.now
             → IsScoreOf round.now (rows ++ row.now ∷ []) result }
         ensures once { result.solved ≤ 1 }
@@ -96,7 +97,7 @@ impl Tries {
 
     /// These and another answer to the same puzzle.
     pub(crate) fn with(&self, round: &RoundRow, row: &AnswerRow) -> Tries
-        requires { self.now.wrong ≤ 50 }
+        requires { self.now.wrong ≤ most_answers }
         ensures tries { (rows : List AnswerRow) → AreTriedBefore rows row.now → AreTriesOf round.now rows self.now
             → AreTriesOf round.now (rows ++ row.now ∷ []) result }
         ensures wrong { result.wrong ≤ self.now.wrong + 1 }

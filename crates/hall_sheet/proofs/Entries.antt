@@ -8,6 +8,7 @@ use Rattle.std.specs.Prelude.{nat_eq}
 use Rattle.std.proofs.lemmas.List.{drop_more, drop_all}
 use Rattle.std.proofs.lemmas.List.Quantifiers.{all_pairs_push}
 use Rattle.toml.specs.Data.{Members}
+use Rattle.hall_policy.specs.Limits.{most_entries}
 use Rattle.hall_policy.specs.declared.record.Entry.{Entry}
 use Rattle.hall_policy.specs.Lists.{AreEntries}
 use Rattle.hall_sheet.specs.declared.fault.Refusal.{Refusal}
@@ -97,7 +98,7 @@ entries_whole before (ms ∷ more) list e differ =
 
 -- one to forty tables give a whole list
 pub are_entries : (tables : List Members) (list : List Entry) → entries_in [] tables ≡ Ok list → 1 ≤ length tables
-    → length tables ≤ 40 → AreEntries list
+    → length tables ≤ most_entries → AreEntries list
 are_entries tables list e some few =
     let (differ, long) = entries_whole [] tables list e (λ i j d before within. absurd (omega (arith, within))) in
     record { some = omega (arith, long, some); few = omega (arith, long, few); different = differ }

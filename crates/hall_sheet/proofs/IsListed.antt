@@ -9,6 +9,7 @@ use Rattle.std.proofs.lemmas.List.{get_or_append_left}
 use Rattle.std.proofs.lemmas.List.Folds.{list_any-append, list_any_at}
 use Rattle.std.proofs.lemmas.Map.Text.{is_eq-slice_cmp}
 use Rattle.std.proofs.lemmas.Slice.Eq.{bytes_eq-Decides}
+use Rattle.hall_policy.specs.Limits.{most_people}
 use Rattle.hall_policy.specs.Text.{text_cmp}
 use Rattle.hall_policy.specs.Lists.{ArePeople, IsSeenToo}
 use Rattle.hall_policy.specs.declared.record.Person.{Person}
@@ -86,7 +87,7 @@ lacks_at text people q i d none low same =
     false≢true (sym none ∙ list_any_at (λ (p : Person). bytes_eq (text p) q) people i d low ((bytes_eq-Decides (text (slice_index_or people i d)) q).1 same))
 
 -- one more person, whose name and key are new
-people_more : (people : List Person) (person : Person) → ArePeople people → length people < 5000
+people_more : (people : List Person) (person : Person) → ArePeople people → length people < most_people
     → Lacks (λ (p : Person). p.name) people person.name → Lacks (λ (p : Person). p.key) people person.key
     → ArePeople (people ++ person ∷ [])
 people_more people person h low name key = record {
@@ -117,7 +118,7 @@ pub key_twice : (before : List Person) (person : Person)
 key_twice before person e =
     rw (either_name_or_key before person, e, or_true (list_any (λ (p : Person). bytes_eq p.name person.name) before)) refl
 
-pub added : (a b : Listed) (before : List Person) (person : Person) → IsListed a before → length a.people.items < 5000
+pub added : (a b : Listed) (before : List Person) (person : Person) → IsListed a before → length a.people.items < most_people
     → not (contains text_cmp a.names person.name) ≡ true → IsSeenToo a.names b.names person.name
     → not (contains text_cmp a.keys person.key) ≡ true → IsSeenToo a.keys b.keys person.key
     → b.people.items ≡ a.people.items ++ person ∷ []

@@ -5,6 +5,7 @@ use Rattle.std.specs.Prelude.{codes}
 use Rattle.std.proofs.lemmas.Bool.{ne_eqb}
 use Rattle.jiff_core.specs.declared.civil.datetime.DateTime.{DateTime}
 use Rattle.jiff_core.specs.DateTime.{civil_seconds}
+use Rattle.hall_policy.specs.Limits.{last_second}
 use Rattle.hall_policy.specs.Reading.{or_fault}
 use Rattle.hall_sheet.specs.declared.fault.Field.TheVariants as field
 use Rattle.hall_sheet.specs.declared.fault.SheetFault.{SheetFault}
@@ -29,7 +30,7 @@ start_short text short =
 pub start_of_parts : (text front back : List ℕ) (civil : Civil) (offset z : ℤ) (r : Result ℕ SheetFault)
     → front ≡ take 19 text → back ≡ drop 19 text → or_fault refusal.Start (civil_in front) ≡ Ok civil
     → offset_in back ≡ Some offset → z ≡ seconds_to civil offset
-    → Gives (λ n. n) r (in_range field.Start 0 4102444800 z) → Gives (λ n. n) r (start_in text)
+    → Gives (λ n. n) r (in_range field.Start 0 last_second z) → Gives (λ n. n) r (start_in text)
 start_of_parts text front back civil offset z r first last shown east sum given =
     rw (← first, ← last, shown, east, ← sum) given
 

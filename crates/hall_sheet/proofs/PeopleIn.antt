@@ -2,6 +2,7 @@
 use Rattle.std.proofs.Common.{◌≡◌, ◌∙◌, ◌-◌, ◌<◌, ℕ, List, [], ◌∷◌, ◌++◌, length, Some, None, Result, Ok, Err, refl, sym, ap, arith, length-append}
 use Rattle.csv.specs.Reading.{default_config, strip_bom, records}
 use Rattle.csv.specs.Records.{Row, fields_of}
+use Rattle.hall_policy.specs.Limits.{most_people}
 use Rattle.hall_policy.specs.Lists.{ArePeople}
 use Rattle.hall_policy.specs.declared.record.Person.{Person}
 use Rattle.hall_sheet.specs.declared.fault.Refusal.{Refusal}
@@ -39,7 +40,7 @@ gone_on bytes a b c d row k took adds = record {
 }
 
 pub nearer : (bytes : List ℕ) (a : Rows) (c d : Listed) (row : Row) (k : Kept bytes a c)
-    → AddsRow (Ok tt) k.people (fields_of row) d → 5000 - length d.people.items < 5000 - length c.people.items
+    → AddsRow (Ok tt) k.people (fields_of row) d → most_people - length d.people.items < most_people - length c.people.items
 nearer bytes a c d row k adds =
     let more = length-append k.people (adds.0 ∷ []) in
     let before : length c.people.items ≡ length k.people = ap length k.listed.people in

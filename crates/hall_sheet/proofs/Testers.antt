@@ -10,6 +10,7 @@ use Rattle.std.proofs.lemmas.List.Folds.{list_any_at, list_any_none}
 use Rattle.std.proofs.lemmas.List.Kept.{AllPairs-cons}
 use Rattle.std.proofs.lemmas.Slice.Eq.{bytes_eq-Decides}
 use Rattle.toml.specs.Data.{Members}
+use Rattle.hall_policy.specs.Limits.{most_testers}
 use Rattle.hall_policy.specs.Lists.{AreTesters}
 use Rattle.hall_policy.specs.Text.{is_kind, is_word_byte}
 use Rattle.hall_policy.specs.Reading.{◌>>=◌, of_kind}
@@ -87,18 +88,18 @@ names_are texts names e = by (list_all is_name texts) refl
 
 module _ (ms : Members) (texts names : List (List ℕ)) where
   -- the names of at most twenty texts, none of them twice
-  pub testers_are : texts_field field.Testers ms ≡ Ok texts → length texts ≤ 20 → names_in texts ≡ Ok names
+  pub testers_are : texts_field field.Testers ms ≡ Ok texts → length texts ≤ most_testers → names_in texts ≡ Ok names
       → AreTesters names → named_testers_in ms ≡ Ok names
   unfolding named_testers_in
   testers_are read few named valid =
-      rw (read, le-leb (length texts) 20 few, named, names_distinct names valid.different) refl
+      rw (read, le-leb (length texts) most_testers few, named, names_distinct names valid.different) refl
 
   -- or one of them twice
-  pub tester_repeated : texts_field field.Testers ms ≡ Ok texts → length texts ≤ 20 → names_in texts ≡ Ok names
+  pub tester_repeated : texts_field field.Testers ms ≡ Ok texts → length texts ≤ most_testers → names_in texts ≡ Ok names
       → ¬ (AreTesters names) → named_testers_in ms ≡ Err refusal.Repeated
   unfolding named_testers_in
   tester_repeated read few named invalid =
       let long : length texts ≡ length names = ap length (names_are texts names named) in
       let again : are_distinct names ≡ false = false_from_ne_true (are_distinct names) (λ distinct.
       invalid (record { few = omega (arith, few, long); different = names_differ names distinct })) in
-      rw (read, le-leb (length texts) 20 few, named, again) refl
+      rw (read, le-leb (length texts) most_testers few, named, again) refl

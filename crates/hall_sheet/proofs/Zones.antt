@@ -24,6 +24,7 @@ use Rattle.jiff_tz.specs.PosixRule.{in_window, in_span, saturating_add, saturati
 use Rattle.jiff_tz.specs.PosixRule.{ambiguous_by, ambiguous_at_by}
 use Rattle.jiff_tz.specs.Zone.{ambiguous_at}
 use Rattle.jiff.specs.Placed.{IsPosixZone}
+use Rattle.hall_policy.specs.Limits.{last_second}
 use Rattle.hall_sheet.specs.declared.fault.Field.TheVariants as field
 use Rattle.hall_sheet.specs.declared.fault.Refusal.TheVariants as refusal
 use Rattle.hall_sheet.specs.declared.fault.SheetFault.{SheetFault}
@@ -136,11 +137,11 @@ exact n s e = near _ _ s (quot-rem n (pos 1_000_000_000) ∙ e) (rem_below n (po
 
 -- seconds that are out of the calendar's range are those of no moment
 out_of_range : (s : ℤ) → (IsTimestampNanos (s *ℤ pos 1_000_000_000) → ⊥)
-    → in_range field.Start 0 4102444800 s ≡ Err (refusal.Range field.Start)
+    → in_range field.Start 0 last_second s ≡ Err (refusal.Range field.Start)
 out_of_range (negsuc n) out = refl
 out_of_range (pos n) out =
-    elim (cases_lt 4102444800 n) [
-      | inl many ↦ rw (le-leb 0 n (omega arith), lt-leb n 4102444800 many) refl
+    elim (cases_lt last_second n) [
+      | inl many ↦ rw (le-leb 0 n (omega arith), lt-leb n last_second many) refl
       | inr few ↦ absurd (out (omega (arith, ints), omega (arith, ints)))
     ]
 
@@ -157,7 +158,7 @@ module _ (text : List ℕ) (tz : TimeZone) (dt : DateTime) where
   pub moment_is : (nanosecond seconds : ℤ) (r : Result ℕ SheetFault) → dt.time.subsec_nanosecond ≡ 0
       → IsPosixZone text tz → nanosecond ≡ instant_of dt (compatible_offset (ambiguous_at tz dt))
       → seconds ≡ int_div nanosecond (pos 1_000_000_000)
-      → Gives (λ n. n) r (in_range field.Start 0 4102444800 seconds) → Gives (λ n. n) r (moment_in text (civil_seen dt))
+      → Gives (λ n. n) r (in_range field.Start 0 last_second seconds) → Gives (λ n. n) r (moment_in text (civil_seen dt))
   moment_is nanosecond seconds r whole is at cut given =
       let (rule, e) = has_rule text tz is in
       let same : seconds ≡ seconds_to (civil_seen dt) (offset_of rule (civil_seen dt)) =

@@ -3,6 +3,7 @@ use Rattle.std.specs.Prelude.{ℕ, ℤ, pos, ◌+ℤ◌, ◌-ℤ◌, ◌*ℤ◌,
 use Rattle.jiff_core.specs.Date.{epoch_day}
 use Rattle.jiff_core.specs.Time.{time_seconds}
 use Rattle.jiff_core.specs.declared.civil.datetime.DateTime.{DateTime}
+use Rattle.hall_policy.specs.Limits.{last_second}
 use Rattle.hall_sheet.specs.declared.fault.Field.TheVariants as field
 use Rattle.hall_sheet.specs.declared.fault.Refusal.{Refusal}
 use Rattle.hall_sheet.specs.Table.{in_range}
@@ -19,7 +20,7 @@ seconds_to civil offset = civil.day *ℤ pos 86400 +ℤ pos civil.clock -ℤ off
 
 -- the moment, 0 to 4,102,444,800, at which a clock so many seconds east of UTC shows the civil time
 abbrev pub moment_at : Civil → ℤ → Result ℕ Refusal
-moment_at civil offset = in_range field.Start 0 4102444800 (seconds_to civil offset)
+moment_at civil offset = in_range field.Start 0 last_second (seconds_to civil offset)
 
 -- the civil time that a value of the calendar's crate is, but for fractions of a second
 abbrev pub civil_seen : DateTime → Civil

@@ -4,6 +4,7 @@ use Rattle.std.specs.Prelude.{if◌then◌else◌, Option, Some, None, Result, O
 use Rattle.std.specs.List.{list_all, list_any, slice_split}
 use Rattle.std.specs.Str.{bytes_eq, is_utf8}
 use Rattle.csv.specs.Reading.{default_config, strip_bom, records}
+use Rattle.hall_policy.specs.Limits.{most_people}
 use Rattle.hall_policy.specs.Text.{as_word, as_key}
 use Rattle.hall_policy.specs.Reading.{◌>>=◌, or_fault, unless, of_kind}
 use Rattle.hall_policy.specs.declared.record.Person.{Person}
@@ -92,7 +93,7 @@ new_after before person =
 -- the person of the record after these people, who are at most 4,999
 abbrev pub person_after : List Person → List (List ℕ) → Result Person Refusal
 person_after before fields =
-    unless (Range field.List) (nat_lt (length before) 5000)
+    unless (Range field.List) (nat_lt (length before) most_people)
     >>= (λ _. person_of fields)
     >>= new_after before
 

@@ -6,6 +6,7 @@ use Rattle.std.specs.List.{list_any, list_all}
 use Rattle.std.specs.Str.{bytes_eq, is_utf8}
 use Rattle.toml.specs.Data.{Members}
 use Rattle.toml.specs.Parse.{parse_document}
+use Rattle.hall_policy.specs.Limits.{most_entries, most_minutes, most_protest_minutes, most_testers}
 use Rattle.hall_grid.specs.Printable.{is_printable}
 use Rattle.hall_policy.specs.Text.{is_kind, as_word, as_title}
 use Rattle.hall_policy.specs.Reading.{◌>>=◌, or_fault, unless}
@@ -72,7 +73,7 @@ names_in texts = unless (refusal.Range field.Testers) (list_all (as_word is_kind
 unfoldable pub named_testers_in : Members → Result (List (List ℕ)) Refusal
 named_testers_in ms = do
   texts ← texts_field field.Testers ms
-  _ ← unless (refusal.Range field.Testers) (nat_le (length texts) 20)
+  _ ← unless (refusal.Range field.Testers) (nat_le (length texts) most_testers)
   names ← names_in texts
   _ ← unless refusal.Repeated (are_distinct names)
   Ok names
@@ -108,7 +109,7 @@ entries_in before (ms ∷ more) = do
 unfoldable pub list_in : Members → Result (List Entry) Refusal
 list_in ms = do
   tables ← tables_field field.Puzzle ms
-  _ ← unless (refusal.Range field.Puzzle) (nat_le 1 (length tables) && nat_le (length tables) 40)
+  _ ← unless (refusal.Range field.Puzzle) (nat_le 1 (length tables) && nat_le (length tables) most_entries)
   entries_in [] tables
 
 -- the sheet, field by field
@@ -117,8 +118,8 @@ fields_in ms = do
   version ← version_in ms
   title ← as_title (text_field field.Title) ms
   start ← starts_in version ms
-  minutes ← number_field field.Minutes 1 1440 ms
-  protest_minutes ← number_field field.ProtestMinutes 0 10080 ms
+  minutes ← number_field field.Minutes 1 most_minutes ms
+  protest_minutes ← number_field field.ProtestMinutes 0 most_protest_minutes ms
   mode ← mode_in_sheet ms
   penalty ← number_field field.Penalty 0 1000 ms
   bonus ← number_field field.Bonus 0 1000 ms

@@ -2,6 +2,7 @@
 ghost use Rattle.std.specs.Prelude.{◌≡◌, ◌++◌, ◌∷◌, [], ◌<◌, ℕ, List, length, IfOk, IfErr, Ok};
 ghost use Rattle.csv.specs.Reading.{default_config, strip_bom, records};
 ghost use Rattle.csv.specs.Records.{fields_of};
+ghost use Rattle.hall_policy.specs.Limits.{most_people};
 ghost use Rattle.hall_policy.specs.declared.record.Person.{Person};
 ghost use Rattle.hall_sheet.specs.declared.fault.SheetFault.TheVariants.{Memory};
 ghost use Rattle.hall_sheet.specs.Given.{Gives};
@@ -11,7 +12,7 @@ ghost use Rattle.hall_sheet.specs.List.{HasLeft, TakesRow, TakesHeader, IsListed
 use crate::entry::read_line;
 use crate::fault::{Field, Refusal, SheetFault};
 use csv::{ByteRecord, ByteRecordsIntoIter, ReaderBuilder, StringRecord};
-use hall_policy::{Key, Name, People, Person, is_new};
+use hall_policy::{Key, MOST_PEOPLE, Name, People, Person, is_new};
 use std::alloc::{AllocError, Global};
 use std::collections::BTreeSet;
 
@@ -104,7 +105,7 @@ impl Listed {
 
     /// Adds the person, and tells whether name and key were new; where they weren't, the list is of no more use.
     fn add(&mut self, person: Person) -> Result<bool, AllocError>
-        requires { length self.old.people.items < 5000 }
+        requires { length self.old.people.items < most_people }
         ensures { (before : List Person) → IsListed self.old before
             → IfOk result (λ new. Adds new before person self.new) }
     {
@@ -119,7 +120,7 @@ impl Listed {
     fn add_row(&mut self, alloc: Global, row: ByteRecord) -> Result<(), SheetFault>
         ensures { (before : List Person) → IsListed self.old before → AddsRow result before (fields_of row) self.new }
     {
-        if self.people.len() >= 5000 {
+        if self.people.len() >= MOST_PEOPLE {
             return Err(SheetFault::Refused(Refusal::Range(Field::List)));
         }
         if self.add(read_person(alloc, row)?)? {

@@ -14,19 +14,16 @@ use crate::table::{has_only, push, read_number, read_tables, read_text, read_tex
 use crate::version::{Version, read_version, version_or_first};
 use crate::words::checked;
 use crate::zone::{ZoneText, moment_in};
-use hall_policy::{Checked, Entries, Entry, Mode, Moment, Name, PuzzleKey, Sheet, Testers};
+use hall_policy::{
+    Checked, Entries, Entry, MOST_ENTRIES, MOST_TESTERS, Mode, Moment, Name, PuzzleKey, Sheet,
+    Testers,
+};
 use std::alloc::{AllocError, Global};
 use toml::Table;
 
 const SYNTAX: SheetFault = SheetFault::Refused(Refusal::Syntax);
 
 const ENTRY_FIELDS: [Field; 3] = [Field::Author, Field::Label, Field::Points];
-
-/// The most puzzles of a round.
-const MOST_PUZZLES: usize = 40;
-
-/// The most testers of a round.
-const MOST_TESTERS: usize = 20;
 
 /// The table that the bytes write in TOML.
 fn read_document(alloc: Global, bytes: &[u8]) -> Result<Table, SheetFault>
@@ -169,7 +166,7 @@ fn read_list(alloc: Global, document: &Table) -> Result<Entries, SheetFault>
 {
     let out_of_range = SheetFault::Refused(Refusal::Range(Field::Puzzle));
     let tables = read_tables(alloc, document, Field::Puzzle)?;
-    if tables.is_empty() || tables.len() > MOST_PUZZLES {
+    if tables.is_empty() || tables.len() > MOST_ENTRIES {
         return Err(out_of_range);
     }
     let entries = read_entries(alloc, tables.as_slice())?;

@@ -8,6 +8,7 @@ use Rattle.sqlite.specs.Order.{Row}
 use Rattle.sqlite_value.specs.Order.{column}
 use Rattle.sqlite.specs.Term.{holds}
 use Rattle.sqlite.specs.State.{State, Shown}
+use Rattle.hall_policy.specs.Limits.{last_second, most_answers, most_number}
 use Rattle.hall_grid.specs.Printable.{is_printable}
 use Rattle.hall_policy.specs.Text.{is_word_byte}
 use Rattle.hall_policy.specs.World.{answer_cmp}
@@ -41,7 +42,7 @@ use Rattle.hall_sql.proofs.UniqueLemmas.{equal_texts, equal_numbers, records_lis
 use Rattle.hall_policy.proofs.Orders.{answer_total, same_answer_keys}
 use Rattle.hall_policy.specs.declared.record.AnswerKey.{AnswerKey}
 use Rattle.hall_policy.specs.declared.record.AnswerRow.{AnswerRow}
-use Rattle.hall_sql.specs.Values.{name_in, token_in, within, kind_in}
+use Rattle.hall_sql.specs.Values.{name_in, token_in, within, kind_in, verdict_in}
 use Rattle.hall_sql.specs.Rows.{answer_in, answer_of_row, world_of}
 use Rattle.hall_sql.proofs.AnswerTexts.{all_answers_are, key_order, key_terms, answer_columns, answer_is}
 use Rattle.hall_sql.proofs.ColumnLemmas.{kind_column, number_column, column_equals, column_is, last_equal, more_equal}
@@ -63,14 +64,14 @@ pub record HasColumns (r : Row) (row : AnswerRow) : Type 0 where
 
 pub has_columns : (r : Row) (row : AnswerRow) → answer_of_row r ≡ Some row → HasColumns r row
 has_columns r row is =
-    let it = answer_parts_of (name_in (column r 1)) (name_in (column r 2)) (within 1 99 (column r 3)) (token_in (column r 4)) (within 1 50 (column r 5))
-    (within 0 4102444800 (column r 6)) (kind_in 0 4000 is_printable (column r 7)) (within 0 65535 (column r 8)) row is in
+    let it = answer_parts_of (name_in (column r 1)) (name_in (column r 2)) (within 1 most_number (column r 3)) (token_in (column r 4)) (within 1 most_answers (column r 5))
+    (within 0 last_second (column r 6)) (kind_in 0 4000 is_printable (column r 7)) (verdict_in (column r 8)) row is in
     record {
       entrant = kind_column 1 24 is_word_byte (column r 1) row.key.entrant it.entrant;
       round = kind_column 1 24 is_word_byte (column r 2) row.key.round it.round;
-      number = number_column 1 99 (column r 3) row.key.number it.number;
+      number = number_column 1 most_number (column r 3) row.key.number it.number;
       token = kind_column 1 32 is_word_byte (column r 4) row.key.token it.token;
-      n = number_column 1 50 (column r 5) row.n it.n;
+      n = number_column 1 most_answers (column r 5) row.n it.n;
     }
 
 abbrev pub key_params : AnswerKey → Row

@@ -1,6 +1,6 @@
 -- What the statement that adds an answer leaves.
 use Rattle.std.proofs.Common.{◌≡◌, ◌≢◌, ◌&&◌, ℕ, [], ◌∷◌, flat_map, is_some, option_to_list, true, IsTrue, Some, None, Ok, refl, ap, arith}
-use Rattle.std.specs.Prelude.{nat_le}
+use Rattle.std.specs.Prelude.{nat_le, ◌^◌, ◌-◌}
 use Rattle.std.proofs.lemmas.Bool.{and_from, le-leb}
 use Rattle.std.specs.List.{AllByRecursion}
 use Rattle.std.specs.FinMap.{FinMap, from_entries, get, insert}
@@ -18,6 +18,9 @@ use Rattle.sqlite.specs.Command.TheVariants.{Insert}
 use Rattle.sqlite.specs.State.{State, HasCleanDisk, Executes, Writes}
 use Rattle.sqlite.specs.Listing.{understood}
 use Rattle.sqlite.proofs.Callers.{runs_as, statement_of}
+use Rattle.hall_grid.specs.declared.rule.TheConstants.{NAMES}
+use Rattle.hall_grid.specs.Rule.{IsNameSet}
+use Rattle.hall_policy.specs.Limits.{last_second, most_answers, most_number}
 use Rattle.hall_grid.specs.Printable.{is_printable}
 use Rattle.hall_policy.specs.Text.{text_cmp, is_word_byte}
 use Rattle.hall_policy.specs.World.{puzzle_cmp, answer_cmp, protest_cmp}
@@ -50,17 +53,20 @@ use Rattle.hall_sql.proofs.WriteLemmas.{writes_hall, same_worlds, cast_null, cas
 pub is_within : (least most n : ℕ) → IsWithin least most n → nat_le least n && nat_le n most ≡ true
 is_within least most n h = and_from _ _ (le-leb _ _ h.0) (le-leb _ _ h.1)
 
+verdict_within : (verdict : ℕ) → IsNameSet verdict → nat_le 0 verdict && nat_le verdict (2 ^ NAMES - 1) ≡ true
+verdict_within verdict set = is_within 0 (2 ^ NAMES - 1) verdict (omega arith, omega (arith, set))
+
 -- they are read as the answer, whatever its rowid is
 answer_reads : (row : AnswerRow) → IsAnswerRow row → (id : Value) → answer_of_row (id ∷ answer_params row) ≡ Some row
 answer_reads row is id = rw (
   kind_holds 1 24 is_word_byte row.key.entrant is.key.entrant,
   kind_holds 1 24 is_word_byte row.key.round is.key.round,
-  is_within 1 99 row.key.number is.key.number,
+  is_within 1 most_number row.key.number is.key.number,
   kind_holds 1 32 is_word_byte row.key.token is.key.token,
-  is_within 1 50 row.n is.n,
-  is_within 0 4102444800 row.moment is.moment,
+  is_within 1 most_answers row.n is.n,
+  is_within 0 last_second row.moment is.moment,
   kind_holds 0 4000 is_printable row.answer is.answer,
-  is_within 0 65535 row.verdict (omega arith, omega (arith, is.verdict)),
+  verdict_within row.verdict is.verdict,
 )
 
 answer_casts : (row : AnswerRow) → cast_row answers_there (Null ∷ answer_params row) ≡ Null ∷ answer_params row

@@ -4,12 +4,13 @@ use Rattle.std.proofs.lemmas.List.{take_more}
 use Rattle.sqlite.specs.declared.types.Value.TheVariants.{Text}
 use Rattle.sqlite.specs.Order.{Row}
 use Rattle.sqlite_value.specs.Order.{column}
+use Rattle.hall_policy.specs.Limits.{last_second, most_answers, most_number}
 use Rattle.hall_policy.specs.Text.{IsOfKind, as_answer, as_protest_text}
 use Rattle.hall_policy.specs.declared.record.AnswerKey.{AnswerKey}
 use Rattle.hall_policy.proofs.Reading.{kind_holds}
 use Rattle.hall_sql.specs.Counts.{IsRead, AreReadAs}
 use Rattle.hall_sql.specs.Rows.{IsAnswerKeyIn, answer_in, protest_in}
-use Rattle.hall_sql.specs.Values.{kind_in, within, name_in, token_in, ruling_in}
+use Rattle.hall_sql.specs.Values.{kind_in, within, name_in, token_in, ruling_in, verdict_in}
 use Rattle.hall_sql.proofs.UnreadLemmas.{other_kind}
 
 module _ (least most : ℕ) (allows : ℕ → Bool) (text : List ℕ) where
@@ -21,16 +22,16 @@ module _ (least most : ℕ) (allows : ℕ → Bool) (text : List ℕ) where
   kind_unread other = other_kind least most allows (Text text) text refl other
 
 -- an answer is read where its columns are
-pub answer_read : (row : Row) → (key : AnswerKey) × IsAnswerKeyIn row key → IsRead (within 1 50 (column row 4))
-    → IsRead (within 0 4102444800 (column row 5)) → IsRead (as_answer kind_in (column row 6))
-    → IsRead (within 0 65535 (column row 7)) → IsRead (answer_in row)
+pub answer_read : (row : Row) → (key : AnswerKey) × IsAnswerKeyIn row key → IsRead (within 1 most_answers (column row 4))
+    → IsRead (within 0 last_second (column row 5)) → IsRead (as_answer kind_in (column row 6))
+    → IsRead (verdict_in (column row 7)) → IsRead (answer_in row)
 answer_read row key n moment answer verdict = (
   record { key = key.0; n = n.0; moment = moment.0; answer = answer.0; verdict = verdict.0 },
   rw (key.1.entrant, key.1.round, key.1.number, key.1.token, n.1, moment.1, answer.1, verdict.1) refl,
 )
 
 -- so is a key
-pub key_read : (row : Row) → IsRead (name_in (column row 0)) → IsRead (name_in (column row 1)) → IsRead (within 1 99 (column row 2))
+pub key_read : (row : Row) → IsRead (name_in (column row 0)) → IsRead (name_in (column row 1)) → IsRead (within 1 most_number (column row 2))
     → IsRead (token_in (column row 3)) → (key : AnswerKey) × IsAnswerKeyIn row key
 key_read row entrant round number token = (
   record { entrant = entrant.0; round = round.0; number = number.0; token = token.0 },
@@ -39,7 +40,7 @@ key_read row entrant round number token = (
 
 -- and a protest
 pub protest_read : (row : Row) → IsRead (name_in (column row 0)) → IsRead (name_in (column row 1)) → IsRead (token_in (column row 2))
-    → IsRead (within 1 99 (column row 3)) → IsRead (as_protest_text kind_in (column row 4))
+    → IsRead (within 1 most_number (column row 3)) → IsRead (as_protest_text kind_in (column row 4))
     → IsRead (ruling_in (column row 5) (column row 6)) → IsRead (protest_in row)
 protest_read row entrant round token number text ruling = (
   record {

@@ -19,6 +19,7 @@ use Rattle.sqlite_rules.proofs.ListLemmas.{all_has}
 use Rattle.sqlite_value.specs.Keys.{plain, first_key}
 use Rattle.sqlite_value.specs.Order.{column}
 use Rattle.sqlite_value.proofs.OrderLemmas.{then-Equal, value_cmp-Int, value_cmp-Text}
+use Rattle.hall_policy.specs.Limits.{most_number, most_points}
 use Rattle.hall_policy.specs.Text.{is_word_byte, text_cmp}
 use Rattle.hall_policy.specs.Rules.{ListsEntry}
 use Rattle.hall_policy.specs.World.{World, place_cmp, same_text}
@@ -64,11 +65,11 @@ pub record HasColumns (r : Row) (place : Place) : Type 0 where
 
 pub has_columns : (r : Row) (place : Place) → place_of_row r ≡ Some place → HasColumns r place
 has_columns r place is =
-    let it = place_parts_of (name_in (column r 1)) (within 1 99 (column r 2)) (name_in (column r 3)) (name_in (column r 4))
-    (within 1 1000 (column r 5)) place is in
+    let it = place_parts_of (name_in (column r 1)) (within 1 most_number (column r 2)) (name_in (column r 3)) (name_in (column r 4))
+    (within 1 most_points (column r 5)) place is in
     record {
       round = kind_column 1 24 is_word_byte (column r 1) place.0.round it.round;
-      number = number_column 1 99 (column r 2) place.0.number it.number;
+      number = number_column 1 most_number (column r 2) place.0.number it.number;
       author = kind_column 1 24 is_word_byte (column r 3) place.1.puzzle.author it.author;
       label = kind_column 1 24 is_word_byte (column r 4) place.1.puzzle.label it.label;
     }

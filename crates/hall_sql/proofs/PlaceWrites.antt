@@ -22,6 +22,7 @@ use Rattle.sqlite.specs.Source.TheVariants.{Values}
 use Rattle.sqlite.specs.Command.TheVariants.{Insert}
 use Rattle.sqlite.specs.State.{State, Executes}
 use Rattle.sqlite.proofs.Callers.{runs_as}
+use Rattle.hall_policy.specs.Limits.{most_number, most_points}
 use Rattle.hall_policy.specs.Text.{text_cmp, is_word_byte}
 use Rattle.hall_policy.specs.World.{World, puzzle_cmp, place_cmp, answer_cmp, protest_cmp, same_text}
 use Rattle.hall_policy.specs.Ranges.{IsRoundId, IsEntry, IsWithin}
@@ -63,7 +64,7 @@ use Rattle.hall_sql.proofs.RecordParts.{place_parts_of}
 agrees : (id : List ℕ) (r : Row) (place : PlaceKey × Entry) → place_of_row r ≡ Some place → is_under id r ≡ same_text place.0.round id
 agrees id r place is =
     let round = kind_column 1 24 is_word_byte (column r 1) place.0.round
-    (place_parts_of (name_in (column r 1)) (within 1 99 (column r 2)) (name_in (column r 3)) (name_in (column r 4)) (within 1 1000 (column r 5)) place is).round in
+    (place_parts_of (name_in (column r 1)) (within 1 most_number (column r 2)) (name_in (column r 3)) (name_in (column r 4)) (within 1 most_points (column r 5)) place is).round in
     and_true _ ∙ column_same (column r 1) place.0.round id round
 
 -- a text is itself
@@ -114,7 +115,7 @@ module _ (id : List ℕ) (old new : State) (count : ℕ) (held : IsHallData old.
       )
 
   -- the INSERT of an entry at its place
-  pub place_added : (number : ℕ) (entry : Entry) → IsRoundId id → IsWithin 1 99 number → IsEntry entry → Executes ADD_PLACE.now (place_params id number entry) old new (Ok count)
+  pub place_added : (number : ℕ) (entry : Entry) → IsRoundId id → IsWithin 1 most_number number → IsEntry entry → Executes ADD_PLACE.now (place_params id number entry) old new (Ok count)
       → IsHallData new.now × PutsPlace id number entry old.now new.now
   place_added number entry is_id is_number is ran =
       let given = place_params id number entry in
@@ -127,10 +128,10 @@ module _ (id : List ℕ) (old new : State) (count : ℕ) (held : IsHallData old.
       let after = added_keyed at given (old.now.trees 7) (new.now.trees 7) it.put it.free held.keyed.1.1.1.0 in
       let reads : place_of_row (Int at ∷ given) ≡ Some (place_key id number, entry) = rw (
         kind_holds 1 24 is_word_byte id is_id,
-        is_within 1 99 number is_number,
+        is_within 1 most_number number is_number,
         kind_holds 1 24 is_word_byte entry.puzzle.author is.puzzle.author,
         kind_holds 1 24 is_word_byte entry.puzzle.label is.puzzle.label,
-        is_within 1 1000 entry.points is.points,
+        is_within 1 most_points entry.points is.points,
       ) in
       let own : is_under id (Int at ∷ given) ≡ true = agrees id (Int at ∷ given) (place_key id number, entry) reads ∙ same_itself id in (
         record { schema = subst IsHallSchema (sym it.same) held.schema; keyed = keyed_after 7 old.now.trees new.now.trees hall_schema.tables after it.others held.keyed },

@@ -16,6 +16,7 @@ use Rattle.sqlite_rules.proofs.ListLemmas.{all_has}
 use Rattle.sqlite_value.specs.Keys.{plain, first_key}
 use Rattle.sqlite_value.specs.Order.{column}
 use Rattle.sqlite_value.proofs.OrderLemmas.{then-Equal, value_cmp-Text}
+use Rattle.hall_policy.specs.Limits.{most_number}
 use Rattle.hall_grid.specs.Printable.{is_printable}
 use Rattle.hall_policy.specs.Text.{text_cmp, is_word_byte}
 use Rattle.hall_policy.specs.World.{protest_cmp}
@@ -53,13 +54,13 @@ pub record HasColumns (r : Row) (row : ProtestRow) : Type 0 where
 
 pub has_columns : (r : Row) (row : ProtestRow) → protest_of_row r ≡ Some row → HasColumns r row
 has_columns r row is =
-    let it = protest_parts_of (name_in (column r 1)) (name_in (column r 2)) (token_in (column r 3)) (within 1 99 (column r 4))
+    let it = protest_parts_of (name_in (column r 1)) (name_in (column r 2)) (token_in (column r 3)) (within 1 most_number (column r 4))
     (kind_in 1 200 is_printable (column r 5)) (ruling_in (column r 6) (column r 7)) row is in
     record {
       entrant = kind_column 1 24 is_word_byte (column r 1) row.key.entrant it.entrant;
       round = kind_column 1 24 is_word_byte (column r 2) row.key.round it.round;
       token = kind_column 1 32 is_word_byte (column r 3) row.key.token it.token;
-      number = number_column 1 99 (column r 4) row.number it.number;
+      number = number_column 1 most_number (column r 4) row.number it.number;
       text = kind_column 1 200 is_printable (column r 5) row.text it.text;
       ruling = it.ruling;
     }

@@ -23,6 +23,7 @@ use Rattle.sqlite.specs.Command.TheVariants.{Insert, Update}
 use Rattle.sqlite.specs.State.{State, HasCleanDisk, Executes, Writes}
 use Rattle.sqlite.specs.Listing.{understood}
 use Rattle.sqlite.proofs.Callers.{runs_as, statement_of}
+use Rattle.hall_policy.specs.Limits.{most_number}
 use Rattle.hall_grid.specs.Printable.{is_printable}
 use Rattle.hall_policy.specs.Text.{text_cmp, is_word_byte}
 use Rattle.hall_policy.specs.World.{puzzle_cmp, answer_cmp, protest_cmp, ruling_points}
@@ -75,7 +76,7 @@ protest_reads row is id = rw (
   kind_holds 1 24 is_word_byte row.key.entrant is.key.entrant,
   kind_holds 1 24 is_word_byte row.key.round is.key.round,
   kind_holds 1 32 is_word_byte row.key.token is.key.token,
-  is_within 1 99 row.number is.number,
+  is_within 1 most_number row.number is.number,
   kind_holds 1 200 is_printable row.text is.text,
   ruling_reads row.ruling is.ruling,
 )
@@ -195,7 +196,7 @@ module _ (key : ProtestKey) (row : ProtestRow) (ruling : Ruling) (in_row : IsPro
         kind_holds 1 24 is_word_byte row.key.entrant in_row.key.entrant,
         kind_holds 1 24 is_word_byte row.key.round in_row.key.round,
         kind_holds 1 32 is_word_byte row.key.token in_row.key.token,
-        is_within 1 99 row.number in_row.number,
+        is_within 1 most_number row.number in_row.number,
         kind_holds 1 200 is_printable row.text in_row.text,
         ruling_reads (Some ruling) in_ruling,
       )

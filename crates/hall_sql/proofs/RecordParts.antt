@@ -4,6 +4,7 @@ use Rattle.sqlite.specs.Order.{Row}
 use Rattle.sqlite_value.specs.Order.{column}
 use Rattle.hall_grid.specs.Board.{Board}
 use Rattle.hall_grid.specs.FormReading.{◌>>=◌}
+use Rattle.hall_policy.specs.Limits.{last_second, most_answers, most_minutes, most_number, most_points, most_protest_minutes}
 use Rattle.hall_policy.specs.Text.{as_title, as_answer, as_protest_text}
 use Rattle.hall_policy.specs.declared.record.AnswerRow.{AnswerRow}
 use Rattle.hall_policy.specs.declared.record.Entry.{Entry}
@@ -17,7 +18,7 @@ use Rattle.hall_policy.specs.declared.record.Roles.{Roles}
 use Rattle.hall_policy.specs.declared.record.Round.{Round}
 use Rattle.hall_policy.specs.declared.record.Ruling.{Ruling}
 use Rattle.hall_policy.specs.declared.record.TesterKey.{TesterKey}
-use Rattle.hall_sql.specs.Values.{kind_in, within, name_in, token_in, key_in, roles_in, puzzle_in, state_in, mode_in, flag_in, ruling_in}
+use Rattle.hall_sql.specs.Values.{kind_in, within, name_in, token_in, key_in, roles_in, puzzle_in, state_in, mode_in, flag_in, ruling_in, verdict_in}
 use Rattle.hall_sql.specs.Rows.{person_in, puzzle_row_in, round_in, place_in, tester_in, answer_in, protest_in}
 
 pub record PersonParts (it : Person) (a : Option (List ℕ)) (b : Option (List ℕ)) (c : Option Roles) : Type 0 where
@@ -119,8 +120,8 @@ round_parts_of (Some a) (Some b) (Some c) (Some d) (Some e) (Some f) (Some g) (S
     }
 
 -- a row that is read as this one has its parts in the columns
-pub round_parts : (row : Row) (it : Round) → round_in row ≡ Some it → RoundParts it (name_in (column row 0)) (as_title kind_in (column row 1)) (within 0 4102444800 (column row 2)) (within 1 1440 (column row 3)) (within 0 10080 (column row 4)) (mode_in (column row 5)) (within 0 1000 (column row 6)) (within 0 1000 (column row 7)) (flag_in (column row 8)) (flag_in (column row 9))
-round_parts row it is = round_parts_of (name_in (column row 0)) (as_title kind_in (column row 1)) (within 0 4102444800 (column row 2)) (within 1 1440 (column row 3)) (within 0 10080 (column row 4)) (mode_in (column row 5)) (within 0 1000 (column row 6)) (within 0 1000 (column row 7)) (flag_in (column row 8)) (flag_in (column row 9)) it is
+pub round_parts : (row : Row) (it : Round) → round_in row ≡ Some it → RoundParts it (name_in (column row 0)) (as_title kind_in (column row 1)) (within 0 last_second (column row 2)) (within 1 most_minutes (column row 3)) (within 0 most_protest_minutes (column row 4)) (mode_in (column row 5)) (within 0 most_points (column row 6)) (within 0 most_points (column row 7)) (flag_in (column row 8)) (flag_in (column row 9))
+round_parts row it is = round_parts_of (name_in (column row 0)) (as_title kind_in (column row 1)) (within 0 last_second (column row 2)) (within 1 most_minutes (column row 3)) (within 0 most_protest_minutes (column row 4)) (mode_in (column row 5)) (within 0 most_points (column row 6)) (within 0 most_points (column row 7)) (flag_in (column row 8)) (flag_in (column row 9)) it is
 
 pub record PlaceParts (it : PlaceKey × Entry) (a : Option (List ℕ)) (b : Option ℕ) (c : Option (List ℕ)) (d : Option (List ℕ)) (e : Option ℕ) : Type 0 where
   pub round : a ≡ Some it.0.round
@@ -151,8 +152,8 @@ place_parts_of (Some a) (Some b) (Some c) (Some d) (Some e) it is =
     }
 
 -- a row that is read as this one has its parts in the columns
-pub place_parts : (row : Row) (it : PlaceKey × Entry) → place_in row ≡ Some it → PlaceParts it (name_in (column row 0)) (within 1 99 (column row 1)) (name_in (column row 2)) (name_in (column row 3)) (within 1 1000 (column row 4))
-place_parts row it is = place_parts_of (name_in (column row 0)) (within 1 99 (column row 1)) (name_in (column row 2)) (name_in (column row 3)) (within 1 1000 (column row 4)) it is
+pub place_parts : (row : Row) (it : PlaceKey × Entry) → place_in row ≡ Some it → PlaceParts it (name_in (column row 0)) (within 1 most_number (column row 1)) (name_in (column row 2)) (name_in (column row 3)) (within 1 most_points (column row 4))
+place_parts row it is = place_parts_of (name_in (column row 0)) (within 1 most_number (column row 1)) (name_in (column row 2)) (name_in (column row 3)) (within 1 most_points (column row 4)) it is
 
 pub record TesterParts (it : TesterKey × Unit {0}) (a : Option (List ℕ)) (b : Option (List ℕ)) : Type 0 where
   pub round : a ≡ Some it.0.round
@@ -215,8 +216,8 @@ answer_parts_of (Some a) (Some b) (Some c) (Some d) (Some e) (Some f) (Some g) (
     }
 
 -- a row that is read as this one has its parts in the columns
-pub answer_parts : (row : Row) (it : AnswerRow) → answer_in row ≡ Some it → AnswerParts it (name_in (column row 0)) (name_in (column row 1)) (within 1 99 (column row 2)) (token_in (column row 3)) (within 1 50 (column row 4)) (within 0 4102444800 (column row 5)) (as_answer kind_in (column row 6)) (within 0 65535 (column row 7))
-answer_parts row it is = answer_parts_of (name_in (column row 0)) (name_in (column row 1)) (within 1 99 (column row 2)) (token_in (column row 3)) (within 1 50 (column row 4)) (within 0 4102444800 (column row 5)) (as_answer kind_in (column row 6)) (within 0 65535 (column row 7)) it is
+pub answer_parts : (row : Row) (it : AnswerRow) → answer_in row ≡ Some it → AnswerParts it (name_in (column row 0)) (name_in (column row 1)) (within 1 most_number (column row 2)) (token_in (column row 3)) (within 1 most_answers (column row 4)) (within 0 last_second (column row 5)) (as_answer kind_in (column row 6)) (verdict_in (column row 7))
+answer_parts row it is = answer_parts_of (name_in (column row 0)) (name_in (column row 1)) (within 1 most_number (column row 2)) (token_in (column row 3)) (within 1 most_answers (column row 4)) (within 0 last_second (column row 5)) (as_answer kind_in (column row 6)) (verdict_in (column row 7)) it is
 
 pub record ProtestParts (it : ProtestRow) (a : Option (List ℕ)) (b : Option (List ℕ)) (c : Option (List ℕ)) (d : Option ℕ) (e : Option (List ℕ)) (f : Option (Option Ruling)) : Type 0 where
   pub entrant : a ≡ Some it.key.entrant
@@ -250,5 +251,5 @@ protest_parts_of (Some a) (Some b) (Some c) (Some d) (Some e) (Some f) it is =
     }
 
 -- a row that is read as this one has its parts in the columns
-pub protest_parts : (row : Row) (it : ProtestRow) → protest_in row ≡ Some it → ProtestParts it (name_in (column row 0)) (name_in (column row 1)) (token_in (column row 2)) (within 1 99 (column row 3)) (as_protest_text kind_in (column row 4)) (ruling_in (column row 5) (column row 6))
-protest_parts row it is = protest_parts_of (name_in (column row 0)) (name_in (column row 1)) (token_in (column row 2)) (within 1 99 (column row 3)) (as_protest_text kind_in (column row 4)) (ruling_in (column row 5) (column row 6)) it is
+pub protest_parts : (row : Row) (it : ProtestRow) → protest_in row ≡ Some it → ProtestParts it (name_in (column row 0)) (name_in (column row 1)) (token_in (column row 2)) (within 1 most_number (column row 3)) (as_protest_text kind_in (column row 4)) (ruling_in (column row 5) (column row 6))
+protest_parts row it is = protest_parts_of (name_in (column row 0)) (name_in (column row 1)) (token_in (column row 2)) (within 1 most_number (column row 3)) (as_protest_text kind_in (column row 4)) (ruling_in (column row 5) (column row 6)) it is

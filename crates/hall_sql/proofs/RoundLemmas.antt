@@ -12,6 +12,7 @@ use Rattle.sqlite_rules.proofs.ListLemmas.{all_has}
 use Rattle.sqlite_value.specs.Keys.{plain, first_key}
 use Rattle.sqlite_value.specs.Order.{column}
 use Rattle.sqlite_value.proofs.OrderLemmas.{then-Equal, value_cmp-Text}
+use Rattle.hall_policy.specs.Limits.{last_second, most_minutes, most_points, most_protest_minutes}
 use Rattle.hall_grid.specs.Printable.{is_printable}
 use Rattle.hall_policy.specs.Text.{text_cmp, is_word_byte}
 use Rattle.hall_policy.specs.declared.record.Round.{Round}
@@ -33,9 +34,9 @@ use Rattle.hall_sql.proofs.Versions.{all_listed, keyed_in, unique_in}
 pub id_column : (r : Row) (row : Round) → round_of_row r ≡ Some row → column r 1 ≡ Text row.id
 id_column r row is =
     kind_column 1 24 is_word_byte (column r 1) row.id
-    (round_parts_of (name_in (column r 1)) (kind_in 1 60 is_printable (column r 2)) (within 0 4102444800 (column r 3))
-    (within 1 1440 (column r 4)) (within 0 10080 (column r 5)) (mode_in (column r 6)) (within 0 1000 (column r 7))
-    (within 0 1000 (column r 8)) (flag_in (column r 9)) (flag_in (column r 10)) row is).id
+    (round_parts_of (name_in (column r 1)) (kind_in 1 60 is_printable (column r 2)) (within 0 last_second (column r 3))
+    (within 1 most_minutes (column r 4)) (within 0 most_protest_minutes (column r 5)) (mode_in (column r 6)) (within 0 most_points (column r 7))
+    (within 0 most_points (column r 8)) (flag_in (column r 9)) (flag_in (column r 10)) row is).id
 
 -- two rows of one id agree on the column of the primary key
 agreeing : (r y : Row) (x z : Round) → round_of_row r ≡ Some x → round_of_row y ≡ Some z → x.id ≡ z.id

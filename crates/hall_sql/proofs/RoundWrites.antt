@@ -27,6 +27,7 @@ use Rattle.sqlite.specs.Command.TheVariants.{Insert, Update}
 use Rattle.sqlite.specs.State.{State, HasCleanDisk, Executes, Shown}
 use Rattle.sqlite.specs.Listing.{understood}
 use Rattle.sqlite.proofs.Callers.{IsPlain, runs_as}
+use Rattle.hall_policy.specs.Limits.{last_second, most_minutes, most_points, most_protest_minutes}
 use Rattle.hall_grid.specs.Printable.{is_printable}
 use Rattle.hall_policy.specs.Text.{text_cmp, is_word_byte}
 use Rattle.hall_policy.specs.World.{puzzle_cmp, answer_cmp, protest_cmp}
@@ -162,12 +163,12 @@ module _ (round : Round) (is : IsRound round) where
   head_reads id = rw (
     kind_holds 1 24 is_word_byte round.id is.id,
     kind_holds 1 60 is_printable round.title is.title,
-    is_within 0 4102444800 round.start is.start,
-    is_within 1 1440 round.minutes is.minutes,
-    is_within 0 10080 round.protest_minutes is.protest_minutes,
+    is_within 0 last_second round.start is.start,
+    is_within 1 most_minutes round.minutes is.minutes,
+    is_within 0 most_protest_minutes round.protest_minutes is.protest_minutes,
     mode_reads round.mode,
-    is_within 0 1000 round.penalty is.penalty,
-    is_within 0 1000 round.bonus is.bonus,
+    is_within 0 most_points round.penalty is.penalty,
+    is_within 0 most_points round.bonus is.bonus,
     flag_reads round.released,
     flag_reads round.published,
   )

@@ -7,6 +7,8 @@ use Rattle.sqlite.specs.Order.{Row}
 use Rattle.sqlite.specs.Tree.{Trees}
 use Rattle.sqlite_value.specs.Order.{column}
 use Rattle.hall_grid.specs.FormReading.{◌>>=◌}
+use Rattle.hall_policy.specs.Limits.{last_second, most_answers, most_minutes, most_number, most_points}
+use Rattle.hall_policy.specs.Limits.{most_protest_minutes}
 use Rattle.hall_policy.specs.Text.{text_cmp, as_title, as_answer, as_protest_text}
 use Rattle.hall_policy.specs.World.{World, puzzle_cmp, answer_cmp, protest_cmp}
 use Rattle.hall_policy.specs.declared.record.Person.{Person}
@@ -19,7 +21,7 @@ use Rattle.hall_policy.specs.declared.record.AnswerKey.{AnswerKey}
 use Rattle.hall_policy.specs.declared.record.AnswerRow.{AnswerRow}
 use Rattle.hall_policy.specs.declared.record.ProtestRow.{ProtestRow}
 use Rattle.hall_sql.specs.Values.{kind_in, within, name_in, token_in, key_in, roles_in, puzzle_in, state_in, mode_in}
-use Rattle.hall_sql.specs.Values.{flag_in, ruling_in}
+use Rattle.hall_sql.specs.Values.{flag_in, ruling_in, verdict_in}
 
 -- so many columns from the given place on
 abbrev pub columns_from : ℕ → ℕ → Row → Row
@@ -57,12 +59,12 @@ abbrev pub round_in : Row → Option Round
 round_in columns = do
   id ← name_in (column columns 0)
   title ← as_title kind_in (column columns 1)
-  start ← within 0 4102444800 (column columns 2)
-  minutes ← within 1 1440 (column columns 3)
-  protest_minutes ← within 0 10080 (column columns 4)
+  start ← within 0 last_second (column columns 2)
+  minutes ← within 1 most_minutes (column columns 3)
+  protest_minutes ← within 0 most_protest_minutes (column columns 4)
   mode ← mode_in (column columns 5)
-  penalty ← within 0 1000 (column columns 6)
-  bonus ← within 0 1000 (column columns 7)
+  penalty ← within 0 most_points (column columns 6)
+  bonus ← within 0 most_points (column columns 7)
   released ← flag_in (column columns 8)
   published ← flag_in (column columns 9)
   Some (record {
@@ -86,10 +88,10 @@ round_of_row row = round_in (columns_from 1 10 row)
 abbrev pub place_in : Row → Option (PlaceKey × Entry)
 place_in columns = do
   round ← name_in (column columns 0)
-  number ← within 1 99 (column columns 1)
+  number ← within 1 most_number (column columns 1)
   author ← name_in (column columns 2)
   label ← name_in (column columns 3)
-  points ← within 1 1000 (column columns 4)
+  points ← within 1 most_points (column columns 4)
   Some (
     record { round = round; number = number },
     record { puzzle = record { author = author; label = label }; points = points },
@@ -104,12 +106,12 @@ abbrev pub answer_in : Row → Option AnswerRow
 answer_in columns = do
   entrant ← name_in (column columns 0)
   round ← name_in (column columns 1)
-  number ← within 1 99 (column columns 2)
+  number ← within 1 most_number (column columns 2)
   token ← token_in (column columns 3)
-  n ← within 1 50 (column columns 4)
-  moment ← within 0 4102444800 (column columns 5)
+  n ← within 1 most_answers (column columns 4)
+  moment ← within 0 last_second (column columns 5)
   answer ← as_answer kind_in (column columns 6)
-  verdict ← within 0 65535 (column columns 7)
+  verdict ← verdict_in (column columns 7)
   Some (record {
     key = record { entrant = entrant; round = round; number = number; token = token };
     n = n;
@@ -122,7 +124,7 @@ answer_in columns = do
 pub record IsAnswerKeyIn (columns : Row) (key : AnswerKey) : Type 0 where
   pub entrant : name_in (column columns 0) ≡ Some key.entrant
   pub round : name_in (column columns 1) ≡ Some key.round
-  pub number : within 1 99 (column columns 2) ≡ Some key.number
+  pub number : within 1 most_number (column columns 2) ≡ Some key.number
   pub token : token_in (column columns 3) ≡ Some key.token
 
 -- the answer that a row of the table is
@@ -135,7 +137,7 @@ protest_in columns = do
   entrant ← name_in (column columns 0)
   round ← name_in (column columns 1)
   token ← token_in (column columns 2)
-  number ← within 1 99 (column columns 3)
+  number ← within 1 most_number (column columns 3)
   text ← as_protest_text kind_in (column columns 4)
   ruling ← ruling_in (column columns 5) (column columns 6)
   Some (record {

@@ -1,10 +1,12 @@
 -- What a column's value stands for. A value that is no such thing stands for nothing.
-use Rattle.std.specs.Prelude.{nat_le, IsTrue, ◌<◌, ◌&&◌, ◌==◌, ◌⊎◌, ◌/◌, ◌%◌, ℕ, ℤ, pos, negsuc, length, Bool, true, false, List}
+use Rattle.std.specs.Prelude.{nat_le, IsTrue, ◌<◌, ◌&&◌, ◌==◌, ◌⊎◌, ◌/◌, ◌%◌, ◌^◌, ◌-◌, ℕ, ℤ, pos, negsuc, length}
+use Rattle.std.specs.Prelude.{Bool, true, false, List}
 use Rattle.std.specs.Prelude.{if◌then◌else◌, Option, Some, None}
 use Rattle.std.proofs.Common.{inl, inr}
 use Rattle.std.specs.Ordering.{int_eq}
 use Rattle.sqlite.specs.declared.types.Value.{Value}
 use Rattle.sqlite.specs.declared.types.Value.TheVariants.{Null, Int, Real, Text, Blob}
+use Rattle.hall_grid.specs.declared.rule.TheConstants.{NAMES}
 use Rattle.hall_grid.specs.Board.{Board}
 use Rattle.hall_grid.specs.FormReading.{◌>>=◌}
 use Rattle.hall_grid.proofs.SpellsOrHasFault.{spells_or_fault}
@@ -54,15 +56,19 @@ kind_in least most allows value = text_in value >>= passing (is_kind least most 
 abbrev pub within : ℕ → ℕ → Value → Option ℕ
 within least most value = number_in value >>= passing (λ n. nat_le least n && nat_le n most)
 
+-- the verdict of an answer: the bits of a set of names of rules
+abbrev pub verdict_in : Value → Option ℕ
+verdict_in = within 0 (2 ^ NAMES - 1)
+
 -- all bytes that are allowed are ASCII
 abbrev pub AreAscii : (ℕ → Bool) → Type 0
 AreAscii allows = (byte : ℕ) → IsTrue (allows byte) → byte < 128
 
--- the name, label or id: 1 to 24 bytes
+-- the name, label or id
 abbrev pub name_in : Value → Option (List ℕ)
 name_in = as_word kind_in
 
--- the token: 1 to 32 bytes
+-- the token
 abbrev pub token_in : Value → Option (List ℕ)
 token_in = as_token kind_in
 

@@ -6,7 +6,7 @@ ghost use Rattle.std.specs.Int.{w32};
 ghost use Rattle.sqlite.specs.Order.{Row as Columns};
 ghost use Rattle.sqlite_value.specs.Order.{column};
 ghost use Rattle.sqlite_value.specs.Value.{owned};
-ghost use Rattle.hall_sql.specs.Values.{board_of, number_in, kind_in, within, roles_in, puzzle_in};
+ghost use Rattle.hall_sql.specs.Values.{board_of, number_in, kind_in, within, roles_in, puzzle_in, verdict_in};
 ghost use Rattle.hall_sql.specs.Values.{unsolved_of, state_in, int_in, ruling_points_of, unpointed_of, ruling_in};
 ghost use Rattle.hall_sql.specs.Values.{mode_in, flag_in};
 ghost use Rattle.hall_grid.proofs.SpellsOrHasFault.{spells_or_fault};
@@ -211,12 +211,16 @@ fn answer_key_at(row: &Row) -> Result<AnswerKey, StoreFault>
     })
 }
 
+/// The greatest verdict in a column.
+const MOST_VERDICT: u64 = Broken::ALL_BITS as u64;
+
 /// The verdict whose bits stand in a column.
 pub(crate) fn verdict_at(row: &Row, at: usize) -> Result<Broken, StoreFault>
-    ensures verdict { IfOk result (λ verdict. within 0 65535 (column row.now at) ≡ Some verdict) }
-    ensures unread { Fails (within 0 65535 (column row.now at) ≡ None) result }
+    ensures verdict { IfOk result (λ verdict. verdict_in (column row.now at) ≡ Some verdict) }
+    ensures unread { Fails (verdict_in (column row.now at) ≡ None) result }
 {
-    Ok(Broken::from_bits(number_at::<0, 65535>(row, at)?.get() as u16))
+    let bits = number_at::<0, MOST_VERDICT>(row, at)?;
+    Ok(Broken::from_bits(bits.get() as u32))
 }
 
 impl Record for AnswerRow {

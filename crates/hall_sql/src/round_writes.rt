@@ -4,6 +4,7 @@ ghost use Rattle.std.specs.FinMap.{get};
 ghost use Rattle.sqlite.specs.Held.{state};
 ghost use Rattle.sqlite.specs.Values.{bound};
 ghost use Rattle.sqlite.specs.State.{HasCleanDisk};
+ghost use Rattle.hall_policy.specs.Limits.{most_entries, most_number};
 ghost use Rattle.hall_policy.specs.Ranges.{IsRound, IsWithin, IsEntry};
 ghost use Rattle.hall_store.specs.Store.{Served};
 ghost use Rattle.hall_store.specs.Change.{flagged};
@@ -240,7 +241,7 @@ pub(crate) fn put_place<S: Alter>(
     number: u32,
     entry: &Entry,
 ) -> Result<(), StoreFault>
-    requires numbered { IsWithin 1 99 number }
+    requires numbered { IsWithin 1 most_number number }
     ensures same_reference { tx.new.conn.ghost_name ≡ tx.old.conn.ghost_name }
     ensures carries { LeadsUncommitted (state S.Store tx.old.conn.now) (state S.Store tx.new.conn.now) }
     ensures done { HasCleanDisk (state S.Store tx.new.conn.now) → IsTrue (state S.Store tx.old.conn.now).in_transaction
@@ -271,7 +272,7 @@ fn put_places<S: Alter>(
     id: &RoundId,
     entries: &[Entry],
 ) -> Result<(), StoreFault>
-    requires few { length entries.now ≤ 40 }
+    requires few { length entries.now ≤ most_entries }
     ensures same_reference { tx.new.conn.ghost_name ≡ tx.old.conn.ghost_name }
     ensures carries { LeadsUncommitted (state S.Store tx.old.conn.now) (state S.Store tx.new.conn.now) }
     ensures done { HasCleanDisk (state S.Store tx.new.conn.now) → IsTrue (state S.Store tx.old.conn.now).in_transaction
@@ -295,7 +296,7 @@ fn put_list<S: Alter>(
     id: &RoundId,
     entries: &[Entry],
 ) -> Result<(), StoreFault>
-    requires few { length entries.now ≤ 40 }
+    requires few { length entries.now ≤ most_entries }
     ensures same_reference { tx.new.conn.ghost_name ≡ tx.old.conn.ghost_name }
     ensures carries { LeadsUncommitted (state S.Store tx.old.conn.now) (state S.Store tx.new.conn.now) }
     ensures done { HasCleanDisk (state S.Store tx.new.conn.now) → IsTrue (state S.Store tx.old.conn.now).in_transaction

@@ -6,6 +6,7 @@ use Rattle.std.specs.Str.Parse.{IsNumeral, digits_value, without_leading_plus}
 use Rattle.clap.specs.Words.{Kinds, Row, Text, fault_of, first_of, matches_of}
 use Rattle.clap.specs.declared.error.kind.ErrorKind.{ErrorKind}
 use Rattle.clap.specs.declared.error.kind.ErrorKind.TheVariants.{DisplayHelp, DisplayVersion, OutOfMemory}
+use Rattle.hall_policy.specs.Limits.{most_visits}
 use Rattle.hall_tool.specs.declared.pages.Page.{Page}
 use Rattle.hall_tool.specs.declared.pages.Page.TheVariants as pages
 use Rattle.hall_tool.specs.declared.words.Command.{Command}
@@ -55,17 +56,29 @@ IsNumberIfAny numbers (Some text) (Some number) = IsNumberWithin numbers.least n
 IsNumberIfAny numbers None None = ⊤
 IsNumberIfAny numbers text other = ⊥
 
--- the visits that a search may make: 0 to 1,000,000, and 200,000 where none are named
+-- the visits that a search may make where none are named
+abbrev pub usual_visits : ℕ
+usual_visits = 200000
+
+-- the visits that a search may make
 abbrev pub budgets : Numbers
-budgets = record { usual = Some 200000; least = 0; most = 1000000 }
+budgets = record { usual = Some usual_visits; least = 0; most = most_visits }
 
--- a port: 1 to 65,535; one must be named
+-- the greatest number of a port
+abbrev pub last_port : ℕ
+last_port = 65535
+
+-- a port; one must be named
 abbrev pub ports : Numbers
-ports = record { usual = None; least = 1; most = 65535 }
+ports = record { usual = None; least = 1; most = last_port }
 
--- the connections that are served: 1 to 1,000,000, which is also where none are named
+-- the connections that may be served
+abbrev pub most_connections : ℕ
+most_connections = 1000000
+
+-- the connections that are served, the most where none are named
 abbrev pub connection_limits : Numbers
-connection_limits = record { usual = Some 1000000; least = 1; most = 1000000 }
+connection_limits = record { usual = Some most_connections; least = 1; most = most_connections }
 
 -- the command of a page, by the values that the words give its options
 abbrev pub IsTaken : Page → List Row → Command → Type 0
@@ -146,15 +159,16 @@ SpellOneCommand =
 -- alone and after each name; `--version`
 pub record AreSpelled : Type 0 where
   pub judge : SpellsCommand (codes "judge" ∷ []) Judge
-  pub solve : SpellsCommand (codes "solve" ∷ []) (Solve 200000)
-  pub budget : (text : Text) (budget : ℕ) → IsNumberWithin 0 1000000 text budget
+  pub solve : SpellsCommand (codes "solve" ∷ []) (Solve usual_visits)
+  pub budget : (text : Text) (budget : ℕ) → IsNumberWithin 0 most_visits text budget
       → SpellsCommand (codes "solve" ∷ (codes "--budget=" ++ text) ∷ []) (Solve budget)
   pub init : (db people : Text)
       → SpellsCommand (codes "init" ∷ (codes "--db=" ++ db) ∷ (codes "--people=" ++ people) ∷ []) (Init db people)
-  pub serve : (db text : Text) (port : ℕ) → IsNumberWithin 1 65535 text port
-      → SpellsCommand (codes "serve" ∷ (codes "--db=" ++ db) ∷ (codes "--port=" ++ text) ∷ []) (Serve db port 1000000)
+  pub serve : (db text : Text) (port : ℕ) → IsNumberWithin 1 last_port text port
+      → SpellsCommand (codes "serve" ∷ (codes "--db=" ++ db) ∷ (codes "--port=" ++ text) ∷ [])
+      (Serve db port most_connections)
   pub connections : (db text count : Text) (port connections : ℕ)
-      → IsNumberWithin 1 65535 text port → IsNumberWithin 1 1000000 count connections
+      → IsNumberWithin 1 last_port text port → IsNumberWithin 1 most_connections count connections
       → SpellsCommand
       (codes "serve" ∷ (codes "--db=" ++ db) ∷ (codes "--port=" ++ text) ∷ (codes "--connections=" ++ count) ∷ [])
       (Serve db port connections)
@@ -167,7 +181,7 @@ pub record AreSpelled : Type 0 where
   pub turned : (from to : Text)
       → SpellsCommand (codes "migrate" ∷ (codes "--to=" ++ to) ∷ (codes "--from=" ++ from) ∷ []) (Migrate from to)
   pub check : (db : Text) → SpellsCommand (codes "check" ∷ (codes "--db=" ++ db) ∷ []) (Check db None)
-  pub search : (db text : Text) (budget : ℕ) → IsNumberWithin 0 1000000 text budget
+  pub search : (db text : Text) (budget : ℕ) → IsNumberWithin 0 most_visits text budget
       → SpellsCommand (codes "check" ∷ (codes "--db=" ++ db) ∷ (codes "--budget=" ++ text) ∷ [])
       (Check db (Some budget))
   pub help : SpellsCommand (codes "--help" ∷ []) (Help pages.Hall)

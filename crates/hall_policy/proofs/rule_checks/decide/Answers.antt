@@ -1,8 +1,8 @@
 use Rattle.std.proofs.Common.{below_more, subst, ◌≡◌, ◌<◌, ◌≤◌, length, lit≤, arith}
 use Rattle.std.proofs.lemmas.Option.{get_or_from_slice_get}
 use Rattle.hall_policy.specs.World.{World}
-use Rattle.hall_policy.specs.Actions.{number_of, rules_asked}
-use Rattle.hall_policy.specs.Facts.{TrueUpTo, deciding}
+use Rattle.hall_policy.specs.Actions.{number_of, last_rule, rules_asked}
+use Rattle.hall_policy.specs.Facts.{AreTrue, TrueUpTo, deciding}
 use Rattle.hall_policy.specs.First.{First}
 use Rattle.hall_policy.specs.Implies.{Implies, IsSame}
 use Rattle.hall_policy.specs.declared.rule.Rule.{Rule}
@@ -33,7 +33,7 @@ returns-in-Forbids c =
       first = decided facts action c.args.t c.number.result (Deny c.number.result) (omega arith) first implied;
       passes = passes_before facts action c.args.t c.loop-rule.rule-index c.number.result within number c.loop-rule.invariant;
       implies = implied;
-      decided = decided facts action c.args.t 20 (Deny c.number.result) (small_deciding facts action (Deny c.number.result) implied) first implied;
+      decided = decided facts action c.args.t last_rule (Deny c.number.result) (small_deciding facts action (Deny c.number.result) implied) first implied;
     }
 
 pub returns-in-Repeats : goal.returns-in-Repeats
@@ -51,7 +51,7 @@ returns-in-Repeats c =
       first = decided facts action c.args.t (deciding action Repeat) Repeat (omega arith) first implied;
       passes = passes_before facts action c.args.t i (deciding action Repeat) within number c.loop-rule.invariant;
       implies = implied;
-      decided = decided facts action c.args.t 20 Repeat (small_deciding facts action Repeat implied) first implied;
+      decided = decided facts action c.args.t last_rule Repeat (small_deciding facts action Repeat implied) first implied;
     }
 
 pub returns : goal.returns
@@ -60,11 +60,11 @@ returns c =
     let action = c.args.action.now in
     let i = c.loop-rule.rule-index in
     let past : length (rules_asked action) ≤ i = rw c.rules_asked-rule-items.ensures at c.loop-rule-test.false in
-    let first : (world : World) → TrueUpTo 20 facts world action → First world facts.caller action c.args.t Allow = all_pass facts action c.args.t i past c.loop-rule.invariant 20 in
+    let first : (world : World) → AreTrue facts world action → First world facts.caller action c.args.t Allow = all_pass facts action c.args.t i past c.loop-rule.invariant last_rule in
     let implied : Implies Allow facts action = allowed facts action c.args.t i past c.loop-rule.invariant in
     record {
-      first = decided facts action c.args.t 20 Allow (lit≤ tt) first implied;
+      first = decided facts action c.args.t last_rule Allow (lit≤ tt) first implied;
       passes = λ n less. all_pass facts action c.args.t i past c.loop-rule.invariant n;
       implies = implied;
-      decided = decided facts action c.args.t 20 Allow (lit≤ tt) first implied;
+      decided = decided facts action c.args.t last_rule Allow (lit≤ tt) first implied;
     }

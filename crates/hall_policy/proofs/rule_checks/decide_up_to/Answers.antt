@@ -1,5 +1,5 @@
 use Rattle.std.proofs.Common.{◌<◌, ◌≤◌, arith}
-use Rattle.hall_policy.specs.Actions.{number_of}
+use Rattle.hall_policy.specs.Actions.{number_of, last_rule}
 use Rattle.hall_policy.specs.Facts.{deciding}
 use Rattle.hall_policy.proofs.First.{decided, small_deciding}
 use Rattle.hall_policy.proofs.rule_checks.decide_up_to.Goals as goal
@@ -17,5 +17,5 @@ returns-else-deciding-number-clause-none c =
 
 pub returns-else-deciding-number-clause-whole : goal.returns-else-deciding-number-clause-whole
 returns-else-deciding-number-clause-whole c =
-    let small : deciding c.args.action.now c.decide-decision.result ≤ 20 = small_deciding c.args.facts.now c.args.action.now c.decide-decision.result c.decide-decision.ensures.implies in
+    let small : deciding c.args.action.now c.decide-decision.result ≤ last_rule = small_deciding c.args.facts.now c.args.action.now c.decide-decision.result c.decide-decision.ensures.implies in
     omega (arith, small, c.if-deciding-number.false, c.deciding.ensures, c.number.ensures)

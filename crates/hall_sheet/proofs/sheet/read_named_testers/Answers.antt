@@ -2,13 +2,14 @@ use Rattle.std.proofs.Common.{◌≡◌, ◌≤◌, ◌∙◌, sym, ap, arith, l
 use Rattle.std.specs.Borrow.{Bor}
 use Rattle.std.proofs.lemmas.List.{length-map}
 use Rattle.toml.specs.View.{table_view}
+use Rattle.hall_policy.specs.Limits.{most_testers}
 use Rattle.hall_sheet.proofs.Testers.{testers_are, tester_repeated}
 use Rattle.hall_sheet.proofs.sheet.read_named_testers.Goals as goal
 
 abbrev texts_of : List (Bor (List ℕ)) → List (List ℕ)
 texts_of = map (λ t. t.now)
 
-few : (texts : List (Bor (List ℕ))) (n m : ℕ) → length texts ≡ n → m ≡ n → m ≤ 20 → length (texts_of texts) ≤ 20
+few : (texts : List (Bor (List ℕ))) (n m : ℕ) → length texts ≡ n → m ≡ n → m ≤ most_testers → length (texts_of texts) ≤ most_testers
 few texts n m long same most = omega (arith, length-map texts (λ t. t.now), long, same, most)
 
 pub returns-in-Some : goal.returns-in-Some

@@ -1,6 +1,6 @@
 use Rattle.std.proofs.Common.{◌∙◌, Option, Some, inr, sym, subst}
 use Rattle.std.proofs.lemmas.Bool.{false≢true}
-use Rattle.hall_policy.specs.Facts.{IsRoundFound, TrueUpTo}
+use Rattle.hall_policy.specs.Facts.{IsRoundFound, AreTrue}
 use Rattle.hall_policy.specs.declared.record.RoundRow.{RoundRow}
 use Rattle.hall_store.specs.Store.{Kept}
 use Rattle.hall_desk.specs.Lookups.{IsThere}
@@ -27,7 +27,7 @@ returns-then-branch-clause-fault g c =
     let kept : Kept old new = kept_then old mid new c.in_ok-verdict.ensures.kept c.in_ok-is_number_taken.ensures.kept in
     λ _. inr (λ h.
     let read = c.in_ok-is_number_taken.ensures.served h in
-    let told = carried (λ w. TrueUpTo 20 facts w (submit_action asked)) old new kept c.requires.told h read.0 in
+    let told = carried (λ w. AreTrue facts w (submit_action asked)) old new kept c.requires.told h read.0 in
     (read.0, λ sane. number_free new.world facts asked c.in-Some-Some.person _ c.in-Some-Some.is-0 told c.number_after-n.ensures sane (read.1.0 c.if-branch.true)))
 
 pub returns-clause-told : goal.returns-clause-told
@@ -45,7 +45,7 @@ returns-clause-told g c =
     let kept : Kept old new = kept_then old mid new judged.kept read.kept in (
       (λ h s. (read.served h).0),
       (λ h s. submitted new.world facts asked person c.number_after-n.result c.in-Some-Some.is-0
-          (carried (λ w. TrueUpTo 20 facts w (submit_action asked)) old new kept c.requires.told h s) c.number_after-n.ensures
+          (carried (λ w. AreTrue facts w (submit_action asked)) old new kept c.requires.told h s) c.number_after-n.ensures
           c.args.t verdict row c.in_ok-submitted.field-0 c.in-Some-Some.is-1 c.requires.allowed.token
           (carried (λ w. IsThere w facts.caller) old new kept c.requires.there h s)
           (carried (λ w. IsJudgedAt w row asked.number asked.answer.now verdict) mid new read.kept (λ h0 s0. (judged.served h0).1) h s)

@@ -2,7 +2,8 @@ use Rattle.std.proofs.Common.{◌≡◌, ◌↔◌, ◌+◌, IsTrue, refl, ◌++
 use Rattle.std.specs.List.{flat_map}
 use Rattle.std.proofs.Output.{has_written_append, has_written_of_eq}
 use Rattle.hall_grid.specs.Rule.{Names, named_text, name_of, all_rules}
-use Rattle.hall_grid.proofs.VerdictText.{named_more, unnamed_more, rule_at, verdict_is}
+use Rattle.hall_grid.proofs.NameSets.{rule_at}
+use Rattle.hall_grid.proofs.VerdictText.{named_more, unnamed_more, verdict_is}
 use Rattle.hall_grid.proofs.rule.BrokenDisplay.fmt.Goals as goal
 use Rattle.hall_grid.proofs.rule.BrokenDisplay.fmt.Goals.{then-contains+in_ok-write-2, else-contains}
 
