@@ -9,11 +9,12 @@ use Rattle.hall_score.specs.declared.entrant.Rulings.{Rulings}
 abbrev pub rulings_at : List (List ℕ × Rulings) → List ℕ → Option Rulings
 rulings_at rulings entrant = lookup (is_at (text_cmp entrant)) rulings
 
--- the points of an entrant's protests, and how many there are
+-- the points of an entrant's protests
 abbrev pub points_ruled : Option Rulings → ℤ
 points_ruled (Some rulings) = rulings.points
 points_ruled None = pos 0
 
+-- how many protests an entrant has: none where there is no entry
 abbrev pub count_ruled : Option Rulings → ℕ
 count_ruled (Some rulings) = rulings.count
 count_ruled None = 0

@@ -16,11 +16,12 @@ use Rattle.hall_slither.specs.declared.count.Consequence.{Consequence}
 use Rattle.hall_slither.specs.declared.count.Consequence.TheVariants.{Nothing, AllBe, Impossible}
 use Rattle.hall_slither.specs.Dot.{sides_at, count_at}
 
--- the number of a dot or a cell, and how many there are of its kind
+-- the number of a dot or a cell
 abbrev pub centre_number : Centre → ℕ
 centre_number (Dot d) = d
 centre_number (Cell cell) = cell
 
+-- how many dots or cells there are: those of the centre's kind
 abbrev pub centre_count : Size → Centre → ℕ
 centre_count size (Dot d) = dots size
 centre_count size (Cell cell) = cells size
@@ -38,11 +39,12 @@ sides_round size (Cell cell) = map Some (sides_of size cell)
 abbrev pub count_sides : (ℕ → Bool) → List (Option ℕ) → ℕ
 count_sides p sides = sum_by (count_at p) sides
 
--- the place has a line
+-- the value is there, and is 1
 abbrev pub is_one : Option ℕ → Bool
 is_one None = false
 is_one (Some v) = v == 1
 
+-- the place has a line
 abbrev pub has_line : List (Option ℕ) → ℕ → Bool
 has_line p s = is_one (slice_index_or p s None)
 

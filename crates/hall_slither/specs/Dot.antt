@@ -4,23 +4,27 @@ use Rattle.std.specs.Prelude.{Option, Some, None, IfSome}
 use Rattle.hall_grid.specs.declared.board.Size.{Size}
 use Rattle.hall_grid.specs.Slither.{flat_side, upright_side}
 
--- the row and the column of a dot
+-- the row of a dot
 abbrev pub dot_row : Size → ℕ → ℕ
 dot_row size d = d / (size.cols + 1)
 
+-- the column of a dot
 abbrev pub dot_col : Size → ℕ → ℕ
 dot_col size d = d % (size.cols + 1)
 
--- the side from the dot of this row and column up, left, right or down, where it is on the board
+-- the side up from the dot of this row and column, where it is on the board
 abbrev pub side_up : Size → ℕ → ℕ → Option ℕ
 side_up size r c = if nat_lt 0 r then Some (upright_side size (r - 1) c) else None
 
+-- the side to the left of it, where it is on the board
 abbrev pub side_left : Size → ℕ → ℕ → Option ℕ
 side_left size r c = if nat_lt 0 c then Some (flat_side size r c - 1) else None
 
+-- the side to the right of it, where it is on the board
 abbrev pub side_right : Size → ℕ → ℕ → Option ℕ
 side_right size r c = if nat_lt c size.cols then Some (flat_side size r c) else None
 
+-- the side down from it, where it is on the board
 abbrev pub side_down : Size → ℕ → ℕ → Option ℕ
 side_down size r c = if nat_lt r size.rows then Some (upright_side size r c) else None
 

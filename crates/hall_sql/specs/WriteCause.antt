@@ -154,6 +154,7 @@ HeadIsRefused round zero db = IsStatementRefused ADD_HEAD.now (head_params round
 HeadIsRefused round (suc zero) db = IsStatementRefused REPLACE_HEAD.now (head_params round) db
 HeadIsRefused round (suc (suc more)) db = Unit
 
+-- the statement that puts the head is refused, over as many rows as stand under its id
 abbrev pub IsHeadRefused : Round → Database → Type 0
 IsHeadRefused round db = (count : ℕ) × HasSoManyHeads round.id db count × HeadIsRefused round count db
 

@@ -220,7 +220,7 @@ pub(crate) fn verdict_at(row: &Row, at: usize) -> Result<Broken, StoreFault>
     ensures unread { Fails (verdict_in (column row.now at) ≡ None) result }
 {
     let bits = number_at::<0, MOST_VERDICT>(row, at)?;
-    Ok(Broken::from_bits(bits.get() as u32))
+    Ok(Broken::from_bits(bits.get() as u16))
 }
 
 impl Record for AnswerRow {
