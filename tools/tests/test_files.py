@@ -84,11 +84,20 @@ def is_taken(name, room, *scripts):
             os.remove(path + ending)
 
 
-def with_table(name, by):
-    """The tables with another statement in the place of the one that makes the table of that name."""
-    made = [f"CREATE TABLE {it}" for it in TABLES.split("CREATE TABLE ")[1:]]
-    at = [it.split()[2] for it in made].index(name)
-    return "".join([*made[:at], by, *made[at + 1 :]])
+def with_table(table, by, part=None):
+    """The tables with another statement in the place of the one that makes this table, or with another part in it."""
+    made = {it.split()[0]: f"CREATE TABLE {it}" for it in TABLES.split("CREATE TABLE ")[1:]}
+    if part is None:
+        made[table] = f"{by}\n;"
+    else:
+        assert made[table].count(part) == 1, part
+        made[table] = made[table].replace(part, by)
+    return "".join(made.values())
+
+
+def shapes(kind):
+    """The tables of each shape of that kind, by what tells it."""
+    return {" ".join(of.values()): with_table(**of) for of in SHAPES[kind]}
 
 
 def test_shapes_that_are_taken(room):
@@ -97,8 +106,8 @@ def test_shapes_that_are_taken(room):
         is_taken(change, room, TABLES, change)
     is_taken("no ON UPDATE", room, PLAIN)
     is_taken("some ON UPDATE", room, MIXED)
-    for of in SHAPES["worded"]:
-        is_taken(of["by"], room, with_table(of["table"], of["by"] + "\n;"))
+    for name, made in shapes("worded").items():
+        is_taken(name, room, made)
 
 
 @pytest.mark.parametrize("kind", ["added", "others", "changed", "missing"])
@@ -108,7 +117,7 @@ def test_shapes_that_are_refused(room, kind):
     elif kind == "others":
         scripts = {change: [change] for change in SHAPES["others"]}
     elif kind == "changed":
-        scripts = {of["by"]: [with_table(of["table"], of["by"] + ";")] for of in SHAPES["changed"]}
+        scripts = {name: [made] for name, made in shapes("changed").items()}
     else:
         scripts = {f"no table {name}": [with_table(name, "")] for name in re.findall("CREATE TABLE (\\w+)", TABLES)}
     assert scripts

@@ -12,7 +12,7 @@ import tomllib
 from pathlib import Path
 
 import pytest
-from harness import tables
+from harness.rows import Program, Row, Table, ask_lists, ask_sheets
 from harness.running import ROOT
 
 NAME, KEY, TITLE = (re.compile(it, re.A) for it in (r"[a-z0-9-]{1,24}", r"[A-Za-z0-9-]{8,64}", r"[ -~]{1,60}"))
@@ -190,7 +190,7 @@ class Cut:
         whole = Path(ROOT, "examples", name).read_bytes()
         cuts = [(f"the first {size} bytes", whole[:size]) for size in range(len(whole) + 1)]
         for what, content in cuts + [(f"without byte {at}", whole[:at] + whole[at + 1 :]) for at in range(len(whole))]:
-            row = tables.Row(f"{name}, {what}", [])
+            row = Row(f"{name}, {what}", [])
             self.rows.append(row)
             self.shown.append((row, content, told(content)))
 
@@ -210,17 +210,17 @@ def is_asked(shown):
 def asked(cut, ask, program, room):
     """Asks what is cut, but for what isn't asked."""
     cut.shown = list(filter(is_asked, cut.shown))
-    ask(cut, tables.Program(program, room))
+    ask(cut, Program(program, room))
     assert cut.shown
 
 
 def test_list(program, room):
-    asked(Cut("people.csv", people_of), tables.ask_lists, program, room)
+    asked(Cut("people.csv", people_of), ask_lists, program, room)
 
 
 @pytest.mark.parametrize("name", SHEETS, ids=lambda it: it.partition("/")[2])
 def test_sheet(name, program, room):
-    before = [*tables.Table(Path(ROOT, "examples/requests/puzzles.rows")).rows, tables.Row("bob/v", PUT_V)]
+    before = [*Table(Path(ROOT, "examples/requests/puzzles.rows")).rows, Row("bob/v", PUT_V)]
     put = [row.cells[2].decode() for row in before if row.cells[4] == b"200"]
     texts = [line.removeprefix("PUT /puzzles/") for line in put if line.startswith("PUT /puzzles/")]
-    asked(Cut(name, lambda content: round_of(content, texts), before), tables.ask_sheets, program, room)
+    asked(Cut(name, lambda content: round_of(content, texts), before), ask_sheets, program, room)

@@ -13,9 +13,9 @@ import subprocess
 from pathlib import Path
 
 import pytest
-from harness import tables
 from harness.checks import Ways
 from harness.clients import status
+from harness.rows import Table, of_request, record_of
 from harness.running import PATIENCE, PEOPLE, ROOT, connected, content_of, read_off, serving, with_people
 from harness.wire import compact, replies, request
 
@@ -208,15 +208,15 @@ def reads():
     paths = ["/puzzles", "/rounds", *(f"/puzzles/{author}/{label}" for author in ("ada", "bob") for label in LABELS)]
     whats = ["", "/answers", "/protests", "/solutions", "/table"]
     paths += [f"/rounds/{name}{what}" for name in ROUND_IDS for what in whats]
-    return [tables.record_of(LATEST, request("dora-key", "GET", path).encode()) for path in paths]
+    return [record_of(LATEST, request("dora-key", "GET", path).encode()) for path in paths]
 
 
 def opening():
     """The worked rows, up to where two rounds are released."""
-    table = tables.Table(Path(ROOT, "examples/requests/worked.rows"))
+    table = Table(Path(ROOT, "examples/requests/worked.rows"))
     rows = table.before + table.rows
     last = max(place for place, row in enumerate(rows) if b"/release" in row.cells[2])
-    return [tables.of_request(row)[1] for row in rows[: last + 1]]
+    return [of_request(row)[1] for row in rows[: last + 1]]
 
 
 class Replays:
@@ -233,7 +233,7 @@ class Replays:
 
     def ask(self, seed, count, ways):
         maker, places = Maker(seed), range(0, count, READ_AFTER)
-        groups = [[tables.record_of(maker.pick([*MOMENTS, LATEST]), maker.any()) for _ in range(READ_AFTER)]
+        groups = [[record_of(maker.pick([*MOMENTS, LATEST]), maker.any()) for _ in range(READ_AFTER)]
                   for _ in places]
         told = self.groups_told(groups, ways)
         done = [[it for it, reply in zip(group, some) if is_done(reply)] for group, (some, _) in zip(groups, told)]

@@ -12,7 +12,7 @@ from harness.staff import Day, the_day
 
 sys.path.append(f"{ROOT}/clients/hallctl")
 from hall_client.check import FORMS  # noqa: E402
-from hall_client.columns import csv_text  # noqa: E402
+from hall_client.printing import csv_text  # noqa: E402
 
 
 @pytest.fixture

@@ -5,7 +5,7 @@ import os
 from pathlib import Path
 
 from . import told
-from .columns import csv_text, note
+from .printing import csv_text, note
 from .puzzles import texts_of
 from .results import ANSWERS, PROTESTS, rows_of
 from .wire import Refused

@@ -7,8 +7,8 @@ import tempfile
 from pathlib import Path
 
 from . import told
-from .columns import counted, note, told_in, when
 from .local_hall import program, record, replayed, run
+from .printing import counted, note, told_in, when
 from .rounds import places_of, sheet_of, times
 
 DIRECTOR, KEY = "hallctl-check", "hallctl-check"

@@ -7,8 +7,8 @@ import secrets
 import tempfile
 
 from . import check, told, wire
-from .columns import counted, note, text_of
 from .local_hall import NoProgram, program
+from .printing import counted, note, text_of
 
 HEAD = ["name", "key", "roles"]
 # What a name is, where no program `hall` is there to say so.

@@ -2,9 +2,9 @@
 import sys
 
 from . import told
-from .columns import note
-from .columns import text_of as text_of_file
 from .mend import mended
+from .printing import note
+from .printing import text_of as text_of_file
 from .wire import Refused, as_json
 
 MEANING = {

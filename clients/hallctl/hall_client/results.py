@@ -3,7 +3,7 @@ import csv
 import io
 
 from . import told
-from .columns import agreed, columns, counted, csv_text, note, text_of, utc
+from .printing import agreed, columns, counted, csv_text, note, text_of, utc
 from .rounds import is_so, times
 from .wire import Refused
 

@@ -2,7 +2,7 @@
 import tomllib
 
 from . import told
-from .columns import agreed, columns, counted, here, note, told_in, utc, when
+from .printing import agreed, columns, counted, here, note, told_in, utc, when
 from .puzzles import MEANING, texts_of
 from .wire import Refused
 

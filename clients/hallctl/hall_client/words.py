@@ -5,8 +5,8 @@ import re
 import sys
 
 from . import archive, check, people, puzzles, rehearse, results, rounds, told
-from .columns import Out, note, text_of
 from .local_hall import NoProgram
+from .printing import Out, note, text_of
 from .wire import Hall, NoReply, Refused
 
 ABOUT = """Holds rounds in a contest hall from a terminal. It asks the hall over HTTP, as docs/HTTP.md tells, and sends

@@ -1,6 +1,6 @@
 """The tables of examples/, a test each: each row tells its input, and what is told of it (examples/README.md)."""
 import pytest
-from harness.tables import EXAMPLES, ask
+from harness.rows import EXAMPLES, ask
 
 TABLES = sorted(EXAMPLES.glob("*/*.rows"))
 

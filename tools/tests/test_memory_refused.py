@@ -17,13 +17,13 @@ import contextlib
 from pathlib import Path
 
 import pytest
-from harness import tables
 from harness.checks import Ways, check
 from harness.commands import ask_commands, commands
+from harness.rows import Table, of_request, reply
 from harness.running import PATIENCE, PEOPLE, ROOT, Beside, connected, content_of, copied, read_off, serving
 from harness.wire import records, replies, request
 
-UNAVAILABLE = tables.reply(503, b'{"fault":"hall"}')
+UNAVAILABLE = reply(503, b'{"fault":"hall"}')
 REPLAY = ["replay", "--people", PEOPLE]
 # More than any run asks for.
 MOST = 10_000_000
@@ -184,7 +184,7 @@ def test_judge_and_solve(beside, numbers_of, share):
     ways, place, numbers = Ways("judge and solve"), 0, numbers_of(7, share, SHARES)
     for path in sorted(Path(ROOT, "examples/lines").glob("*.rows")):
         # one board and fifty budgets
-        rows = tables.Table(path).rows if path.stem != "budgets" else []
+        rows = Table(path).rows if path.stem != "budgets" else []
         for row in rows:
             words, given, status, output = [*row.cells, b""][:4]
             replay = Replay(beside, words.decode().split(), given)
@@ -197,8 +197,8 @@ def test_judge_and_solve(beside, numbers_of, share):
 def test_the_seventeen_actions(beside, numbers_of):
     """One replay of the worked rows, each reply wanted as they tell it."""
     ways, numbers = Ways("requests of the seventeen actions"), numbers_of(17)
-    table = tables.Table(Path(ROOT, "examples/requests/worked.rows"))
-    asked = [tables.of_request(row) for row in table.before + table.rows]
+    table = Table(Path(ROOT, "examples/requests/worked.rows"))
+    asked = [of_request(row) for row in table.before + table.rows]
     replay = Replay(beside, REPLAY, b"".join(record for _, record, _ in asked))
     check("with ample memory", replay.usual, (b"".join(reply for *_, reply in asked), 0))
     replay.refuse(numbers.at(), ways)

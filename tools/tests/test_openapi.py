@@ -11,9 +11,9 @@ from pathlib import Path
 
 import pytest
 from harness.checks import holds, tell
+from harness.rows import Table
 from harness.running import ROOT
 from harness.staff import Day, the_day
-from harness.tables import Table
 from harness.wire import records, replies
 
 jsonschema = pytest.importorskip("jsonschema", reason="python3-jsonschema isn't there")
