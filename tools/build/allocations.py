@@ -6,10 +6,9 @@
 A contract lets each call that takes memory say that there was none, and can't see whether that is so. So a body that
 answers 503 to one entrant alone would be proved, and tells that entrant something. Here each place that writes a fault
 of memory or the reply 503 must have one of the forms below, in which a growth, or a call that answers such a fault, was
-refused right there. A store in tables may fail for any cause, as its contracts go: there no failure may be written
-either. What it can't see: a fault that is kept for later, and a growth that asks for more than there can be, unless it
-asks by a number. Invented faults (INVENTED) are put into the sources' text as well, each of which it must find. It ends
-with 1 where one isn't, or the sources hold another.
+refused right there. What it can't see: a fault that is kept for later, and a growth that asks for more than there can
+be, unless it asks by a number. Invented faults (INVENTED) are put into the sources' text as well, each of which it must
+find. It ends with 1 where one isn't, or the sources hold another.
 """
 import glob
 import os
@@ -100,8 +99,6 @@ ANSWERS = {
         "match step_bytes(alloc, desk, moment, request) { Ok(text) => answer_of(text, request), Err(_) => ",
     ),
 }
-# Where a failure of the store has no cause by contract (`can_fail`): what is called there has one.
-CAUSELESS = ("hall_sql/src/sql_store.rt",)
 # Room is asked for by a name or a length.
 ROOM = re.compile(r"(?:with_capacity|reserve\w*)\([^;{}]*?(?:MAX\b|\d\d)")
 
@@ -129,9 +126,6 @@ INVENTED = {
     "any_fault_taken_for_memory": (
         "hall_sql/src/feed.rt", "let mut rows = match conn.query(sql, params) {",
         "rows.next().map_err(|_| StoreFault::Memory)?",
-    ),
-    "failure_without_a_cause": (
-        "hall_sql/src/sql_store.rt", "fn at_rest(&self) {", "fn at_rest(&self) { let fault = StoreFault::Failed;",
     ),
     "room_that_no_machine_has": ("hall_desk/src/step.rt", "requests.len())?;", "usize::MAX)?;"),
     "refusal_of_a_look_up": (
@@ -184,8 +178,6 @@ def faults_of(path, text):
     """What is strange in a file of sources."""
     yield from strange_places(text, PLACES.get(path, ()))
     yield from (f"another name: {it[0]}" for it in RENAMED.finditer(text))
-    if path in CAUSELESS and "StoreFault::Failed" in text:
-        yield "a failure of the store"
     if path in ANSWERS:
         call, before = ANSWERS[path]
         if text.count(call) != 1 or before + call not in text:

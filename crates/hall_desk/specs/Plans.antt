@@ -144,10 +144,10 @@ abbrev pub IsQuietPlan : {E : Type 0} → Result Plan E → Type 0
 IsQuietPlan (Ok plan) = (plan.change ≡ Nothing) × IsAvailable plan.reply
 IsQuietPlan (Err fault) = ⊥
 
--- Failed is answered for such a cause alone, or where the store's world isn't sane.
-abbrev pub FailsIn : {R : Type 0} → Type 0 → Content → Result R StoreFault → Type 0
-FailsIn cause new result =
-    IfErr result (λ fault. fault ≡ Failed → cause ⊎ (new.honest → new.serves × ¬ (Sane new.world)))
+-- Failed is answered where the store can fail alone, or where its world isn't sane.
+abbrev pub FailsIn : {R : Type 0} → Content → Result R StoreFault → Type 0
+FailsIn new result =
+    IfErr result (λ fault. fault ≡ Failed → new.can_fail ⊎ (new.honest → new.serves × ¬ (Sane new.world)))
 
 -- the entries' puzzles are kept
 abbrev pub AreKept : World → List Entry → Type 0

@@ -121,7 +121,7 @@ fn list_answers<S: ReadStore>(
     shows: bool,
 ) -> Result<Rows<AnswerLine>, StoreFault>
     ensures kept { Kept (S.content store.old) (S.content store.new) }
-    ensures fault { Fails S.can_fail result }
+    ensures fault { Fails (S.content store.new).can_fail result }
     ensures served { Served (S.content store.new) result (λ world lines. AreLinesOf world
         (λ row. same_text row.key.round round.now && (all || same_text row.key.entrant name.now)) shows lines) }
 {
@@ -140,7 +140,7 @@ fn list_all<S: ReadStore>(
     shows: bool,
 ) -> Result<Rows<AnswerLine>, StoreFault>
     ensures kept { Kept (S.content store.old) (S.content store.new) }
-    ensures fault { Fails S.can_fail result }
+    ensures fault { Fails (S.content store.new).can_fail result }
     ensures served { Served (S.content store.new) result
         (λ world lines. AreLinesOf world (is_in round.now) shows lines) }
 {
@@ -162,7 +162,7 @@ fn list_own<S: ReadStore>(
     shows: bool,
 ) -> Result<Rows<AnswerLine>, StoreFault>
     ensures kept { Kept (S.content store.old) (S.content store.new) }
-    ensures fault { Fails S.can_fail result }
+    ensures fault { Fails (S.content store.new).can_fail result }
     ensures served { Served (S.content store.new) result
         (λ world lines. AreLinesOf world (is_of name.now round.now) shows lines) }
 {

@@ -83,7 +83,7 @@ impl<S: ReadStore> Desk<S> {
         ensures kept { Kept (S.content (kept_by self.old)) (S.content (kept_by self.new)) }
         ensures untouched { IsNobodys request.now → kept_by self.new ≡ kept_by self.old }
         ensures keyless { IsNobodys request.now → IsQuietPlan result }
-        ensures fault { FailsIn S.can_fail (S.content (kept_by self.new)) result }
+        ensures fault { FailsIn (S.content (kept_by self.new)) result }
         ensures planned { Planned (S.content (kept_by self.new)) t request.now result }
         ensures sane { IfOk result (λ plan. Asks (S.content (kept_by self.new))
             (λ world. Sane world → Sane (changed (planned_change plan) world))) }
@@ -125,7 +125,7 @@ impl<S: ReadStore> Desk<S> {
     pub fn census(&mut self, alloc: Global) -> Result<Census, StoreFault>
         ensures kept { Kept (S.content (kept_by self.old)) (S.content (kept_by self.new)) }
         ensures served { Served (S.content (kept_by self.new)) result (λ world census. census ≡ census_of world) }
-        ensures fault { Fails S.can_fail result }
+        ensures fault { Fails (S.content (kept_by self.new)).can_fail result }
     {
         Census::of(alloc, &mut self.store)
     }
@@ -159,7 +159,7 @@ impl<S: Store> Desk<S> {
             (S.content (kept_by self.old)) (S.content (kept_by self.new)) }
         ensures made { (planned_change plan ≡ Change.Nothing) ⊎ MakesInWorld (planned_change plan)
             (S.content (kept_by self.old)) (S.content (kept_by self.new)) result }
-        ensures fault { Fails S.can_fail result }
+        ensures fault { Fails (S.content (kept_by self.new)).can_fail result }
         ensures nothing { planned_change plan ≡ Change.Nothing → IsOk result × (kept_by self.new ≡ kept_by self.old) }
         ensures reply { IfOk result (λ reply. reply ≡ planned_reply plan) }
     {
@@ -213,7 +213,7 @@ impl<S: Store> Desk<S> {
         ensures left { OnErr result (KeptWorld (S.content (kept_by self.old)) (S.content (kept_by self.new))) }
         ensures stops { StopsInSeed (S.content (kept_by self.old)) people.now (S.content (kept_by self.new)) }
         ensures settled { IsSettled (S.content (kept_by self.new)) }
-        ensures fault { Fails S.can_fail result }
+        ensures fault { Fails (S.content (kept_by self.new)).can_fail result }
         ensures sane { SaneThen Sane (S.content (kept_by self.old)) (S.content (kept_by self.new)) }
     {
         self.copied = None;

@@ -63,7 +63,7 @@ fn find_puzzles<S: ReadStore>(
     person: &Person,
 ) -> Result<Vec<PuzzleRow>, StoreFault>
     ensures kept { Kept (S.content store.old) (S.content store.new) }
-    ensures fault { Fails S.can_fail result }
+    ensures fault { Fails (S.content store.new).can_fail result }
     ensures served { Served (S.content store.new) result
         (λ world rows. rows.items ≡ filter (sees_puzzle person.now) (values world.puzzles)) }
 {

@@ -61,7 +61,7 @@ pub(crate) fn make_plan<S: ReadStore>(
     ensures kept { Kept (S.content store.old) (S.content store.new) }
     ensures untouched { IsNobodys request.now → store.new ≡ store.old }
     ensures keyless { IsNobodys request.now → IsQuietPlan result }
-    ensures fault { FailsIn S.can_fail (S.content store.new) result }
+    ensures fault { FailsIn (S.content store.new) result }
     ensures planned { Planned (S.content store.new) t request.now result }
     ensures copied { IsCopied (S.content store.new) copied.new }
 {
@@ -113,7 +113,7 @@ fn plan_for_anyone<S: ReadStore>(
     requires action { asked.now.request.now.action ≡ Table round.now }
     requires copied { IsCopied (S.content store.old) copied.old }
     ensures kept { Kept (S.content store.old) (S.content store.new) }
-    ensures fault { FailsIn S.can_fail (S.content store.new) result }
+    ensures fault { FailsIn (S.content store.new) result }
     ensures planned { Planned (S.content store.new) asked.now.t asked.now.request.now result }
     ensures copied { IsCopied (S.content store.new) copied.new }
 {
@@ -134,7 +134,7 @@ fn plan_by_key<S: ReadStore>(
     ensures kept { Kept (S.content store.old) (S.content store.new) }
     ensures untouched { IsNobodys asked.now.request.now → store.new ≡ store.old }
     ensures keyless { IsNobodys asked.now.request.now → IsQuietPlan result }
-    ensures fault { FailsIn S.can_fail (S.content store.new) result }
+    ensures fault { FailsIn (S.content store.new) result }
     ensures planned { Planned (S.content store.new) asked.now.t asked.now.request.now result }
 {
     match &asked.request.key {
@@ -182,7 +182,7 @@ fn plan_for_caller<S: ReadStore>(
     requires caller { Asks (S.content store.old) (λ world. IsCaller world asked.now.request.now.key facts.old.caller) }
     requires action { (round : List ℕ) → asked.now.request.now.action ≢ Table round }
     ensures kept { Kept (S.content store.old) (S.content store.new) }
-    ensures fault { FailsIn S.can_fail (S.content store.new) result }
+    ensures fault { FailsIn (S.content store.new) result }
     ensures told { Told (S.content store.old) (S.content store.new) result
         (λ world plan. IsPlanFor world asked.now.t asked.now.request.now plan) }
 {
@@ -202,7 +202,7 @@ fn dispatch<S: ReadStore>(
     requires passed { PassesUpTo 3 facts.old asked.now.request.now.action asked.now.t }
     requires action { (round : List ℕ) → asked.now.request.now.action ≢ Table round }
     ensures kept { Kept (S.content store.old) (S.content store.new) }
-    ensures fault { FailsIn S.can_fail (S.content store.new) result }
+    ensures fault { FailsIn (S.content store.new) result }
     ensures told { Told (S.content store.old) (S.content store.new) result
         (λ world plan. IsPlanFor world asked.now.t asked.now.request.now plan) }
 {
@@ -261,7 +261,7 @@ impl<'a> RequestAt<'a> {
             (λ world. IsCaller world self.now.request.now.key facts.old.caller) }
         requires passed { PassesUpTo 3 facts.old self.now.request.now.action self.now.t }
         ensures kept { Kept (S.content store.old) (S.content store.new) }
-        ensures fault { FailsIn S.can_fail (S.content store.new) result }
+        ensures fault { FailsIn (S.content store.new) result }
         ensures told { Told (S.content store.old) (S.content store.new) result
             (λ world plan. IsPlanFor world self.now.t self.now.request.now plan) }
     {

@@ -99,7 +99,7 @@ fn find_protest<S: ReadStore>(
     asked: &Protest,
 ) -> Result<Option<ProtestRow>, StoreFault>
     ensures kept { Kept (S.content store.old) (S.content store.new) }
-    ensures fault { Fails S.can_fail result }
+    ensures fault { Fails (S.content store.new).can_fail result }
     ensures told { Told (S.content store.old) (S.content store.new) result
         (λ world found. IsProtestOf world facts.now.caller asked.now found) }
 {
@@ -120,7 +120,7 @@ fn count_protests<S: ReadStore>(
     asked: &Protest,
 ) -> Result<u64, StoreFault>
     ensures kept { Kept (S.content store.old) (S.content store.new) }
-    ensures fault { Fails S.can_fail result }
+    ensures fault { Fails (S.content store.new).can_fail result }
     ensures told { Told (S.content store.old) (S.content store.new) result
         (λ world count. IsProtestCountOf world facts.now.caller asked.now count) }
 {

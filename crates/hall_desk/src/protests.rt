@@ -65,7 +65,7 @@ fn find_protests<S: ReadStore>(
     round: &RoundId,
 ) -> Result<Vec<ProtestRow>, StoreFault>
     ensures kept { Kept (S.content store.old) (S.content store.new) }
-    ensures fault { Fails S.can_fail result }
+    ensures fault { Fails (S.content store.new).can_fail result }
     ensures served { Served (S.content store.new) result
         (λ world rows. rows.items ≡ filter (sees_protest person.now round.now) (values world.protests)) }
 {

@@ -101,7 +101,7 @@ fn any_lacking<S: ReadStore>(
     sheet: &Sheet,
 ) -> Result<bool, StoreFault>
     ensures kept { Kept (S.content store.old) (S.content store.new) }
-    ensures fault { Fails S.can_fail result }
+    ensures fault { Fails (S.content store.new).can_fail result }
     ensures told { Told (S.content store.old) (S.content store.new) result
         (λ world found. IsTrue found ↔ SheetLacks world sheet.now) }
 {
@@ -118,7 +118,7 @@ fn lacks_puzzle<S: ReadStore>(
     entries: &[Entry],
 ) -> Result<bool, StoreFault>
     ensures kept { Kept (S.content store.old) (S.content store.new) }
-    ensures fault { Fails S.can_fail result }
+    ensures fault { Fails (S.content store.new).can_fail result }
     ensures told { Told (S.content store.old) (S.content store.new) result
         (λ world found. IsTrue found ↔ LacksPuzzle world entries.now) }
 {
@@ -137,7 +137,7 @@ fn lacks_tester<S: ReadStore>(
     names: &[Name],
 ) -> Result<bool, StoreFault>
     ensures kept { Kept (S.content store.old) (S.content store.new) }
-    ensures fault { Fails S.can_fail result }
+    ensures fault { Fails (S.content store.new).can_fail result }
     ensures told { Told (S.content store.old) (S.content store.new) result
         (λ world found. IsTrue found ↔ LacksTester world names.now) }
 {

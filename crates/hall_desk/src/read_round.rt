@@ -69,7 +69,7 @@ fn show_round<S: ReadStore>(
 ) -> Result<ShownRound, StoreFault>
     requires { Asks (S.content store.old) (λ world. Sane world → AreKept world row.now.puzzles) }
     ensures kept { Kept (S.content store.old) (S.content store.new) }
-    ensures fault { FailsIn S.can_fail (S.content store.new) result }
+    ensures fault { FailsIn (S.content store.new) result }
     ensures told { Told (S.content store.old) (S.content store.new) result
         (λ world found. ShowsRound world row.now found) }
 {
@@ -98,7 +98,7 @@ fn show_puzzles<S: ReadStore>(
     requires few { length entries.now ≤ most_entries }
     requires listed { Asks (S.content store.old) (λ world. Sane world → AreKept world entries.now) }
     ensures kept { Kept (S.content store.old) (S.content store.new) }
-    ensures fault { FailsIn S.can_fail (S.content store.new) result }
+    ensures fault { FailsIn (S.content store.new) result }
     ensures told { Told (S.content store.old) (S.content store.new) result
         (λ world found. ShowsPuzzles world 1 entries.now found) }
 {
@@ -120,7 +120,7 @@ fn show_puzzle<S: ReadStore>(
     requires few { place < most_entries }
     requires listed { Asks (S.content store.old) (λ world. Sane world → get world.puzzles entry.now.puzzle ≢ None) }
     ensures kept { Kept (S.content store.old) (S.content store.new) }
-    ensures fault { FailsIn S.can_fail (S.content store.new) result }
+    ensures fault { FailsIn (S.content store.new) result }
     ensures told { Told (S.content store.old) (S.content store.new) result
         (λ world found. ShowsPuzzle world (place + 1) entry.now found) }
 {

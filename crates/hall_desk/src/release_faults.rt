@@ -30,7 +30,7 @@ pub(crate) fn find_fault<S: ReadStore>(
 ) -> Result<bool, StoreFault>
     requires { Asks (S.content store.old) (λ world. IsRoundKept world id.now round.now) }
     ensures kept { Kept (S.content store.old) (S.content store.new) }
-    ensures fault { Fails S.can_fail result }
+    ensures fault { Fails (S.content store.new).can_fail result }
     ensures told { Told (S.content store.old) (S.content store.new) result
         (λ world found. IsTrue found ↔ HasFaultyEntry fault world id.now) }
 {
@@ -49,7 +49,7 @@ fn any_faulty<S: ReadStore>(
     fault: EntryFault,
 ) -> Result<bool, StoreFault>
     ensures kept { Kept (S.content store.old) (S.content store.new) }
-    ensures fault { Fails S.can_fail result }
+    ensures fault { Fails (S.content store.new).can_fail result }
     ensures told { Told (S.content store.old) (S.content store.new) result
         (λ world found. IsTrue found ↔
         ((entry : Entry) × Contains entries.now entry × HasFault fault world id.now entry)) }
@@ -71,7 +71,7 @@ fn has_fault<S: ReadStore>(
     fault: EntryFault,
 ) -> Result<bool, StoreFault>
     ensures kept { Kept (S.content store.old) (S.content store.new) }
-    ensures fault { Fails S.can_fail result }
+    ensures fault { Fails (S.content store.new).can_fail result }
     ensures told { Told (S.content store.old) (S.content store.new) result
         (λ world found. IsTrue found ↔ HasFault fault world id.now entry.now) }
 {
@@ -89,7 +89,7 @@ fn is_shared<S: ReadStore>(
     key: &PuzzleKey,
 ) -> Result<bool, StoreFault>
     ensures kept { Kept (S.content store.old) (S.content store.new) }
-    ensures fault { Fails S.can_fail result }
+    ensures fault { Fails (S.content store.new).can_fail result }
     ensures told { Told (S.content store.old) (S.content store.new) result
         (λ world found. IsTrue found ↔ ((other : List ℕ) × (other ≢ id.now) × StandsReleased world key.now other)) }
 {
@@ -112,7 +112,7 @@ fn is_uncertified<S: ReadStore>(
     key: &PuzzleKey,
 ) -> Result<bool, StoreFault>
     ensures kept { Kept (S.content store.old) (S.content store.new) }
-    ensures fault { Fails S.can_fail result }
+    ensures fault { Fails (S.content store.new).can_fail result }
     ensures told { Told (S.content store.old) (S.content store.new) result
         (λ world found. IsTrue found ↔ ¬ (IsCertified world key.now)) }
 {

@@ -15,7 +15,7 @@ pub(crate) fn is_in_released_round<S: ReadStore>(
     key: &PuzzleKey,
 ) -> Result<bool, StoreFault>
     ensures kept { Kept (S.content store.old) (S.content store.new) }
-    ensures fault { Fails S.can_fail result }
+    ensures fault { Fails (S.content store.new).can_fail result }
     ensures told { Told (S.content store.old) (S.content store.new) result
         (λ world found. IsTrue found ↔ ((id : List ℕ) × StandsReleased world key.now id)) }
 {
@@ -30,7 +30,7 @@ pub(crate) fn any_released<S: ReadStore>(
     ids: &[RoundId],
 ) -> Result<bool, StoreFault>
     ensures kept { Kept (S.content store.old) (S.content store.new) }
-    ensures fault { Fails S.can_fail result }
+    ensures fault { Fails (S.content store.new).can_fail result }
     ensures told { Told (S.content store.old) (S.content store.new) result
         (λ world found. IsTrue found ↔ ((id : List ℕ) × Contains ids.now id × IsReleasedRound world id)) }
 {
@@ -45,7 +45,7 @@ pub(crate) fn any_released<S: ReadStore>(
 /// Whether the round is there and released.
 fn is_released<S: ReadStore>(alloc: Global, store: &mut S, id: &RoundId) -> Result<bool, StoreFault>
     ensures kept { Kept (S.content store.old) (S.content store.new) }
-    ensures fault { Fails S.can_fail result }
+    ensures fault { Fails (S.content store.new).can_fail result }
     ensures told { Told (S.content store.old) (S.content store.new) result
         (λ world released. IsTrue released ↔ IsReleasedRound world id.now) }
 {

@@ -97,7 +97,7 @@ fn is_involved<S: ReadStore>(
     asked: &RuleProtest,
 ) -> Result<bool, StoreFault>
     ensures kept { Kept (S.content store.old) (S.content store.new) }
-    ensures fault { Fails S.can_fail result }
+    ensures fault { Fails (S.content store.new).can_fail result }
     ensures told { Told (S.content store.old) (S.content store.new) result
         (λ world involved. IsTrue involved ↔ IsInvolved world facts.now.caller (rule_protest_action asked.now)) }
 {

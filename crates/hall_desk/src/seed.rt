@@ -30,7 +30,7 @@ pub(crate) fn seed<S: Store>(
     ensures left { OnErr result (KeptWorld (S.content store.old) (S.content store.new)) }
     ensures stops { StopsInSeed (S.content store.old) people.now (S.content store.new) }
     ensures settled { IsSettled (S.content store.new) }
-    ensures fault { Fails S.can_fail result }
+    ensures fault { Fails (S.content store.new).can_fail result }
     ensures sane { SaneThen Sane (S.content store.old) (S.content store.new) }
 {
     // They are read for the ranges that their types keep.
@@ -51,7 +51,7 @@ fn make_seed<S: Store>(alloc: Global, store: &mut S, people: &People) -> Result<
         (S.content store.new).writes ≤ (S.content store.old).writes) }
     ensures left { OnErr result (KeptWorld (S.content store.old) (S.content store.new)) }
     ensures stops { StopsInSeed (S.content store.old) people.now (S.content store.new) }
-    ensures fault { Fails S.can_fail result }
+    ensures fault { Fails (S.content store.new).can_fail result }
 {
     let plan = plan_seed(alloc, store, people)?;
     commit(alloc, store, plan)
@@ -64,7 +64,7 @@ fn plan_seed<S: ReadStore>(
     people: &People,
 ) -> Result<Plan, StoreFault>
     ensures kept { Kept (S.content store.old) (S.content store.new) }
-    ensures fault { Fails S.can_fail result }
+    ensures fault { Fails (S.content store.new).can_fail result }
     ensures answered { IfOk result (λ plan. IsSeedReply plan.reply) }
     ensures denied { IfOk result (λ plan. plan.reply ≡ Reply.Denied 20 → plan.change ≡ Change.Nothing) }
     ensures asked { IfOk result (λ plan. plan.change ≡ Change.Nothing → (S.content store.new).honest

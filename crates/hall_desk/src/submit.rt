@@ -116,7 +116,7 @@ fn find_answer<S: ReadStore>(
     asked: &Submit,
 ) -> Result<Option<AnswerRow>, StoreFault>
     ensures kept { Kept (S.content store.old) (S.content store.new) }
-    ensures fault { Fails S.can_fail result }
+    ensures fault { Fails (S.content store.new).can_fail result }
     ensures told { Told (S.content store.old) (S.content store.new) result
         (λ world found. IsAnswerOf world facts.now.caller asked.now found) }
 {
@@ -137,7 +137,7 @@ fn count_answers<S: ReadStore>(
     asked: &Submit,
 ) -> Result<u64, StoreFault>
     ensures kept { Kept (S.content store.old) (S.content store.new) }
-    ensures fault { Fails S.can_fail result }
+    ensures fault { Fails (S.content store.new).can_fail result }
     ensures told { Told (S.content store.old) (S.content store.new) result
         (λ world count. IsCountOf world facts.now.caller asked.now count) }
 {
@@ -221,7 +221,7 @@ fn judge_at<S: ReadStore>(
     requires there { EntryIsThere row.now number }
     requires listed { Asks (S.content store.old) (λ world. Sane world → AreKept world row.now.puzzles) }
     ensures kept { Kept (S.content store.old) (S.content store.new) }
-    ensures fault { FailsIn S.can_fail (S.content store.new) result }
+    ensures fault { FailsIn (S.content store.new) result }
     ensures served { Served (S.content store.new) result
         (λ world verdict. IsJudgedAt world row.now number answer.now verdict) }
 {

@@ -29,7 +29,7 @@ pub(crate) fn plan_table<S: ReadStore>(
     requires copied { IsCopied (S.content store.old) copied.old }
     requires caller { Asks (S.content store.old) (λ world. IsCaller world asked.now.request.now.key facts.old.caller) }
     ensures kept { Kept (S.content store.old) (S.content store.new) }
-    ensures fault { FailsIn S.can_fail (S.content store.new) result }
+    ensures fault { FailsIn (S.content store.new) result }
     ensures served { Served (S.content store.new) result
         (λ world plan. IsPlanFor world asked.now.t asked.now.request.now plan) }
     ensures copied { IsCopied (S.content store.new) copied.new }
@@ -60,7 +60,7 @@ fn make_table<S: ReadStore>(
         × IsRoundAt (S.content store.old).world round.now row.now }
     requires copied { IsCopied (S.content store.old) copied.old }
     ensures kept { Kept (S.content store.old) (S.content store.new) }
-    ensures fault { FailsIn S.can_fail (S.content store.new) result }
+    ensures fault { FailsIn (S.content store.new) result }
     ensures served { Served (S.content store.new) result (λ world text. IsTableAt world round.now text) }
     ensures copied { IsCopied (S.content store.new) copied.new }
 {
@@ -81,7 +81,7 @@ fn find_totals<S: ReadStore>(
     row: &RoundRow,
 ) -> Result<Vec<(Name, i64)>, StoreFault>
     ensures kept { Kept (S.content store.old) (S.content store.new) }
-    ensures fault { FailsIn S.can_fail (S.content store.new) result }
+    ensures fault { FailsIn (S.content store.new) result }
     ensures served { Served (S.content store.new) result
         (λ world totals. AreTotals world round.now row.now totals.items) }
 {

@@ -38,7 +38,7 @@ pub(crate) fn search_for<S: ReadStore>(
 ) -> Result<Option<Wanted>, StoreFault>
     ensures kept { Kept (S.content store.old) (S.content store.new) }
     ensures untouched { IsNobodys request.now → store.new ≡ store.old }
-    ensures fault { Fails S.can_fail result }
+    ensures fault { Fails (S.content store.new).can_fail result }
     ensures told { Told (S.content store.old) (S.content store.new) result
         (λ world found. IfSome found (IsSearchFor world request.now)) }
     ensures fresh { IfOk result (λ found. IfSome found
@@ -75,7 +75,7 @@ fn search_by_key<S: ReadStore>(
     requires action { asked.now.request.now.action ≡ certify_action certified.now }
     requires key { asked.now.request.now.key ≡ Some pass.now }
     ensures kept { Kept (S.content store.old) (S.content store.new) }
-    ensures fault { Fails S.can_fail result }
+    ensures fault { Fails (S.content store.new).can_fail result }
     ensures told { Told (S.content store.old) (S.content store.new) result
         (λ world found. IfSome found (IsSearchFor world asked.now.request.now)) }
     ensures fresh { IfOk result (λ found. IfSome found
@@ -99,7 +99,7 @@ fn search_by_facts<S: ReadStore>(
     requires action { asked.now.request.now.action ≡ certify_action certified.now }
     requires key { asked.now.request.now.key ≡ Some pass.now }
     ensures kept { Kept (S.content store.old) (S.content store.new) }
-    ensures fault { Fails S.can_fail result }
+    ensures fault { Fails (S.content store.new).can_fail result }
     ensures told { Told (S.content store.old) (S.content store.new) result
         (λ world found. IfSome found (IsSearchFor world asked.now.request.now)) }
     ensures fresh { IfOk result (λ found. IfSome found
@@ -125,7 +125,7 @@ fn search_for_caller<S: ReadStore>(
     requires caller { Asks (S.content store.old) (λ world. IsCaller world asked.now.request.now.key facts.old.caller) }
     requires passed { PassesUpTo 3 facts.old asked.now.request.now.action asked.now.t }
     ensures kept { Kept (S.content store.old) (S.content store.new) }
-    ensures fault { Fails S.can_fail result }
+    ensures fault { Fails (S.content store.new).can_fail result }
     ensures told { Told (S.content store.old) (S.content store.new) result
         (λ world found. IfSome found (IsSearchFor world asked.now.request.now)) }
     ensures fresh { IfOk result (λ found. IfSome found

@@ -25,7 +25,8 @@ use Rattle.hall_sql.specs.Tables.{IsHallSchema}
 use Rattle.hall_sql.proofs.Wordings.{Wording, hall_in, worded}
 use Rattle.hall_sql.specs.Rows.{world_of}
 use Rattle.hall_sql.specs.Statements.{plain_query}
-use Rattle.hall_sql.specs.Standing.{AreAllKeyed, IsHall, KeptOrRolledBack, KeptTables, IsSelection, content_of}
+use Rattle.hall_sql.specs.Standing.{AreAllKeyed, IsHall, KeptOrRolledBack, KeptTables, IsSelection}
+use Rattle.hall_sql.specs.Content.{content_of}
 use Rattle.hall_sql.specs.Feed.{HasRead, AreAll, AreFirst, FedRows}
 use Rattle.hall_sql.specs.Whole.{AreRecords}
 use Rattle.hall_sql.proofs.CallLemmas.{answers_selection, shown_was_open}

@@ -10,7 +10,7 @@ use Rattle.hall_sql.specs.Asked.{HasNoReturning, ReturnsNothing}
 use Rattle.hall_store.specs.Store.{Leads, MoreFaults}
 use Rattle.hall_store.proofs.Knowing.{lasts_then}
 use Rattle.hall_sql.specs.Standing.{AddsNoOutcome, AddsOutcomes, LeadsConnection, LeadsWithoutReopening, without_limit}
-use Rattle.hall_sql.specs.Standing.{content_of}
+use Rattle.hall_sql.specs.Content.{content_of}
 
 pub more_faults : (a b : ℕ) → min (a + 1) (2 ^ 64 - 1) ≤ b → MoreFaults a b
 more_faults a b more = elim (cases_lt a b) [

@@ -91,3 +91,5 @@ pub mod Laws
 pub mod CopyLemmas
 pub mod BadRowLemmas
 pub mod OpenedRead
+pub mod UnreadRows
+pub mod FailLemmas

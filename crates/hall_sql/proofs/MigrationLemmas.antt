@@ -21,7 +21,7 @@ use Rattle.hall_sql.specs.Migrate.{WasBefore, old_content_of}
 use Rattle.hall_sql.specs.Rows.{tester_in, world_of}
 use Rattle.hall_sql.specs.Stands.{HoldsHall, ListsLike}
 use Rattle.hall_sql.specs.Standing.{AddsOutcomes, IsBareLike, IsHall, IsTabled, KeptTables, KeptAnyTables, KeptTablesIn}
-use Rattle.hall_sql.specs.Standing.{content_of}
+use Rattle.hall_sql.specs.Content.{content_of}
 use Rattle.hall_sql.specs.declared.testers.TheConstants.{ALL_TESTERS}
 use Rattle.hall_sql.specs.Tables.{hall_schema, old_schema}
 use Rattle.hall_sql.specs.Versions.{IsAnyHall}

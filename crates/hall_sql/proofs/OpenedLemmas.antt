@@ -22,7 +22,8 @@ use Rattle.hall_sql.specs.Tables.{IsHallSchema, no_schema, hall_schema}
 use Rattle.hall_sql.specs.Migrate.{StandsForOld, old_content_of}
 use Rattle.hall_sql.specs.Stands.{ListsLike, StandsFor}
 use Rattle.hall_sql.specs.Rows.{world_of}
-use Rattle.hall_sql.specs.Standing.{IsBareDatabase, StoodOrEmpty, HasAdopted, HasAdoptedOld, MakesAtMost, content_of}
+use Rattle.hall_sql.specs.Standing.{IsBareDatabase, StoodOrEmpty, HasAdopted, HasAdoptedOld, MakesAtMost}
+use Rattle.hall_sql.specs.Content.{content_of}
 use Rattle.hall_sql.specs.WholeRows.{without_testers}
 use Rattle.hall_sql.specs.Opened.{FindsAs, IsImageFound, MemoryServes, OneWorldIsFound, Starts}
 use Rattle.hall_sql.specs.Opened.{StartsOld}

@@ -14,7 +14,8 @@ use Rattle.sqlite_trees.specs.declared.store.Store as store
 use Rattle.sqlite.specs.Held.{AreDatabases, Held, state}
 use Rattle.sqlite.proofs.Theorems.{opens_again}
 use Rattle.hall_sql.specs.Rows.{world_of}
-use Rattle.hall_sql.specs.Standing.{IsHall, content_of}
+use Rattle.hall_sql.specs.Standing.{IsHall}
+use Rattle.hall_sql.specs.Content.{content_of}
 use Rattle.hall_sql.specs.Stopped.{IsAtRest, StopsAreFound, StopsFind, StopsHold, StopsLeave}
 use Rattle.hall_sql.proofs.OpenedLemmas.{never_both, same_world}
 use Rattle.hall_sql.proofs.StoreLemmas.{lists_hall}

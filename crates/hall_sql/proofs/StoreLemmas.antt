@@ -15,7 +15,8 @@ use Rattle.hall_sql.specs.Cause.{AreRead}
 use Rattle.hall_sql.specs.Whole.{AreRecords}
 use Rattle.hall_sql.specs.Stands.{HoldsHall, ListsLike, OpensTo, StandsFor}
 use Rattle.hall_sql.specs.Standing.{AreKeyedIn, IsHall, IsOver, IsTabled, KeptTables, KeptAnyTables, KeptTablesIn}
-use Rattle.hall_sql.specs.Standing.{KeptRowsIn, content_of}
+use Rattle.hall_sql.specs.Standing.{KeptRowsIn}
+use Rattle.hall_sql.specs.Content.{content_of}
 use Rattle.hall_sql.proofs.LastLemmas.{follows_leads, last_then, quiet_then}
 
 -- the hall's tables are tables of a schema

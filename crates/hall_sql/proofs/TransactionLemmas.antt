@@ -16,7 +16,8 @@ use Rattle.hall_sql.specs.Spared.{may_write, KeptOtherRows}
 use Rattle.hall_sql.specs.Stands.{HoldsHall, ListsLike}
 use Rattle.hall_sql.specs.Tables.{IsHallSchema, hall_schema}
 use Rattle.hall_sql.specs.Standing.{AddsNoOutcome, AddsOutcomes, LeadsConnection, AreAllKeyed, IsHall, IsTabled}
-use Rattle.hall_sql.specs.Standing.{KeptTables, KeptTablesIn, KeptRows, MakesInTables, content_of, without_limit}
+use Rattle.hall_sql.specs.Standing.{KeptTables, KeptTablesIn, KeptRows, without_limit}
+use Rattle.hall_sql.specs.Content.{MakesInTables, content_of}
 use Rattle.hall_sql.specs.Inside.{IsHallData, LeadsUncommitted, MakesInside, Changes}
 use Rattle.hall_sql.proofs.LastLemmas.{last_none, last_then, last_begun, quiet, quiet_none, quiet_then, survived}
 use Rattle.hall_sql.proofs.WriteLemmas.{StopsAt, made_wrote, rested_wrote, stayed_wrote}

@@ -31,7 +31,8 @@ use Rattle.hall_sql.specs.Made.{all_tables, old_tables}
 use Rattle.hall_sql.specs.Tables.{shape_of}
 use Rattle.hall_sql.specs.Rows.{columns_from, kept, world_of}
 use Rattle.hall_sql.specs.Scan.{tree_of}
-use Rattle.hall_sql.specs.Standing.{AreKeyed, AreKeyedIn, IsOver, KeptAnyTables, content_of}
+use Rattle.hall_sql.specs.Standing.{AreKeyed, AreKeyedIn, IsOver, KeptAnyTables}
+use Rattle.hall_sql.specs.Content.{content_of}
 use Rattle.hall_sql.specs.Statements.{plain_query}
 use Rattle.hall_sql.specs.Tables.{IsHallSchema, IsOldSchema, table_at}
 use Rattle.hall_sql.specs.Versions.{IsVersion, IsAnyHall, HasTable}

@@ -18,7 +18,8 @@ use Rattle.hall_sql.specs.Rows.{world_of}
 use Rattle.hall_sql.specs.Spared.{may_write, KeptOtherRows}
 use Rattle.hall_sql.specs.Stands.{HoldsHall}
 use Rattle.hall_sql.specs.Standing.{AddsNoOutcome, AddsOutcomes, LeadsConnection, AreAllKeyed, IsHall, KeptTables}
-use Rattle.hall_sql.specs.Standing.{KeptRows, HasMade, MakesInTables, without_limit, content_of}
+use Rattle.hall_sql.specs.Standing.{KeptRows, HasMade, without_limit}
+use Rattle.hall_sql.specs.Content.{MakesInTables, content_of}
 use Rattle.hall_store.proofs.Knowing.{leads_then}
 use Rattle.hall_sql.proofs.LastLemmas.{follows_leads}
 use Rattle.hall_sql.proofs.SparedLemmas.{same_spared}

@@ -22,6 +22,8 @@ pub mod Asked
 pub mod Cause
 pub mod Counts
 pub mod WriteCause
+pub mod CanFail
+pub mod Content
 pub mod AdoptCause
 pub mod Versions
 pub mod Laws

@@ -15,7 +15,8 @@ use Rattle.hall_sql.specs.declared.rows.Rows.{Rows}
 use Rattle.hall_sql.specs.AllRead.{AreAllRead}
 use Rattle.hall_sql.specs.PuzzleText.{AreCanonical}
 use Rattle.hall_sql.specs.Rows.{world_of}
-use Rattle.hall_sql.specs.Standing.{IsBareLike, KeptTables, KeptTablesIn, KeptRows, content_of}
+use Rattle.hall_sql.specs.Standing.{IsBareLike, KeptTables, KeptTablesIn, KeptRows}
+use Rattle.hall_sql.specs.Content.{content_of}
 use Rattle.hall_sql.specs.Stands.{ListsLike, OpensTo}
 use Rattle.hall_sql.specs.Tables.{hall_schema, old_schema}
 use Rattle.hall_sql.specs.WholeRows.{AreRowsOf, without_testers}

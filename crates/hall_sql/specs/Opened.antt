@@ -17,7 +17,8 @@ use Rattle.hall_store.specs.declared.fault.StoreFault.{StoreFault}
 use Rattle.hall_store.specs.declared.fault.StoreFault.TheVariants.{Failed}
 use Rattle.hall_sql.specs.AdoptCause.{AdoptFails, AdoptOldFails}
 use Rattle.hall_sql.specs.Tables.{IsOldSchema}
-use Rattle.hall_sql.specs.Standing.{AddsNoOutcome, HasAdopted, HasAdoptedOld, HasDeclined, MakesAtMost, content_of}
+use Rattle.hall_sql.specs.Standing.{AddsNoOutcome, HasAdopted, HasAdoptedOld, HasDeclined, MakesAtMost}
+use Rattle.hall_sql.specs.Content.{content_of}
 use Rattle.hall_sql.specs.Stands.{StandsFor}
 use Rattle.hall_sql.specs.Migrate.{StandsForOld}
 use Rattle.hall_sql.specs.declared.open.OpenFault.{OpenFault}

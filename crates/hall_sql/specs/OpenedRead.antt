@@ -10,7 +10,8 @@ use Rattle.hall_store.specs.declared.fault.StoreFault.TheVariants.{Failed}
 use Rattle.hall_sql.specs.AdoptCause.{AdoptFails, AdoptOldFails}
 use Rattle.hall_sql.specs.Migrate.{old_content_of}
 use Rattle.hall_sql.specs.Opened.{IsHandedBack, OpensAs, Starts, StartsOld}
-use Rattle.hall_sql.specs.Standing.{HasAdopted, HasAdoptedOld, MakesAtMost, content_of}
+use Rattle.hall_sql.specs.Standing.{HasAdopted, HasAdoptedOld, MakesAtMost}
+use Rattle.hall_sql.specs.Content.{content_of}
 use Rattle.hall_sql.specs.Tables.{IsHallSchema, no_schema}
 use Rattle.hall_sql.specs.declared.open.OpenFault.{OpenFault}
 use Rattle.hall_sql.specs.declared.open.OpenFault.TheVariants.{Missing, Unopened, Old as WasOld, Refused}

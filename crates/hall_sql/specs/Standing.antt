@@ -1,6 +1,6 @@
--- What the store keeps true of its connection, what a call leaves, and the content that a connection shows.
+-- What the store keeps true of its connection, and what a call leaves.
 use Rattle.std.specs.Prelude.{◌≡◌, ◌≢◌, ◌≤◌, ◌⊎◌, ℕ, Bool, true, false, List, [], ◌∷◌, map, IsTrue, Result, Ok, Err}
-use Rattle.std.specs.Prelude.{OnOk, OnErr, None}
+use Rattle.std.specs.Prelude.{None}
 use Rattle.std.specs.List.{AllByRecursion, filter, list_all}
 use Rattle.std.specs.List.Sorted.{IsPermutation, IsSorted}
 use Rattle.std.specs.declared.cmp.Ordering.TheVariants.{Equal}
@@ -16,13 +16,13 @@ use Rattle.sqlite.specs.Tree.{Trees}
 use Rattle.sqlite.specs.Term.{holds, eval_all}
 use Rattle.sqlite.specs.Query.{Query, output, output_cmp}
 use Rattle.sqlite.specs.State.{State, HasCleanDisk, IsUnchanged, IsRolledBack}
-use Rattle.hall_store.specs.Store.{Content, MoreFaults, Makes}
+use Rattle.hall_store.specs.Store.{MoreFaults}
 use Rattle.hall_store.specs.Change.{changed}
 use Rattle.hall_store.specs.declared.change.Change.{Change}
 use Rattle.hall_sql.specs.Tables.{IsLike, IsHallSchema, IsOldSchema, no_schema, hall_schema, old_schema}
 use Rattle.hall_sql.specs.Rows.{world_of}
 use Rattle.hall_sql.specs.Spared.{may_write, KeptOtherRows}
-use Rattle.hall_sql.specs.Stands.{IsBareHall, OpensTo, StandsFor}
+use Rattle.hall_sql.specs.Stands.{IsBareHall}
 
 -- the rowids of the two rows differ
 abbrev pub Apart : Row → Row → Type 0
@@ -124,19 +124,6 @@ pub record IsSelection (q : Query) (table : List Row) (params : Row) (rows : Lis
   pub sorted : IsSorted (λ a b. output_cmp q (output q (params ∷ a ∷ [])) (output q (params ∷ b ∷ []))) found
   pub shown : rows ≡ map (λ row. eval_all q.project (params ∷ row ∷ [])) found
 
--- The content of a connection: it is honest while its disk is clean, serves while it is open, counts the disk's
--- faults and no writes, and its world is what its tables hold. A stop leaves the worlds to which the next open may
--- open what it finds.
-abbrev pub content_of : State → Content
-content_of s = record {
-  honest = HasCleanDisk s;
-  serves = IsTrue s.is_open;
-  faults = s.faults;
-  writes = 0;
-  world = world_of s.now.trees;
-  may_leave = λ left. (db : Trees) × s.may_leave db × OpensTo StandsFor db left;
-}
-
 -- the table in this tree has one row more, with a rowid of its own, and each other table is as it was
 pub record HasAdded (schema : Schema) (tree : ℕ) (values : Row) (old new : Database) : Type 0 where
   pub same : new.schema ≡ old.schema
@@ -166,14 +153,6 @@ pub record HasMade (change : Change) (old new : State) : Type 0 where
   pub serves : IsTrue new.is_open
   pub world : world_of new.now.trees ≡ changed change (world_of old.now.trees)
   pub others : KeptOtherRows (may_write change) old.now.trees new.now.trees
-
--- A call that writes: the hall stands, and it made the change and left each row that the change may not write, or it
--- was refused and left the tables.
-pub record MakesInTables {R E : Type 0} (change : Change) (old new : State) (result : Result R E) : Type 0 where
-  pub hall : IsHall new
-  pub makes : Makes change (content_of old) (content_of new) result
-  pub others : HasCleanDisk new → OnOk result (KeptOtherRows (may_write change) old.now.trees new.now.trees)
-  pub refused : OnErr result (KeptRows old new)
 
 -- the database has this schema, and its tables no rows
 pub record IsBareDatabase (schema : Schema) (held : Database) : Type 0 where

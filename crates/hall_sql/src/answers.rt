@@ -12,8 +12,8 @@ ghost use Rattle.sqlite.specs.Values.{bound};
 ghost use Rattle.hall_sql.specs.Columns.{answer_params};
 ghost use Rattle.hall_sql.specs.Fill.{AddsAnswer};
 ghost use Rattle.hall_sql.specs.Inside.{LeadsUncommitted, MakesInside};
-ghost use Rattle.hall_sql.specs.Standing.{IsHall, KeptTables, KeptRows, KeptAnyTables, MakesInTables, content_of};
-ghost use Rattle.hall_sql.specs.Standing.{LeadsConnection};
+ghost use Rattle.hall_sql.specs.Standing.{IsHall, KeptTables, KeptRows, KeptAnyTables, LeadsConnection};
+ghost use Rattle.hall_sql.specs.Content.{MakesInTables, content_of};
 ghost use Rattle.sqlite.specs.declared.types.Value.TheVariants.{Text, Int};
 ghost use Rattle.hall_sql.specs.Rows.{answer_in};
 ghost use Rattle.hall_sql.specs.Whole.{AreRecords};
@@ -243,7 +243,7 @@ pub(crate) fn all_answers<S: Alter>(
 }
 
 /// Tells a proof that the answer lies in the ranges of its types.
-fn in_range(row: &AnswerRow)
+pub(crate) fn in_range(row: &AnswerRow)
     ensures { IsAnswerRow row.now }
 {
     let _entrant = row.key.entrant.as_str();

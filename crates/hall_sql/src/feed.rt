@@ -1,14 +1,16 @@
 //! The rows of a round, given to a sink one at a time.
-ghost use Rattle.std.specs.Prelude.{◌≡◌, IfOk, OnOk, OnErr, [], ◌∷◌};
+ghost use Rattle.std.specs.Prelude.{◌≡◌, ◌⊎◌, IfOk, IfErr, OnOk, OnErr, [], ◌∷◌};
 ghost use Rattle.sqlite.specs.declared.types.Value.TheVariants.{Text};
 ghost use Rattle.sqlite.specs.Values.{bound};
 ghost use Rattle.sqlite.specs.Held.{state};
 ghost use Rattle.sqlite.specs.State.{HasCleanDisk};
-ghost use Rattle.hall_store.specs.Store.{Fails, Fed, IsListing, is_in, protests_in};
+ghost use Rattle.hall_store.specs.Store.{Fails, Fed, IsListing, IsRefusedNext, is_in, protests_in};
+ghost use Rattle.hall_store.specs.declared.fault.StoreFault.TheVariants.{Failed};
+ghost use Rattle.hall_sql.specs.CanFail.{CanFail};
 ghost use Rattle.hall_sql.specs.Asked.{IsAsked};
 ghost use Rattle.hall_sql.specs.Cause.{FeedFails};
-ghost use Rattle.hall_sql.specs.Standing.{AddsNoOutcome, IsHall, KeptOrRolledBack, KeptTables, content_of};
-ghost use Rattle.hall_sql.specs.Standing.{LeadsConnection};
+ghost use Rattle.hall_sql.specs.Standing.{AddsNoOutcome, IsHall, KeptOrRolledBack, KeptTables, LeadsConnection};
+ghost use Rattle.hall_sql.specs.Content.{content_of};
 ghost use Rattle.hall_sql.specs.Feed.{Steps, StepFails, FedRows};
 ghost use Rattle.hall_sql.specs.Rows.{answer_in, protest_in};
 ghost use Rattle.hall_sql.specs.Whole.{AreRecords};
@@ -100,6 +102,9 @@ pub(crate) fn feed_answers<S: Alter, K: Sink<AnswerRow>>(
     ensures rested { KeptTables (state S.Store conn.old) (state S.Store conn.new) }
     ensures fed { Fed K.takes (λ world rows. IsListing world (is_in round.now) rows)
         (content_of (state S.Store conn.old)) (content_of (state S.Store conn.new)) sink.old result sink.new }
+    ensures fault { IfErr result (λ fault. fault ≡ Failed → CanFail (state S.Store conn.new)
+        ⊎ IsRefusedNext K.takes K.refuses (λ world rows. IsListing world (is_in round.now) rows)
+        (content_of (state S.Store conn.old)) (content_of (state S.Store conn.new)) sink.old sink.new) }
     ensures whole { HasCleanDisk (state S.Store conn.new) → IfOk result (λ _.
         AreRecords answer_in ANSWERS_IN.now (Text round.now ∷ []) (state S.Store conn.old) (state S.Store conn.new)) }
     ensures cause { HasCleanDisk (state S.Store conn.new) → Fails
@@ -121,6 +126,9 @@ pub(crate) fn feed_protests<S: Alter, K: Sink<ProtestRow>>(
     ensures rested { KeptTables (state S.Store conn.old) (state S.Store conn.new) }
     ensures fed { Fed K.takes (λ world rows. rows ≡ protests_in world round.now)
         (content_of (state S.Store conn.old)) (content_of (state S.Store conn.new)) sink.old result sink.new }
+    ensures fault { IfErr result (λ fault. fault ≡ Failed → CanFail (state S.Store conn.new)
+        ⊎ IsRefusedNext K.takes K.refuses (λ world rows. rows ≡ protests_in world round.now)
+        (content_of (state S.Store conn.old)) (content_of (state S.Store conn.new)) sink.old sink.new) }
     ensures whole { HasCleanDisk (state S.Store conn.new) → IfOk result (λ _.
         AreRecords protest_in PROTESTS_IN.now (Text round.now ∷ []) (state S.Store conn.old) (state S.Store conn.new)) }
     ensures cause { HasCleanDisk (state S.Store conn.new) → Fails

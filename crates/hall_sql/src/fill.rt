@@ -7,7 +7,8 @@ ghost use Rattle.hall_policy.specs.Sink.{HasTaken};
 ghost use Rattle.hall_store.specs.Store.{Leads};
 ghost use Rattle.hall_sql.specs.Fill.{AreFilled, AddsAnswer, AddsHead, AddsPlace, AddsProtest, AddsPuzzle, Fills, PutsPerson};
 ghost use Rattle.hall_sql.specs.Inside.{LeadsUncommitted, MakesInside};
-ghost use Rattle.hall_sql.specs.Standing.{AddsOutcomes, IsHall, KeptRows, content_of};
+ghost use Rattle.hall_sql.specs.Standing.{AddsOutcomes, IsHall, KeptRows};
+ghost use Rattle.hall_sql.specs.Content.{content_of};
 
 use crate::calls::{fault_of, live};
 use crate::people::add_person;

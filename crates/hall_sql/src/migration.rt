@@ -7,7 +7,8 @@ ghost use Rattle.hall_policy.specs.World.{World};
 ghost use Rattle.hall_store.specs.Store.{Served};
 ghost use Rattle.hall_sql.specs.AllRead.{AreAllRead};
 ghost use Rattle.hall_sql.specs.Migrate.{IsFoundBeside, Leaves, Migrates, StopsAtWorld, TargetTakes};
-ghost use Rattle.hall_sql.specs.Standing.{IsHall, KeptTables, content_of};
+ghost use Rattle.hall_sql.specs.Standing.{IsHall, KeptTables};
+ghost use Rattle.hall_sql.specs.Content.{content_of};
 ghost use Rattle.hall_sql.specs.Tables.{hall_schema};
 ghost use Rattle.hall_sql.specs.WholeRows.{AreRowsOf, IsEmptyIn};
 

@@ -14,8 +14,8 @@ ghost use Rattle.sqlite.specs.Values.{bound};
 ghost use Rattle.hall_sql.specs.Fill.{AddsProtest};
 ghost use Rattle.hall_sql.specs.Inside.{LeadsUncommitted, MakesInside};
 ghost use Rattle.hall_sql.specs.Columns.{protest_params, ruling_code, ruling_params, IsAlone};
-ghost use Rattle.hall_sql.specs.Standing.{IsHall, KeptTables, KeptRows, KeptAnyTables, MakesInTables, content_of};
-ghost use Rattle.hall_sql.specs.Standing.{LeadsConnection};
+ghost use Rattle.hall_sql.specs.Standing.{IsHall, KeptTables, KeptRows, KeptAnyTables, LeadsConnection};
+ghost use Rattle.hall_sql.specs.Content.{MakesInTables, content_of};
 ghost use Rattle.sqlite.specs.declared.types.Value.TheVariants.{Text};
 ghost use Rattle.hall_sql.specs.Rows.{protest_in};
 ghost use Rattle.hall_sql.specs.Whole.{AreRecords};
@@ -223,7 +223,7 @@ fn points_of(ruling: &Option<Ruling>) -> i32
 }
 
 /// Tells a proof that the protest lies in the ranges of its types.
-fn in_range(row: &ProtestRow)
+pub(crate) fn in_range(row: &ProtestRow)
     ensures { IsProtestRow row.now }
 {
     let _entrant = row.key.entrant.as_str();
@@ -232,6 +232,15 @@ fn in_range(row: &ProtestRow)
     let _number = row.number.get();
     let _text = row.text.as_str();
     let _points = points_of(&row.ruling);
+}
+
+/// Tells a proof that the ruling lies in the range of its type.
+pub(crate) fn ruling_in_range(ruling: &Ruling)
+    ensures { IsRuling ruling.now }
+{
+    if let Ruling::Upheld(points) = ruling {
+        let _points = points.get();
+    }
 }
 
 /// One more protest.

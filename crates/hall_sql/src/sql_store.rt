@@ -17,7 +17,7 @@ ghost use Rattle.hall_sql.specs.WholeRows.{AreRowsOf};
 use crate::adoption::adopt;
 use crate::answers::{
     add_answer, all_answers, answer, answers_given, answers_in, answers_of, has_answered,
-    is_number_taken,
+    in_range as answer_in_range, is_number_taken,
 };
 use crate::bad_rows::{BadRows, bad_rows};
 use crate::calls::live;
@@ -25,10 +25,13 @@ use crate::feed::{feed_answers, feed_protests};
 use crate::migration::{Migrated, take_rows};
 use crate::people::{all_people, import, person, person_by_key};
 use crate::protests::{
-    add_protest, all_protests, has_open_protest, protest, protests_in, protests_made, protests_of,
-    rule_protest,
+    add_protest, all_protests, has_open_protest, in_range as protest_in_range, protest,
+    protests_in, protests_made, protests_of, rule_protest, ruling_in_range,
 };
-use crate::puzzles::{all_puzzles, put_puzzle, puzzle, puzzles_of, puzzles_put, set_state};
+use crate::puzzles::{
+    all_puzzles, put_puzzle, puzzle, puzzles_of, puzzles_put, row_in_range, set_state,
+    state_in_range,
+};
 use crate::record::{Place, Tester};
 use crate::round_writes::{put_round, set_round_flag};
 use crate::rounds::{all_places, round, rounds, rounds_using};
@@ -148,11 +151,11 @@ impl<S: Alter + Drop> ReadStore for SqlStore<S> {
     ghost use Rattle.hall_sql.specs.declared.testers.TheConstants.{TESTERS_OF};
     ghost use Rattle.hall_sql.specs.Whole.{AreRecords, IsRoundRead};
     ghost use Rattle.hall_sql.specs.Cause.{ReadFails, FeedFails, FindFails, RoundFails};
-    ghost use Rattle.hall_sql.specs.Standing.{KeptTables, content_of};
+    ghost use Rattle.hall_sql.specs.CanFail.{CanFail};
+    ghost use Rattle.hall_sql.specs.Content.{content_of};
+    ghost use Rattle.hall_sql.specs.Standing.{KeptTables};
 
     ghost content = { λ s. content_of (state S.Store s) };
-
-    ghost can_fail = { Unit {0} };
 
     fn at_rest(&self) {
         self.in_hall();
@@ -164,7 +167,7 @@ impl<S: Alter + Drop> ReadStore for SqlStore<S> {
         ensures rested { KeptTables (state S.Store self.old) (state S.Store self.new) }
         ensures served { Served (content_of (state S.Store self.new)) result
             (λ world found. IsKeyHolder world key.now found) }
-        ensures fault { Fails (Unit {0}) result }
+        ensures fault { Fails (CanFail (state S.Store self.new)) result }
         ensures whole { HasCleanDisk (state S.Store self.new) → IfOk result (λ _.
             AreRecords person_in PERSON_BY_KEY.now (Text key.now ∷ []) (state S.Store self.old)
             (state S.Store self.new)) }
@@ -180,7 +183,7 @@ impl<S: Alter + Drop> ReadStore for SqlStore<S> {
         ensures rested { KeptTables (state S.Store self.old) (state S.Store self.new) }
         ensures served { Served (content_of (state S.Store self.new)) result
             (λ world found. found ≡ get world.people name.now) }
-        ensures fault { Fails (Unit {0}) result }
+        ensures fault { Fails (CanFail (state S.Store self.new)) result }
         ensures whole { HasCleanDisk (state S.Store self.new) → IfOk result (λ _.
             AreRecords person_in PERSON.now (Text name.now ∷ []) (state S.Store self.old)
             (state S.Store self.new)) }
@@ -196,7 +199,7 @@ impl<S: Alter + Drop> ReadStore for SqlStore<S> {
         ensures rested { KeptTables (state S.Store self.old) (state S.Store self.new) }
         ensures served { Served (content_of (state S.Store self.new)) result
             (λ world people. people.items ≡ values world.people) }
-        ensures fault { Fails (Unit {0}) result }
+        ensures fault { Fails (CanFail (state S.Store self.new)) result }
         ensures whole { HasCleanDisk (state S.Store self.new) → IfOk result (λ _.
             AreRecords person_in ALL_PEOPLE.now [] (state S.Store self.old)
             (state S.Store self.new)) }
@@ -211,7 +214,7 @@ impl<S: Alter + Drop> ReadStore for SqlStore<S> {
         ensures rested { KeptTables (state S.Store self.old) (state S.Store self.new) }
         ensures served { Served (content_of (state S.Store self.new)) result
             (λ world found. found ≡ get world.puzzles key.now) }
-        ensures fault { Fails (Unit {0}) result }
+        ensures fault { Fails (CanFail (state S.Store self.new)) result }
         ensures whole { HasCleanDisk (state S.Store self.new) → IfOk result (λ _.
             AreRecords puzzle_row_in PUZZLE.now
             (Text key.now.author ∷ Text key.now.label ∷ []) (state S.Store self.old)
@@ -228,7 +231,7 @@ impl<S: Alter + Drop> ReadStore for SqlStore<S> {
         ensures rested { KeptTables (state S.Store self.old) (state S.Store self.new) }
         ensures served { Served (content_of (state S.Store self.new)) result
             (λ world rows. rows.items ≡ puzzles_of world author.now) }
-        ensures fault { Fails (Unit {0}) result }
+        ensures fault { Fails (CanFail (state S.Store self.new)) result }
         ensures whole { HasCleanDisk (state S.Store self.new) → IfOk result (λ _.
             AreRecords puzzle_row_in PUZZLES_OF.now (Text author.now ∷ []) (state S.Store self.old)
             (state S.Store self.new)) }
@@ -244,7 +247,7 @@ impl<S: Alter + Drop> ReadStore for SqlStore<S> {
         ensures rested { KeptTables (state S.Store self.old) (state S.Store self.new) }
         ensures served { Served (content_of (state S.Store self.new)) result
             (λ world rows. rows.items ≡ values world.puzzles) }
-        ensures fault { Fails (Unit {0}) result }
+        ensures fault { Fails (CanFail (state S.Store self.new)) result }
         ensures whole { HasCleanDisk (state S.Store self.new) → IfOk result (λ _.
             AreRecords puzzle_row_in ALL_PUZZLES.now [] (state S.Store self.old)
             (state S.Store self.new)) }
@@ -259,7 +262,7 @@ impl<S: Alter + Drop> ReadStore for SqlStore<S> {
         ensures rested { KeptTables (state S.Store self.old) (state S.Store self.new) }
         ensures served { Served (content_of (state S.Store self.new)) result
             (λ world count. count ≡ puzzles_put world author.now) }
-        ensures fault { Fails (Unit {0}) result }
+        ensures fault { Fails (CanFail (state S.Store self.new)) result }
         ensures whole { HasCleanDisk (state S.Store self.new) → IfOk result (λ _.
             AreRecords puzzle_row_in PUZZLES_OF.now (Text author.now ∷ []) (state S.Store self.old)
             (state S.Store self.new)) }
@@ -275,7 +278,7 @@ impl<S: Alter + Drop> ReadStore for SqlStore<S> {
         ensures rested { KeptTables (state S.Store self.old) (state S.Store self.new) }
         ensures served { Served (content_of (state S.Store self.new)) result
             (λ world found. IsRoundKept world id.now found) }
-        ensures fault { Fails (Unit {0}) result }
+        ensures fault { Fails (CanFail (state S.Store self.new)) result }
         ensures whole { HasCleanDisk (state S.Store self.new) → IfOk result (λ _.
             IsRoundRead S.Store id.now (state S.Store self.old) (state S.Store self.new)) }
         ensures cause { HasCleanDisk (state S.Store self.new) → Fails
@@ -289,7 +292,7 @@ impl<S: Alter + Drop> ReadStore for SqlStore<S> {
         ensures rested { KeptTables (state S.Store self.old) (state S.Store self.new) }
         ensures served { Served (content_of (state S.Store self.new)) result
             (λ world names. AreTestersOf world id.now names.items) }
-        ensures fault { Fails (Unit {0}) result }
+        ensures fault { Fails (CanFail (state S.Store self.new)) result }
         ensures whole { HasCleanDisk (state S.Store self.new) → IfOk result (λ _.
             AreRecords tester_in TESTERS_OF.now (Text id.now ∷ []) (state S.Store self.old)
             (state S.Store self.new)) }
@@ -305,7 +308,7 @@ impl<S: Alter + Drop> ReadStore for SqlStore<S> {
         ensures rested { KeptTables (state S.Store self.old) (state S.Store self.new) }
         ensures served { Served (content_of (state S.Store self.new)) result
             (λ world rounds. rounds.items ≡ values world.rounds) }
-        ensures fault { Fails (Unit {0}) result }
+        ensures fault { Fails (CanFail (state S.Store self.new)) result }
         ensures whole { HasCleanDisk (state S.Store self.new) → IfOk result (λ _.
             AreRecords round_in ALL_ROUNDS.now [] (state S.Store self.old)
             (state S.Store self.new)) }
@@ -320,7 +323,7 @@ impl<S: Alter + Drop> ReadStore for SqlStore<S> {
         ensures rested { KeptTables (state S.Store self.old) (state S.Store self.new) }
         ensures served { Served (content_of (state S.Store self.new)) result
             (λ world ids. AreUsing world key.now ids.items) }
-        ensures fault { Fails (Unit {0}) result }
+        ensures fault { Fails (CanFail (state S.Store self.new)) result }
         ensures whole { HasCleanDisk (state S.Store self.new) → IfOk result (λ _.
             AreRecords place_in PLACES_WITH.now
             (Text key.now.author ∷ Text key.now.label ∷ []) (state S.Store self.old)
@@ -337,7 +340,7 @@ impl<S: Alter + Drop> ReadStore for SqlStore<S> {
         ensures rested { KeptTables (state S.Store self.old) (state S.Store self.new) }
         ensures served { Served (content_of (state S.Store self.new)) result
             (λ world found. found ≡ get world.answers key.now) }
-        ensures fault { Fails (Unit {0}) result }
+        ensures fault { Fails (CanFail (state S.Store self.new)) result }
         ensures whole { HasCleanDisk (state S.Store self.new) → IfOk result (λ _.
             AreRecords answer_in ANSWER.now
             (Text key.now.entrant ∷ Text key.now.round ∷ Int (pos key.now.number) ∷ Text key.now.token ∷ [])
@@ -361,7 +364,7 @@ impl<S: Alter + Drop> ReadStore for SqlStore<S> {
         ensures rested { KeptTables (state S.Store self.old) (state S.Store self.new) }
         ensures served { Served (content_of (state S.Store self.new)) result
             (λ world count. count ≡ answers_given world entrant.now round.now number) }
-        ensures fault { Fails (Unit {0}) result }
+        ensures fault { Fails (CanFail (state S.Store self.new)) result }
         ensures whole { HasCleanDisk (state S.Store self.new) → IfOk result (λ _.
             AreRecords answer_in ANSWERS_GIVEN.now
             (Text entrant.now ∷ Text round.now ∷ Int (pos number) ∷ []) (state S.Store self.old)
@@ -385,7 +388,7 @@ impl<S: Alter + Drop> ReadStore for SqlStore<S> {
         ensures rested { KeptTables (state S.Store self.old) (state S.Store self.new) }
         ensures served { Served (content_of (state S.Store self.new)) result
             (λ world taken. IsTrue taken ↔ IsNumberTaken world entrant.now round.now number n) }
-        ensures fault { Fails (Unit {0}) result }
+        ensures fault { Fails (CanFail (state S.Store self.new)) result }
         ensures whole { HasCleanDisk (state S.Store self.new) → IfOk result (λ _.
             AreRecords answer_in NUMBER_TAKEN.now
             (Text entrant.now ∷ Text round.now ∷ Int (pos number) ∷ Int (pos n) ∷ [])
@@ -408,7 +411,7 @@ impl<S: Alter + Drop> ReadStore for SqlStore<S> {
         ensures rested { KeptTables (state S.Store self.old) (state S.Store self.new) }
         ensures served { Served (content_of (state S.Store self.new)) result
             (λ world rows. IsListing world (is_of entrant.now round.now) rows.items) }
-        ensures fault { Fails (Unit {0}) result }
+        ensures fault { Fails (CanFail (state S.Store self.new)) result }
         ensures whole { HasCleanDisk (state S.Store self.new) → IfOk result (λ _.
             AreRecords answer_in ANSWERS_OF.now (Text entrant.now ∷ Text round.now ∷ []) (state S.Store self.old)
             (state S.Store self.new)) }
@@ -424,7 +427,7 @@ impl<S: Alter + Drop> ReadStore for SqlStore<S> {
         ensures rested { KeptTables (state S.Store self.old) (state S.Store self.new) }
         ensures served { Served (content_of (state S.Store self.new)) result
             (λ world rows. IsListing world (is_in round.now) rows.items) }
-        ensures fault { Fails (Unit {0}) result }
+        ensures fault { Fails (CanFail (state S.Store self.new)) result }
         ensures whole { HasCleanDisk (state S.Store self.new) → IfOk result (λ _.
             AreRecords answer_in ANSWERS_IN.now (Text round.now ∷ []) (state S.Store self.old)
             (state S.Store self.new)) }
@@ -445,9 +448,9 @@ impl<S: Alter + Drop> ReadStore for SqlStore<S> {
         ensures rested { KeptTables (state S.Store self.old) (state S.Store self.new) }
         ensures fed { Fed K.takes (λ world rows. IsListing world (is_in round.now) rows)
             (content_of (state S.Store self.old)) (content_of (state S.Store self.new)) sink.old result sink.new }
-        ensures fault { IfErr result (λ fault. fault ≡ Failed → Unit {0} ⊎ IsRefusedNext K.takes K.refuses
-            (λ world rows. IsListing world (is_in round.now) rows) (content_of (state S.Store self.old))
-            (content_of (state S.Store self.new)) sink.old sink.new) }
+        ensures fault { IfErr result (λ fault. fault ≡ Failed → CanFail (state S.Store self.new)
+            ⊎ IsRefusedNext K.takes K.refuses (λ world rows. IsListing world (is_in round.now) rows)
+            (content_of (state S.Store self.old)) (content_of (state S.Store self.new)) sink.old sink.new) }
         ensures whole { HasCleanDisk (state S.Store self.new) → IfOk result (λ _.
             AreRecords answer_in ANSWERS_IN.now (Text round.now ∷ []) (state S.Store self.old)
             (state S.Store self.new)) }
@@ -468,7 +471,7 @@ impl<S: Alter + Drop> ReadStore for SqlStore<S> {
         ensures rested { KeptTables (state S.Store self.old) (state S.Store self.new) }
         ensures served { Served (content_of (state S.Store self.new)) result
             (λ world found. IsTrue found ↔ HasSubmitted world entrant.now round.now) }
-        ensures fault { Fails (Unit {0}) result }
+        ensures fault { Fails (CanFail (state S.Store self.new)) result }
         ensures whole { HasCleanDisk (state S.Store self.new) → IfOk result (λ _.
             AreRecords answer_in ANSWERS_OF.now (Text entrant.now ∷ Text round.now ∷ []) (state S.Store self.old)
             (state S.Store self.new)) }
@@ -484,7 +487,7 @@ impl<S: Alter + Drop> ReadStore for SqlStore<S> {
         ensures rested { KeptTables (state S.Store self.old) (state S.Store self.new) }
         ensures served { Served (content_of (state S.Store self.new)) result
             (λ world found. found ≡ get world.protests key.now) }
-        ensures fault { Fails (Unit {0}) result }
+        ensures fault { Fails (CanFail (state S.Store self.new)) result }
         ensures whole { HasCleanDisk (state S.Store self.new) → IfOk result (λ _.
             AreRecords protest_in PROTEST.now
             (Text key.now.entrant ∷ Text key.now.round ∷ Text key.now.token ∷ []) (state S.Store self.old)
@@ -506,7 +509,7 @@ impl<S: Alter + Drop> ReadStore for SqlStore<S> {
         ensures rested { KeptTables (state S.Store self.old) (state S.Store self.new) }
         ensures served { Served (content_of (state S.Store self.new)) result
             (λ world count. count ≡ protests_made world entrant.now round.now) }
-        ensures fault { Fails (Unit {0}) result }
+        ensures fault { Fails (CanFail (state S.Store self.new)) result }
         ensures whole { HasCleanDisk (state S.Store self.new) → IfOk result (λ _.
             AreRecords protest_in PROTESTS_OF.now (Text entrant.now ∷ Text round.now ∷ []) (state S.Store self.old)
             (state S.Store self.new)) }
@@ -522,7 +525,7 @@ impl<S: Alter + Drop> ReadStore for SqlStore<S> {
         ensures rested { KeptTables (state S.Store self.old) (state S.Store self.new) }
         ensures served { Served (content_of (state S.Store self.new)) result
             (λ world found. IsTrue found ↔ IsProtestOpen world round.now) }
-        ensures fault { Fails (Unit {0}) result }
+        ensures fault { Fails (CanFail (state S.Store self.new)) result }
         ensures whole { HasCleanDisk (state S.Store self.new) → IfOk result (λ _.
             AreRecords protest_in PROTESTS_IN.now (Text round.now ∷ []) (state S.Store self.old)
             (state S.Store self.new)) }
@@ -543,7 +546,7 @@ impl<S: Alter + Drop> ReadStore for SqlStore<S> {
         ensures rested { KeptTables (state S.Store self.old) (state S.Store self.new) }
         ensures served { Served (content_of (state S.Store self.new)) result
             (λ world rows. rows.items ≡ protests_of world entrant.now round.now) }
-        ensures fault { Fails (Unit {0}) result }
+        ensures fault { Fails (CanFail (state S.Store self.new)) result }
         ensures whole { HasCleanDisk (state S.Store self.new) → IfOk result (λ _.
             AreRecords protest_in PROTESTS_OF.now (Text entrant.now ∷ Text round.now ∷ []) (state S.Store self.old)
             (state S.Store self.new)) }
@@ -559,7 +562,7 @@ impl<S: Alter + Drop> ReadStore for SqlStore<S> {
         ensures rested { KeptTables (state S.Store self.old) (state S.Store self.new) }
         ensures served { Served (content_of (state S.Store self.new)) result
             (λ world rows. rows.items ≡ protests_in world round.now) }
-        ensures fault { Fails (Unit {0}) result }
+        ensures fault { Fails (CanFail (state S.Store self.new)) result }
         ensures whole { HasCleanDisk (state S.Store self.new) → IfOk result (λ _.
             AreRecords protest_in PROTESTS_IN.now (Text round.now ∷ []) (state S.Store self.old)
             (state S.Store self.new)) }
@@ -580,9 +583,9 @@ impl<S: Alter + Drop> ReadStore for SqlStore<S> {
         ensures rested { KeptTables (state S.Store self.old) (state S.Store self.new) }
         ensures fed { Fed K.takes (λ world rows. rows ≡ protests_in world round.now)
             (content_of (state S.Store self.old)) (content_of (state S.Store self.new)) sink.old result sink.new }
-        ensures fault { IfErr result (λ fault. fault ≡ Failed → Unit {0} ⊎ IsRefusedNext K.takes K.refuses
-            (λ world rows. rows ≡ protests_in world round.now) (content_of (state S.Store self.old))
-            (content_of (state S.Store self.new)) sink.old sink.new) }
+        ensures fault { IfErr result (λ fault. fault ≡ Failed → CanFail (state S.Store self.new)
+            ⊎ IsRefusedNext K.takes K.refuses (λ world rows. rows ≡ protests_in world round.now)
+            (content_of (state S.Store self.old)) (content_of (state S.Store self.new)) sink.old sink.new) }
         ensures whole { HasCleanDisk (state S.Store self.new) → IfOk result (λ _.
             AreRecords protest_in PROTESTS_IN.now (Text round.now ∷ []) (state S.Store self.old)
             (state S.Store self.new)) }
@@ -602,7 +605,9 @@ impl<S: Alter + Drop> WholeStore for SqlStore<S> {
     ghost use Rattle.hall_store.specs.Store.{Kept, Served, Fails};
     ghost use Rattle.hall_sql.specs.Cause.{ReadFails};
     ghost use Rattle.hall_sql.specs.Rows.{answer_in, place_in, protest_in, tester_in};
-    ghost use Rattle.hall_sql.specs.Standing.{KeptTables, content_of};
+    ghost use Rattle.hall_sql.specs.CanFail.{CanFail};
+    ghost use Rattle.hall_sql.specs.Content.{content_of};
+    ghost use Rattle.hall_sql.specs.Standing.{KeptTables};
     ghost use Rattle.hall_sql.specs.declared.answers.TheConstants.{ALL_ANSWERS};
     ghost use Rattle.hall_sql.specs.declared.protests.TheConstants.{ALL_PROTESTS};
     ghost use Rattle.hall_sql.specs.declared.rounds.TheConstants.{ALL_PLACES};
@@ -615,7 +620,7 @@ impl<S: Alter + Drop> WholeStore for SqlStore<S> {
         ensures rested { KeptTables (state S.Store self.old) (state S.Store self.new) }
         ensures served { Served (content_of (state S.Store self.new)) result
             (λ world places. places.items ≡ entries world.places) }
-        ensures fault { Fails (Unit {0}) result }
+        ensures fault { Fails (CanFail (state S.Store self.new)) result }
         ensures cause { HasCleanDisk (state S.Store self.new) → Fails
             (ReadFails place_in ALL_PLACES.now [] (state S.Store self.old) (state S.Store self.new)) result }
     {
@@ -627,7 +632,7 @@ impl<S: Alter + Drop> WholeStore for SqlStore<S> {
         ensures rested { KeptTables (state S.Store self.old) (state S.Store self.new) }
         ensures served { Served (content_of (state S.Store self.new)) result
             (λ world testers. testers.items ≡ entries world.testers) }
-        ensures fault { Fails (Unit {0}) result }
+        ensures fault { Fails (CanFail (state S.Store self.new)) result }
         ensures cause { HasCleanDisk (state S.Store self.new) → Fails
             (ReadFails tester_in ALL_TESTERS.now [] (state S.Store self.old) (state S.Store self.new)) result }
     {
@@ -639,7 +644,7 @@ impl<S: Alter + Drop> WholeStore for SqlStore<S> {
         ensures rested { KeptTables (state S.Store self.old) (state S.Store self.new) }
         ensures served { Served (content_of (state S.Store self.new)) result
             (λ world rows. rows.items ≡ values world.answers) }
-        ensures fault { Fails (Unit {0}) result }
+        ensures fault { Fails (CanFail (state S.Store self.new)) result }
         ensures cause { HasCleanDisk (state S.Store self.new) → Fails
             (ReadFails answer_in ALL_ANSWERS.now [] (state S.Store self.old) (state S.Store self.new)) result }
     {
@@ -651,7 +656,7 @@ impl<S: Alter + Drop> WholeStore for SqlStore<S> {
         ensures rested { KeptTables (state S.Store self.old) (state S.Store self.new) }
         ensures served { Served (content_of (state S.Store self.new)) result
             (λ world rows. rows.items ≡ values world.protests) }
-        ensures fault { Fails (Unit {0}) result }
+        ensures fault { Fails (CanFail (state S.Store self.new)) result }
         ensures cause { HasCleanDisk (state S.Store self.new) → Fails
             (ReadFails protest_in ALL_PROTESTS.now [] (state S.Store self.old) (state S.Store self.new)) result }
     {
@@ -664,7 +669,8 @@ impl<S: Alter + Drop> Store for SqlStore<S> {
     ghost use Rattle.sqlite.specs.Held.{state};
     ghost use Rattle.sqlite.specs.State.{HasCleanDisk};
     ghost use Rattle.hall_store.specs.Store.{Fails, Asks};
-    ghost use Rattle.hall_store.specs.Change.{CanAddAnswer, CanAddProtest};
+    ghost use Rattle.hall_store.specs.Change.{CanAddAnswer, CanAddProtest, CanImport, CanPutPuzzle, CanPutRound};
+    ghost use Rattle.hall_store.specs.Change.{CanRuleProtest, CanSetFlag, CanSetState};
     ghost use Rattle.hall_store.specs.declared.change.Change.TheVariants.{Import, PutPuzzle, SetState, PutRound};
     ghost use Rattle.hall_store.specs.declared.change.Change.TheVariants.{SetRoundFlag, AddAnswer, AddProtest};
     ghost use Rattle.hall_store.specs.declared.change.Change.TheVariants.{RuleProtest};
@@ -675,13 +681,17 @@ impl<S: Alter + Drop> Store for SqlStore<S> {
     ghost use Rattle.hall_sql.specs.WriteCause.{ImportFails, PutPuzzleFails, PutRoundFails, RuleFails, RunFails};
     ghost use Rattle.hall_sql.specs.WriteCause.{SetFlagFails, SetStateFails};
     ghost use Rattle.hall_sql.specs.RoundPuts.{PutsRows};
-    ghost use Rattle.hall_sql.specs.Standing.{MakesInTables, content_of};
+    ghost use Rattle.hall_sql.specs.CanFail.{CanFail};
+    ghost use Rattle.hall_sql.specs.Content.{MakesInTables, content_of};
 
     fn import(&mut self, alloc: Global, people: &People) -> Result<(), StoreFault>
         ensures wrote { MakesInTables (Import people.now) (state S.Store self.old) (state S.Store self.new) result }
+        ensures fault { Asks (content_of (state S.Store self.old)) (λ world. CanImport world people.now)
+            → Fails (CanFail (state S.Store self.new)) result }
         ensures cause { HasCleanDisk (state S.Store self.new) → Fails
             (ImportFails S.Store people.now (state S.Store self.old) (state S.Store self.new)) result }
     {
+        people.in_range();
         import(&mut self.conn, alloc, people)
     }
 
@@ -689,9 +699,12 @@ impl<S: Alter + Drop> Store for SqlStore<S> {
         ensures wrote { MakesInTables (PutPuzzle row) (state S.Store self.old) (state S.Store self.new) result }
         ensures text { HasCleanDisk (state S.Store self.new)
             → OnOk result (HasPuzzleRow row (state S.Store self.new).now) }
+        ensures fault { Asks (content_of (state S.Store self.old)) (λ world. CanPutPuzzle world row)
+            → Fails (CanFail (state S.Store self.new)) result }
         ensures cause { HasCleanDisk (state S.Store self.new) → Fails
             (PutPuzzleFails row (state S.Store self.old) (state S.Store self.new)) result }
     {
+        row_in_range(&row);
         put_puzzle(&mut self.conn, alloc, &row)
     }
 
@@ -703,9 +716,12 @@ impl<S: Alter + Drop> Store for SqlStore<S> {
     ) -> Result<(), StoreFault>
         ensures wrote { MakesInTables (SetState key.now known) (state S.Store self.old) (state S.Store self.new)
             result }
+        ensures fault { Asks (content_of (state S.Store self.old)) (λ world. CanSetState world key.now)
+            → Fails (CanFail (state S.Store self.new)) result }
         ensures cause { HasCleanDisk (state S.Store self.new) → Fails
             (SetStateFails key.now known (state S.Store self.old) (state S.Store self.new)) result }
     {
+        state_in_range(&known);
         set_state(&mut self.conn, alloc, key, known)
     }
 
@@ -713,9 +729,12 @@ impl<S: Alter + Drop> Store for SqlStore<S> {
         ensures wrote { MakesInTables (PutRound row) (state S.Store self.old) (state S.Store self.new) result }
         ensures rows { HasCleanDisk (state S.Store self.new) → OnOk result
             (PutsRows row (state S.Store self.old).now (state S.Store self.new).now) }
+        ensures fault { Asks (content_of (state S.Store self.old)) (λ world. CanPutRound world row)
+            → Fails (CanFail (state S.Store self.new)) result }
         ensures cause { HasCleanDisk (state S.Store self.new) → Fails
             (PutRoundFails row (state S.Store self.old) (state S.Store self.new)) result }
     {
+        row.in_range();
         put_round(&mut self.conn, &row)
     }
 
@@ -727,6 +746,8 @@ impl<S: Alter + Drop> Store for SqlStore<S> {
     ) -> Result<(), StoreFault>
         ensures wrote { MakesInTables (SetRoundFlag id.now flag) (state S.Store self.old) (state S.Store self.new)
             result }
+        ensures fault { Asks (content_of (state S.Store self.old)) (λ world. CanSetFlag world id.now)
+            → Fails (CanFail (state S.Store self.new)) result }
         ensures cause { HasCleanDisk (state S.Store self.new) → Fails
             (SetFlagFails id.now flag (state S.Store self.old) (state S.Store self.new)) result }
     {
@@ -736,18 +757,22 @@ impl<S: Alter + Drop> Store for SqlStore<S> {
     fn add_answer(&mut self, _alloc: Global, row: AnswerRow) -> Result<(), StoreFault>
         requires { Asks (content_of (state S.Store self.old)) (λ world. CanAddAnswer world row) }
         ensures wrote { MakesInTables (AddAnswer row) (state S.Store self.old) (state S.Store self.new) result }
+        ensures fault { Fails (CanFail (state S.Store self.new)) result }
         ensures cause { HasCleanDisk (state S.Store self.new) → Fails
             (RunFails ADD_ANSWER.now (answer_params row) (state S.Store self.old) (state S.Store self.new)) result }
     {
+        answer_in_range(&row);
         add_answer(&mut self.conn, &row)
     }
 
     fn add_protest(&mut self, _alloc: Global, row: ProtestRow) -> Result<(), StoreFault>
         requires { Asks (content_of (state S.Store self.old)) (λ world. CanAddProtest world row) }
         ensures wrote { MakesInTables (AddProtest row) (state S.Store self.old) (state S.Store self.new) result }
+        ensures fault { Fails (CanFail (state S.Store self.new)) result }
         ensures cause { HasCleanDisk (state S.Store self.new) → Fails
             (RunFails ADD_PROTEST.now (protest_params row) (state S.Store self.old) (state S.Store self.new)) result }
     {
+        protest_in_range(&row);
         add_protest(&mut self.conn, &row)
     }
 
@@ -759,9 +784,12 @@ impl<S: Alter + Drop> Store for SqlStore<S> {
     ) -> Result<(), StoreFault>
         ensures wrote { MakesInTables (RuleProtest key.now ruling) (state S.Store self.old) (state S.Store self.new)
             result }
+        ensures fault { Asks (content_of (state S.Store self.old)) (λ world. CanRuleProtest world key.now)
+            → Fails (CanFail (state S.Store self.new)) result }
         ensures cause { HasCleanDisk (state S.Store self.new) → Fails
             (RuleFails key.now ruling (state S.Store self.old) (state S.Store self.new)) result }
     {
+        ruling_in_range(&ruling);
         rule_protest(&mut self.conn, alloc, key, ruling)
     }
 }

@@ -42,11 +42,18 @@ world_of_maps store = record {
   testers = from_entries (flat_map testers_in store.rounds.entries);
 }
 
--- ordered maps have no device that could lie or fail, so no fault is counted; nor do they count their writes, and a stop
--- leaves nothing
+-- ordered maps have no device that could lie or fail, so no fault is counted, and only memory can be wanting; nor do they
+-- count their writes, and a stop leaves nothing
 abbrev pub content_of_maps : MapStore → Content
-content_of_maps store =
-    record { honest = ⊤; serves = ⊤; faults = 0; writes = 0; world = world_of_maps store; may_leave = λ _. ⊥ }
+content_of_maps store = record {
+  honest = ⊤;
+  serves = ⊤;
+  faults = 0;
+  writes = 0;
+  world = world_of_maps store;
+  may_leave = λ _. ⊥;
+  can_fail = ⊥;
+}
 
 -- nobody and nothing
 abbrev pub empty_world : World

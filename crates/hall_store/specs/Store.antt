@@ -28,7 +28,8 @@ use Rattle.hall_store.specs.Change.{changed}
 -- else has written; `serves`, no fault of the device has shut the store; `faults`, how often the device has failed.
 -- `writes` is a number that one write may raise by one, and nothing else raises. Which one is the store's own matter: a
 -- store may count its writes, or say 0 for ever. So what is proved of all stores bounds how many writes are made.
--- `may_leave`, the worlds that the next open may find, were the program stopped at this moment.
+-- `may_leave`, the worlds that the next open may find, were the program stopped at this moment. `can_fail`, a call may
+-- be refused for another cause than being out of memory.
 pub record Content : Type 1 where
   pub honest : Type 0
   pub serves : Type 0
@@ -36,6 +37,7 @@ pub record Content : Type 1 where
   pub writes : ℕ
   pub world : World
   pub may_leave : World → Type 0
+  pub can_fail : Type 0
 
 -- the device has failed once more, or so often that it is no longer counted
 abbrev pub MoreFaults : ℕ → ℕ → Type 0
@@ -86,9 +88,9 @@ Told old new (Ok answer) Means =
     (new.honest → old.serves → new.serves) × (new.honest → new.serves → Means new.world answer)
 Told old new (Err fault) Means = Unit {0}
 
--- Only a store that can fail answers that it failed.
+-- Failed is answered for such a cause alone.
 abbrev pub Fails : {R : Type 0} → Type 0 → Result R StoreFault → Type 0
-Fails can_fail result = IfErr result (λ fault. fault ≡ Failed → can_fail)
+Fails cause result = IfErr result (λ fault. fault ≡ Failed → cause)
 
 -- What a call asks of the world, where that can be told.
 abbrev pub Asks : Content → (World → Type 0) → Type 0

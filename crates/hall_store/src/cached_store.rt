@@ -55,8 +55,6 @@ impl<S: ReadStore> CachedStore<S> {
 impl<S: ReadStore> ReadStore for CachedStore<S> {
     ghost content = { S.content };
 
-    ghost can_fail = { S.can_fail };
-
     fn at_rest(&self) {
         self.store.at_rest();
     }

@@ -32,8 +32,6 @@ impl ReadStore for MapStore {
 
     ghost content = { content_of_maps };
 
-    ghost can_fail = { ⊥ };
-
     fn at_rest(&self) {}
 
     fn person_by_key(&mut self, _alloc: Global, key: &Key) -> Result<Option<Person>, StoreFault> {

@@ -12,7 +12,8 @@ use std::alloc::Global;
 /// A read may change what keeps the world, as a connection is, and leaves the world. What a call says of its answer and
 /// of what it leaves holds where the device was honest, and, where the call is refused, while the store still serves: a
 /// store that a fault of its device has shut answers nothing more.
-/// A call is refused as out of memory, or as failed: by a store that can fail, or, where rows are fed, by the sink.
+/// A call is refused as out of memory, or as failed: by a store whose content then says that it can fail, or, where
+/// rows are fed, by the sink.
 pub trait ReadStore: Drop {
     ghost use Rattle.std.specs.Prelude.{◌≡◌, ◌↔◌, ◌⊎◌, IsTrue, IfErr};
     ghost use Rattle.std.specs.FinMap.{get, values};
@@ -27,9 +28,6 @@ pub trait ReadStore: Drop {
     // The world, and while it can be told.
     ghost content: { Self → Content };
 
-    // Whether a call may be refused for another cause than being out of memory.
-    ghost can_fail: { Type 0 };
-
     /// Tells a proof that a stop between two calls leaves the world.
     fn at_rest(&self)
         ensures { IsSettled (content self.now) };
@@ -38,73 +36,73 @@ pub trait ReadStore: Drop {
     fn person_by_key(&mut self, alloc: Global, key: &Key) -> Result<Option<Person>, StoreFault>
         ensures kept { Kept (content self.old) (content self.new) }
         ensures served { Served (content self.new) result (λ world found. IsKeyHolder world key.now found) }
-        ensures fault { Fails can_fail result };
+        ensures fault { Fails (content self.new).can_fail result };
 
     /// The person of the name.
     fn person(&mut self, alloc: Global, name: &Name) -> Result<Option<Person>, StoreFault>
         ensures kept { Kept (content self.old) (content self.new) }
         ensures served { Served (content self.new) result (λ world found. found ≡ get world.people name.now) }
-        ensures fault { Fails can_fail result };
+        ensures fault { Fails (content self.new).can_fail result };
 
     /// All people, in the order of their names.
     fn people(&mut self, alloc: Global) -> Result<Vec<Person>, StoreFault>
         ensures kept { Kept (content self.old) (content self.new) }
         ensures served { Served (content self.new) result (λ world people. people.items ≡ values world.people) }
-        ensures fault { Fails can_fail result };
+        ensures fault { Fails (content self.new).can_fail result };
 
     /// The puzzle under the key.
     fn puzzle(&mut self, alloc: Global, key: &PuzzleKey) -> Result<Option<PuzzleRow>, StoreFault>
         ensures kept { Kept (content self.old) (content self.new) }
         ensures served { Served (content self.new) result (λ world found. found ≡ get world.puzzles key.now) }
-        ensures fault { Fails can_fail result };
+        ensures fault { Fails (content self.new).can_fail result };
 
     /// The author's puzzles, in the order of their labels.
     fn puzzles_of(&mut self, alloc: Global, author: &Name) -> Result<Vec<PuzzleRow>, StoreFault>
         ensures kept { Kept (content self.old) (content self.new) }
         ensures served { Served (content self.new) result (λ world rows. rows.items ≡ puzzles_of world author.now) }
-        ensures fault { Fails can_fail result };
+        ensures fault { Fails (content self.new).can_fail result };
 
     /// All puzzles, in the order of their keys.
     fn all_puzzles(&mut self, alloc: Global) -> Result<Vec<PuzzleRow>, StoreFault>
         ensures kept { Kept (content self.old) (content self.new) }
         ensures served { Served (content self.new) result (λ world rows. rows.items ≡ values world.puzzles) }
-        ensures fault { Fails can_fail result };
+        ensures fault { Fails (content self.new).can_fail result };
 
     /// How many puzzles of the author are kept.
     fn puzzles_put(&mut self, alloc: Global, author: &Name) -> Result<u64, StoreFault>
         ensures kept { Kept (content self.old) (content self.new) }
         ensures served { Served (content self.new) result (λ world count. count ≡ puzzles_put world author.now) }
-        ensures fault { Fails can_fail result };
+        ensures fault { Fails (content self.new).can_fail result };
 
     /// The round with its list of puzzles and its testers; none where neither head nor list is kept.
     fn round(&mut self, alloc: Global, id: &RoundId) -> Result<Option<RoundRow>, StoreFault>
         ensures kept { Kept (content self.old) (content self.new) }
         ensures served { Served (content self.new) result (λ world found. IsRoundKept world id.now found) }
-        ensures fault { Fails can_fail result };
+        ensures fault { Fails (content self.new).can_fail result };
 
     /// The names of those who test the round, none twice, in any order.
     fn testers_of(&mut self, alloc: Global, round: &RoundId) -> Result<Vec<Name>, StoreFault>
         ensures kept { Kept (content self.old) (content self.new) }
         ensures served { Served (content self.new) result (λ world names. AreTestersOf world round.now names.items) }
-        ensures fault { Fails can_fail result };
+        ensures fault { Fails (content self.new).can_fail result };
 
     /// All rounds without their puzzles and testers, in the order of their ids.
     fn rounds(&mut self, alloc: Global) -> Result<Vec<Round>, StoreFault>
         ensures kept { Kept (content self.old) (content self.new) }
         ensures served { Served (content self.new) result (λ world rounds. rounds.items ≡ values world.rounds) }
-        ensures fault { Fails can_fail result };
+        ensures fault { Fails (content self.new).can_fail result };
 
     /// The ids of the rounds that have the puzzle, each once, in their order.
     fn rounds_using(&mut self, alloc: Global, key: &PuzzleKey) -> Result<Vec<RoundId>, StoreFault>
         ensures kept { Kept (content self.old) (content self.new) }
         ensures served { Served (content self.new) result (λ world ids. AreUsing world key.now ids.items) }
-        ensures fault { Fails can_fail result };
+        ensures fault { Fails (content self.new).can_fail result };
 
     /// The answer under the key.
     fn answer(&mut self, alloc: Global, key: &AnswerKey) -> Result<Option<AnswerRow>, StoreFault>
         ensures kept { Kept (content self.old) (content self.new) }
         ensures served { Served (content self.new) result (λ world found. found ≡ get world.answers key.now) }
-        ensures fault { Fails can_fail result };
+        ensures fault { Fails (content self.new).can_fail result };
 
     /// How many answers the entrant gave to the round's puzzle of that number.
     fn answers_given(
@@ -117,7 +115,7 @@ pub trait ReadStore: Drop {
         ensures kept { Kept (content self.old) (content self.new) }
         ensures served { Served (content self.new) result
             (λ world count. count ≡ answers_given world entrant.now round.now number) }
-        ensures fault { Fails can_fail result };
+        ensures fault { Fails (content self.new).can_fail result };
 
     /// Whether an answer of the entrant to the round's puzzle of that number is the n-th.
     fn is_number_taken(
@@ -131,7 +129,7 @@ pub trait ReadStore: Drop {
         ensures kept { Kept (content self.old) (content self.new) }
         ensures served { Served (content self.new) result
             (λ world taken. IsTrue taken ↔ IsNumberTaken world entrant.now round.now number n) }
-        ensures fault { Fails can_fail result };
+        ensures fault { Fails (content self.new).can_fail result };
 
     /// The entrant's answers in the round, by number, then n.
     fn answers_of(
@@ -143,13 +141,13 @@ pub trait ReadStore: Drop {
         ensures kept { Kept (content self.old) (content self.new) }
         ensures served { Served (content self.new) result
             (λ world rows. IsListing world (is_of entrant.now round.now) rows.items) }
-        ensures fault { Fails can_fail result };
+        ensures fault { Fails (content self.new).can_fail result };
 
     /// The answers of the round, by entrant, number, then n.
     fn answers_in(&mut self, alloc: Global, round: &RoundId) -> Result<Vec<AnswerRow>, StoreFault>
         ensures kept { Kept (content self.old) (content self.new) }
         ensures served { Served (content self.new) result (λ world rows. IsListing world (is_in round.now) rows.items) }
-        ensures fault { Fails can_fail result };
+        ensures fault { Fails (content self.new).can_fail result };
 
     /// Gives the sink the answers of the round, one after another, by entrant, number, then n. It fails where the sink
     /// refuses one, and has then taken those before.
@@ -162,9 +160,9 @@ pub trait ReadStore: Drop {
         ensures kept { Kept (content self.old) (content self.new) }
         ensures fed { Fed K.takes (λ world rows. IsListing world (is_in round.now) rows)
             (content self.old) (content self.new) sink.old result sink.new }
-        ensures fault { IfErr result (λ fault. fault ≡ Failed → can_fail ⊎ IsRefusedNext K.takes K.refuses
-            (λ world rows. IsListing world (is_in round.now) rows) (content self.old) (content self.new)
-            sink.old sink.new) };
+        ensures fault { IfErr result (λ fault. fault ≡ Failed → (content self.new).can_fail
+            ⊎ IsRefusedNext K.takes K.refuses (λ world rows. IsListing world (is_in round.now) rows)
+            (content self.old) (content self.new) sink.old sink.new) };
 
     /// Whether the entrant has an answer in the round.
     fn has_answered(
@@ -176,13 +174,13 @@ pub trait ReadStore: Drop {
         ensures kept { Kept (content self.old) (content self.new) }
         ensures served { Served (content self.new) result
             (λ world found. IsTrue found ↔ HasSubmitted world entrant.now round.now) }
-        ensures fault { Fails can_fail result };
+        ensures fault { Fails (content self.new).can_fail result };
 
     /// The protest under the key.
     fn protest(&mut self, alloc: Global, key: &ProtestKey) -> Result<Option<ProtestRow>, StoreFault>
         ensures kept { Kept (content self.old) (content self.new) }
         ensures served { Served (content self.new) result (λ world found. found ≡ get world.protests key.now) }
-        ensures fault { Fails can_fail result };
+        ensures fault { Fails (content self.new).can_fail result };
 
     /// How many protests of the entrant in the round are kept.
     fn protests_made(
@@ -194,14 +192,14 @@ pub trait ReadStore: Drop {
         ensures kept { Kept (content self.old) (content self.new) }
         ensures served { Served (content self.new) result
             (λ world count. count ≡ protests_made world entrant.now round.now) }
-        ensures fault { Fails can_fail result };
+        ensures fault { Fails (content self.new).can_fail result };
 
     /// Whether a protest of the round is open.
     fn has_open_protest(&mut self, alloc: Global, round: &RoundId) -> Result<bool, StoreFault>
         ensures kept { Kept (content self.old) (content self.new) }
         ensures served { Served (content self.new) result
             (λ world found. IsTrue found ↔ IsProtestOpen world round.now) }
-        ensures fault { Fails can_fail result };
+        ensures fault { Fails (content self.new).can_fail result };
 
     /// The entrant's protests in the round, by token.
     fn protests_of(
@@ -213,13 +211,13 @@ pub trait ReadStore: Drop {
         ensures kept { Kept (content self.old) (content self.new) }
         ensures served { Served (content self.new) result
             (λ world rows. rows.items ≡ protests_of world entrant.now round.now) }
-        ensures fault { Fails can_fail result };
+        ensures fault { Fails (content self.new).can_fail result };
 
     /// The protests of the round, by entrant, then token.
     fn protests_in(&mut self, alloc: Global, round: &RoundId) -> Result<Vec<ProtestRow>, StoreFault>
         ensures kept { Kept (content self.old) (content self.new) }
         ensures served { Served (content self.new) result (λ world rows. rows.items ≡ protests_in world round.now) }
-        ensures fault { Fails can_fail result };
+        ensures fault { Fails (content self.new).can_fail result };
 
     /// Gives the sink the protests of the round, one after another, by entrant, then token. It fails where the sink
     /// refuses one, and has then taken those before.
@@ -232,9 +230,9 @@ pub trait ReadStore: Drop {
         ensures kept { Kept (content self.old) (content self.new) }
         ensures fed { Fed K.takes (λ world rows. rows ≡ protests_in world round.now)
             (content self.old) (content self.new) sink.old result sink.new }
-        ensures fault { IfErr result (λ fault. fault ≡ Failed → can_fail ⊎ IsRefusedNext K.takes K.refuses
-            (λ world rows. rows ≡ protests_in world round.now) (content self.old) (content self.new)
-            sink.old sink.new) };
+        ensures fault { IfErr result (λ fault. fault ≡ Failed → (content self.new).can_fail
+            ⊎ IsRefusedNext K.takes K.refuses (λ world rows. rows ≡ protests_in world round.now)
+            (content self.old) (content self.new) sink.old sink.new) };
 }
 
 /// The hall's world, however it is kept, as those see it who also write: who makes a planned change gets this.
@@ -254,13 +252,13 @@ pub trait Store: ReadStore {
     fn import(&mut self, alloc: Global, people: &People) -> Result<(), StoreFault>
         requires { Asks (Self.content self.old) (λ world. CanImport world people.now) }
         ensures makes { Makes (Import people.now) (Self.content self.old) (Self.content self.new) result }
-        ensures fault { Fails Self.can_fail result };
+        ensures fault { Fails (Self.content self.new).can_fail result };
 
     /// Stores the puzzle, in the place of the one under its key.
     fn put_puzzle(&mut self, alloc: Global, row: PuzzleRow) -> Result<(), StoreFault>
         requires { Asks (Self.content self.old) (λ world. CanPutPuzzle world row) }
         ensures makes { Makes (PutPuzzle row) (Self.content self.old) (Self.content self.new) result }
-        ensures fault { Fails Self.can_fail result };
+        ensures fault { Fails (Self.content self.new).can_fail result };
 
     /// Sets the state of the puzzle under the key.
     fn set_state(
@@ -271,13 +269,13 @@ pub trait Store: ReadStore {
     ) -> Result<(), StoreFault>
         requires { Asks (Self.content self.old) (λ world. CanSetState world key.now) }
         ensures makes { Makes (SetState key.now state) (Self.content self.old) (Self.content self.new) result }
-        ensures fault { Fails Self.can_fail result };
+        ensures fault { Fails (Self.content self.new).can_fail result };
 
     /// Stores the round with its list and its testers, in the place of the one under its id.
     fn put_round(&mut self, alloc: Global, row: RoundRow) -> Result<(), StoreFault>
         requires { Asks (Self.content self.old) (λ world. CanPutRound world row) }
         ensures makes { Makes (PutRound row) (Self.content self.old) (Self.content self.new) result }
-        ensures fault { Fails Self.can_fail result };
+        ensures fault { Fails (Self.content self.new).can_fail result };
 
     /// Sets a flag of the round.
     fn set_round_flag(
@@ -288,19 +286,19 @@ pub trait Store: ReadStore {
     ) -> Result<(), StoreFault>
         requires { Asks (Self.content self.old) (λ world. CanSetFlag world id.now) }
         ensures makes { Makes (SetRoundFlag id.now flag) (Self.content self.old) (Self.content self.new) result }
-        ensures fault { Fails Self.can_fail result };
+        ensures fault { Fails (Self.content self.new).can_fail result };
 
     /// Stores one more answer.
     fn add_answer(&mut self, alloc: Global, row: AnswerRow) -> Result<(), StoreFault>
         requires { Asks (Self.content self.old) (λ world. CanAddAnswer world row) }
         ensures makes { Makes (AddAnswer row) (Self.content self.old) (Self.content self.new) result }
-        ensures fault { Fails Self.can_fail result };
+        ensures fault { Fails (Self.content self.new).can_fail result };
 
     /// Stores one more protest.
     fn add_protest(&mut self, alloc: Global, row: ProtestRow) -> Result<(), StoreFault>
         requires { Asks (Self.content self.old) (λ world. CanAddProtest world row) }
         ensures makes { Makes (AddProtest row) (Self.content self.old) (Self.content self.new) result }
-        ensures fault { Fails Self.can_fail result };
+        ensures fault { Fails (Self.content self.new).can_fail result };
 
     /// Rules the protest under the key.
     fn rule_protest(
@@ -311,5 +309,5 @@ pub trait Store: ReadStore {
     ) -> Result<(), StoreFault>
         requires { Asks (Self.content self.old) (λ world. CanRuleProtest world key.now) }
         ensures makes { Makes (RuleProtest key.now ruling) (Self.content self.old) (Self.content self.new) result }
-        ensures fault { Fails Self.can_fail result };
+        ensures fault { Fails (Self.content self.new).can_fail result };
 }

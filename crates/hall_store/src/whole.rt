@@ -28,24 +28,24 @@ pub trait WholeStore: ReadStore {
     fn all_places(&mut self, alloc: Global) -> Result<Vec<Place>, StoreFault>
         ensures kept { Kept (Self.content self.old) (Self.content self.new) }
         ensures served { Served (Self.content self.new) result (λ world places. places.items ≡ entries world.places) }
-        ensures fault { Fails Self.can_fail result };
+        ensures fault { Fails (Self.content self.new).can_fail result };
 
     /// Each tester of each round, in the order of their keys; of a round that isn't there too.
     fn all_testers(&mut self, alloc: Global) -> Result<Vec<Tester>, StoreFault>
         ensures kept { Kept (Self.content self.old) (Self.content self.new) }
         ensures served { Served (Self.content self.new) result
             (λ world testers. testers.items ≡ entries world.testers) }
-        ensures fault { Fails Self.can_fail result };
+        ensures fault { Fails (Self.content self.new).can_fail result };
 
     /// All answers, in the order of their keys.
     fn all_answers(&mut self, alloc: Global) -> Result<Vec<AnswerRow>, StoreFault>
         ensures kept { Kept (Self.content self.old) (Self.content self.new) }
         ensures served { Served (Self.content self.new) result (λ world rows. rows.items ≡ values world.answers) }
-        ensures fault { Fails Self.can_fail result };
+        ensures fault { Fails (Self.content self.new).can_fail result };
 
     /// All protests, in the order of their keys.
     fn all_protests(&mut self, alloc: Global) -> Result<Vec<ProtestRow>, StoreFault>
         ensures kept { Kept (Self.content self.old) (Self.content self.new) }
         ensures served { Served (Self.content self.new) result (λ world rows. rows.items ≡ values world.protests) }
-        ensures fault { Fails Self.can_fail result };
+        ensures fault { Fails (Self.content self.new).can_fail result };
 }

@@ -10,7 +10,8 @@ use Rattle.hall_grid.specs.Device.{Tally}
 use Rattle.hall_store.specs.Store.{Kept}
 use Rattle.hall_sql.specs.AllRead.{AreAllRead}
 use Rattle.hall_sql.specs.Migrate.{Migrates, old_content_of}
-use Rattle.hall_sql.specs.Standing.{KeptTablesIn, content_of}
+use Rattle.hall_sql.specs.Standing.{KeptTablesIn}
+use Rattle.hall_sql.specs.Content.{content_of}
 use Rattle.hall_sql.specs.Tables.{old_schema}
 use Rattle.hall_sql.specs.WholeRows.{without_testers}
 use Rattle.hall_sql.specs.Rows.{world_of}

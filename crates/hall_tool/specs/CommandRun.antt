@@ -1,7 +1,7 @@
 -- What each command does with files, a host, an input and an output, and how it ends.
 use Rattle.std.specs.Prelude.{◌≡◌, ⊤, ℕ, Result}
 use Rattle.sqlite.specs.Held.{state}
-use Rattle.hall_sql.specs.Standing.{content_of}
+use Rattle.hall_sql.specs.Content.{content_of}
 use Rattle.hall_tool.specs.CheckRun.{IsCheckAt}
 use Rattle.hall_tool.specs.Commands.{IsInitAt, IsReplayInMemory, IsTaskAt, tables}
 use Rattle.hall_tool.specs.Help.{help_text, version_text}

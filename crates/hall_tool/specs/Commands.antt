@@ -7,7 +7,8 @@ use Rattle.sqlite.specs.Held.{Held, state}
 use Rattle.sqlite.specs.Steps.{over_memory}
 use Rattle.hall_store.specs.Maps.{empty_world}
 use Rattle.hall_sql.specs.Opened.{Starts}
-use Rattle.hall_sql.specs.Standing.{IsBareDatabase, IsHall, content_of}
+use Rattle.hall_sql.specs.Standing.{IsBareDatabase, IsHall}
+use Rattle.hall_sql.specs.Content.{content_of}
 use Rattle.hall_sql.specs.Tables.{hall_schema}
 use Rattle.hall_sql.specs.declared.open.OpenFault.{OpenFault}
 use Rattle.hall_tool.specs.Machine.{Files, HandsOut, HandsOutThere, Kinds, OnHost, Refuses, RefusesThere, Streams}
@@ -16,10 +17,6 @@ use Rattle.hall_tool.specs.Tasks.{DoesInit, DoesReplay}
 use Rattle.hall_tool.specs.declared.fault.CommandFault.{CommandFault}
 use Rattle.hall_tool.specs.declared.fault.CommandFault.TheVariants as stop
 use Rattle.hall_tool.specs.declared.fault.ToolFault.TheVariants.{Memory}
-
--- each call of a store in a database can fail
-abbrev pub TablesCanFail : Type 0
-TablesCanFail = Unit {0}
 
 -- the list was withheld by this error; or the database was refused for this cause; or memory was wanting
 abbrev pub StopsAt : (Error → Type 0) → (OpenFault → Type 0) → Type 0 → CommandFault → Type 0
@@ -38,7 +35,7 @@ IsStopped Withheld Refused Wants before after (Err fault) =
 
 -- what the connections of a database say
 abbrev pub tables : {S R W : Type 0} → Ghosts S → Streams R W → Kinds (Held S) R W
-tables g known = kinds (λ s. content_of (state g s)) TablesCanFail known
+tables g known = kinds (λ s. content_of (state g s)) known
 
 -- The files handed out the database at the path, this was done from the world that they held to the one in the database
 -- that they were given back, a hall's; or they refused it, and nothing was done.

@@ -23,15 +23,14 @@ pub record Streams (R W : Type 0) : Type 0 where
 abbrev pub streams : {R W : Type 0} → (R → Option (List ℕ)) → (W → Option (List ℕ)) → Streams R W
 streams remaining contents = record { remaining = remaining; contents = contents }
 
--- the content of a store, whether it can fail, and the bytes of a reader and a writer
+-- the content of a store, and the bytes of a reader and a writer
 pub record Kinds (S R W : Type 0) : Type 1 where
   pub content : S → Content
-  pub can_fail : Type 0
   pub streams : Streams R W
 
--- a store that tells this of its content and its faults, beside these streams
-abbrev pub kinds : {S R W : Type 0} → (S → Content) → Type 0 → Streams R W → Kinds S R W
-kinds content can_fail streams = record { content = content; can_fail = can_fail; streams = streams }
+-- a store that tells this of its content, beside these streams
+abbrev pub kinds : {S R W : Type 0} → (S → Content) → Streams R W → Kinds S R W
+kinds content streams = record { content = content; streams = streams }
 
 -- files, each under its path, and the stores that the databases among them are kept in
 pub record Files (F S : Type 0) : Type 1 where

@@ -9,7 +9,8 @@ use Rattle.sqlite.specs.State.{State, HasCleanDisk}
 use Rattle.hall_store.specs.Store.{IsSettled, LeavesNoOther}
 use Rattle.hall_sql.specs.Migrate.{Migrates, StopsAtWorld, old_content_of}
 use Rattle.hall_sql.specs.Opened.{Starts, StartsOld}
-use Rattle.hall_sql.specs.Standing.{IsHall, KeptTablesIn, KeptRows, content_of}
+use Rattle.hall_sql.specs.Standing.{IsHall, KeptTablesIn, KeptRows}
+use Rattle.hall_sql.specs.Content.{content_of}
 use Rattle.hall_sql.specs.Tables.{old_schema}
 use Rattle.hall_sql.specs.declared.migration.Migrated.{Migrated}
 use Rattle.hall_sql.specs.declared.migration.Migrated.TheVariants.{Done, Occupied}

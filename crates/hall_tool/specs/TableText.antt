@@ -28,8 +28,8 @@ abbrev pub IsOtherReply : Reply → Type 0
 IsOtherReply given = ((table : List ℕ) → given ≢ reply.Table table) × ((rule : ℕ) → given ≢ reply.Denied rule)
 
 -- the store can fail, or its world, where its device was honest, isn't sane: for such a cause alone a plan fails
-abbrev pub MayFail : Type 0 → Content → Type 0
-MayFail can_fail new = can_fail ⊎ (new.honest → new.serves × ¬ (Sane new.world))
+abbrev pub MayFail : Content → Type 0
+MayFail new = new.can_fail ⊎ (new.honest → new.serves × ¬ (Sane new.world))
 
 -- A request for the round's table is answered so, and leaves the world. It needs no key, and asks for no search; the
 -- moment, which is here 0, decides nothing of it.
@@ -64,4 +64,4 @@ pub record IsTableRun {S R W : Type 0} (k : Kinds S R W) (round : List ℕ) (old
       × WritesPart (k.streams.contents writer.device) (k.streams.contents written.device) text
   pub memory : IsErrOf result tool.Memory → written ≡ writer
   pub store : IsErrOf result tool.Store → written ≡ writer
-  pub fault : IsErrOf result tool.Store → MayFail k.can_fail new
+  pub fault : IsErrOf result tool.Store → MayFail new

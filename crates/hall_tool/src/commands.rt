@@ -24,7 +24,7 @@ fn task_over<T: Store, N, K: Task<N>, R: Read, W: Write>(
     reader: &mut Counted<R>,
     writer: &mut Counted<W>,
 ) -> (T, Result<u8, CommandFault>)
-    ensures { K.does (kinds T.content T.can_fail (streams R.remaining W.contents)) task.now
+    ensures { K.does (kinds T.content (streams R.remaining W.contents)) task.now
         (on_host host.old store reader.old writer.old) (on_host host.new result.0 reader.new writer.new) result.1 }
 {
     let mut desk = Desk::new(CachedStore::new(alloc, store));

@@ -64,8 +64,8 @@ pub fn init_run<S: Store, W: Write>(
     // Another fault leaves the world and the writer.
     ensures memory { IsErrOf result ToolFault.Memory → KeptWorld (S.content (kept_by desk.old))
         (S.content (kept_by desk.new)) × (writer.new ≡ writer.old) }
-    ensures store { IsErrOf result ToolFault.Store → S.can_fail × KeptWorld (S.content (kept_by desk.old))
-        (S.content (kept_by desk.new)) × (writer.new ≡ writer.old) }
+    ensures store { IsErrOf result ToolFault.Store → (S.content (kept_by desk.new)).can_fail
+        × KeptWorld (S.content (kept_by desk.old)) (S.content (kept_by desk.new)) × (writer.new ≡ writer.old) }
 {
     desk.at_rest();
     // The line's memory is taken first, so that a want of it leaves the world.

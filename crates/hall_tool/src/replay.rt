@@ -39,7 +39,7 @@ pub fn replay_run<S: Store, R: Read, W: Write>(
     reader: &mut Counted<R>,
     writer: &mut Counted<W>,
 ) -> Result<u8, ToolFault>
-    ensures run { IsReplayRun (kinds S.content S.can_fail (streams R.remaining W.contents)) list.now
+    ensures run { IsReplayRun (kinds S.content (streams R.remaining W.contents)) list.now
         (stand (kept_by desk.old) reader.old writer.old) (stand (kept_by desk.new) reader.new writer.new) result }
     ensures sane { SaneThen Sane (S.content (kept_by desk.old)) (S.content (kept_by desk.new)) }
 {

@@ -81,7 +81,7 @@ fn table_of<S: ReadStore>(
         × IsTableOver (S.content (kept_by desk.new)) round given
         × IsTableWritten given (string_bytes a.line) a.status) }
     ensures cause { IfErr result (λ e. (e ≡ ToolFault.Memory) ⊎ (e ≡ ToolFault.Store)) }
-    ensures fault { IsErrOf result ToolFault.Store → MayFail S.can_fail (S.content (kept_by desk.new)) }
+    ensures fault { IsErrOf result ToolFault.Store → MayFail (S.content (kept_by desk.new)) }
 {
     let Some(t) = Moment::new(0) else {
         unreachable!()
@@ -108,7 +108,7 @@ fn table_ending<S: ReadStore>(
     ensures text { IfOk result
         (λ a. TableText round.now (S.content (kept_by desk.new)) (string_bytes a.line) a.status) }
     ensures cause { IfErr result (λ e. (e ≡ ToolFault.Memory) ⊎ (e ≡ ToolFault.Store)) }
-    ensures fault { IsErrOf result ToolFault.Store → MayFail S.can_fail (S.content (kept_by desk.new)) }
+    ensures fault { IsErrOf result ToolFault.Store → MayFail (S.content (kept_by desk.new)) }
 {
     match round_id(alloc, round)? {
         Some(id) => table_of(alloc, desk, id),
@@ -139,7 +139,7 @@ pub fn table_run<S: ReadStore, W: Write>(
     // Another fault leaves the writer as it was.
     ensures memory { IsErrOf result ToolFault.Memory → writer.new ≡ writer.old }
     ensures store { IsErrOf result ToolFault.Store → writer.new ≡ writer.old }
-    ensures fault { IsErrOf result ToolFault.Store → MayFail S.can_fail (S.content (kept_by desk.new)) }
+    ensures fault { IsErrOf result ToolFault.Store → MayFail (S.content (kept_by desk.new)) }
 {
     let ending = table_ending(alloc, desk, round)?;
     write_all(writer, ending.line.as_bytes())?;

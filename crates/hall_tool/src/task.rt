@@ -34,7 +34,7 @@ pub trait Task<N> {
         reader: &mut Counted<R>,
         writer: &mut Counted<W>,
     ) -> Result<u8, CommandFault>
-        ensures { does (kinds S.content S.can_fail (streams R.remaining W.contents)) self.now
+        ensures { does (kinds S.content (streams R.remaining W.contents)) self.now
             (on_host host.old (kept_by desk.old) reader.old writer.old)
             (on_host host.new (kept_by desk.new) reader.new writer.new) result };
 }

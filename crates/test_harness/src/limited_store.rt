@@ -29,9 +29,7 @@ fn spend(left: &mut u64) -> Result<(), StoreFault> {
 impl ReadStore for LimitedStore<'_> {
     ghost use Rattle.hall_store.specs.Maps.{content_of_maps};
 
-    ghost content = { λ limited. content_of_maps limited.store.now };
-
-    ghost can_fail = { ⊤ };
+    ghost content = { λ limited. record (content_of_maps limited.store.now) { can_fail = ⊤ } };
 
     fn at_rest(&self) {
         self.store.at_rest();

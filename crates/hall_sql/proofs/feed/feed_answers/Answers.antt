@@ -8,6 +8,8 @@ use Rattle.hall_sql.proofs.AnswerTexts.{listing_order, answer_columns, answers_i
 use Rattle.hall_sql.specs.Statements.{equals}
 use Rattle.hall_sql.proofs.FeedLemmas.{fed_rows, fed_whole}
 use Rattle.hall_sql.proofs.FeedListings.{answers_in_selected}
+use Rattle.hall_sql.proofs.FailLemmas.{fed_fault}
+use Rattle.hall_sql.proofs.UnreadRows.{answers_in_begin}
 use Rattle.hall_sql.proofs.feed.feed_answers.Goals as goal
 
 pub feed-requires-clause-asks : goal.feed-requires-clause-asks
@@ -31,3 +33,12 @@ returns-clause-whole g c clean =
 
 pub returns-clause-cause : goal.returns-clause-cause
 returns-clause-cause g c = rw (c.params-to_sql.ensures, c.as_str.ensures.text) at c.feed.ensures.cause
+
+pub returns-clause-fault : goal.returns-clause-fault
+returns-clause-fault g c =
+    let old = state g.S.Store c.args.conn.now in
+    fed_fault answer_in ANSWERS_IN.now (Text c.args.round.now ∷ []) 9 (equals 2 0 ∷ []) answer_columns listing_order _
+    (λ u. (answers_in_is u).0) (λ u. (answers_in_is u).1) (λ u. (answers_in_is u).2) (λ db. refl) (answers_in_begin c.args.round.now)
+    g.K.Sink.takes g.K.Sink.refuses (λ world rows. IsListing world (is_in c.args.round.now) rows) c.args.sink.now c.feed.new.sink c.requires.hall c.feed.ensures.rested
+    (λ opened. (c.schema-schema.ensures.live opened).0) (answers_in_selected old c.args.round.now) c.feed.result
+    (rw (c.params-to_sql.ensures, c.as_str.ensures.text) at c.feed.ensures.cause)

@@ -7,7 +7,7 @@ use Rattle.hall_sql.proofs.WriteCauseLemmas.{commit_fails, whole_cause}
 use Rattle.sqlite.specs.Held.{state}
 use Rattle.hall_store.specs.declared.change.Change.TheVariants.{Import}
 use Rattle.hall_store.specs.declared.fault.StoreFault.{StoreFault}
-use Rattle.hall_sql.specs.Standing.{MakesInTables}
+use Rattle.hall_sql.specs.Content.{MakesInTables}
 use Rattle.hall_sql.proofs.LastLemmas.{survived}
 use Rattle.hall_sql.proofs.TransactionLemmas.{committed_wrote, refused_wrote}
 use Rattle.hall_sql.proofs.people.import.Goals as goal

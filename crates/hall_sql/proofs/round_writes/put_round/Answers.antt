@@ -4,7 +4,7 @@ use Rattle.sqlite.specs.State.{HasCleanDisk}
 use Rattle.hall_store.specs.declared.change.Change.TheVariants.{PutRound}
 use Rattle.hall_store.specs.declared.fault.StoreFault.{StoreFault}
 use Rattle.hall_sql.specs.RoundPuts.{PutsRows}
-use Rattle.hall_sql.specs.Standing.{MakesInTables}
+use Rattle.hall_sql.specs.Content.{MakesInTables}
 use Rattle.hall_sql.specs.WriteCause.{PutRoundFails}
 use Rattle.hall_sql.proofs.CauseLemmas.{fails_as}
 use Rattle.hall_sql.proofs.WriteCauseLemmas.{whole_cause}

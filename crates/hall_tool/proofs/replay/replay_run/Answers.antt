@@ -18,7 +18,7 @@ returns-in-Ok-eq0-clause-run g c =
       c.seed_run.new.writer,
       c.replay.result,
       subst (λ (ended : Result ℕ ToolFault). IsSeedRun
-          (kinds g.S.ReadStore.content g.S.ReadStore.can_fail (streams g.R.Read.remaining g.W.Write.contents))
+          (kinds g.S.ReadStore.content (streams g.R.Read.remaining g.W.Write.contents))
           c.args.list.now
           (g.S.ReadStore.content (kept_by c.args.desk.now)) (g.S.ReadStore.content (kept_by c.seed_run.new.desk))
           c.args.writer.now c.seed_run.new.writer ended) zero

@@ -16,7 +16,7 @@ pub returns-in-Ok-clause-fault : goal.returns-in-Ok-clause-fault
 returns-in-Ok-clause-fault g c = λ failed.
     let new = g.S.ReadStore.content (kept_by c.plan-planned.new.self) in
     let told = table_told new c.args.round c.in-Ok.plan c.in-Some.t c.in-Some.ensures.value c.in-Ok.ensures.planned in
-    other_fails g.S.ReadStore.can_fail new c.args.round (planned_reply c.in-Ok.plan) told (c.written_of.ensures.fault failed)
+    other_fails new c.args.round (planned_reply c.in-Ok.plan) told (c.written_of.ensures.fault failed)
 
 pub returns-in-Err-clause-cause : goal.returns-in-Err-clause-cause
 returns-in-Err-clause-cause g c = elim c.told.ensures [

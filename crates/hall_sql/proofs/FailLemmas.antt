@@ -1,0 +1,342 @@
+-- Why a call was refused, as the state that it leaves tells.
+use Rattle.std.proofs.Common.{◌≡◌, ◌⊎◌, ◌<◌, inl, inr, ℕ, suc, nat_eq, Bool, true, false, List, [], ◌∷◌, ◌++◌, append_assoc, length, option_to_list, filter, Option, Some, None, Result, Ok, Err, IsTrue, IfErr, OnErr, refl, sym, ap, subst, ◌∙◌, arith}
+use Rattle.std.proofs.lemmas.Bool.{cases_Bool, eq-eqb, eqb-true}
+use Rattle.std.proofs.lemmas.Grind.{flat_map-append}
+use Rattle.std.specs.Prelude.{All, Contains}
+use Rattle.sqlite_trees.specs.View.{doubt}
+use Rattle.sqlite_trees.specs.declared.store.Store.{Ghosts}
+use Rattle.sqlite_value.specs.declared.keys.Key.{Key}
+use Rattle.sqlite.specs.declared.types.Value.TheVariants.{Null, Text}
+use Rattle.sqlite.specs.Command.TheVariants.{Select}
+use Rattle.sqlite.specs.Effect.{Database, IsDatabase}
+use Rattle.sqlite.specs.Held.{state}
+use Rattle.sqlite.specs.Listing.{understood, reads_listing}
+use Rattle.sqlite.specs.Order.{Row}
+use Rattle.sqlite.specs.Program.{overlay}
+use Rattle.sqlite.specs.State.{State, HasCleanDisk}
+use Rattle.sqlite.specs.Term.{Term}
+use Rattle.sqlite.specs.Tree.{Trees}
+use Rattle.sqlite.proofs.Callers.{IsPlain, command_of, begins_as}
+use Rattle.hall_policy.specs.Ranges.{IsAnswerRow, IsPerson, IsProtestRow, IsPuzzleRow, IsRoundRow, IsRuling, IsState}
+use Rattle.hall_policy.specs.World.{World}
+use Rattle.hall_policy.specs.declared.record.AnswerRow.{AnswerRow}
+use Rattle.hall_policy.specs.declared.record.Person.{Person}
+use Rattle.hall_policy.specs.declared.record.ProtestKey.{ProtestKey}
+use Rattle.hall_policy.specs.declared.record.ProtestRow.{ProtestRow}
+use Rattle.hall_policy.specs.declared.record.PuzzleKey.{PuzzleKey}
+use Rattle.hall_policy.specs.declared.record.PuzzleRow.{PuzzleRow}
+use Rattle.hall_policy.specs.declared.record.PuzzleState.{PuzzleState}
+use Rattle.hall_policy.specs.declared.record.RoundRow.{RoundRow}
+use Rattle.hall_policy.specs.declared.record.Ruling.{Ruling}
+use Rattle.hall_store.specs.Change.{CanAddAnswer, CanAddProtest, CanImport, CanMake, CanPutPuzzle, CanPutRound, CanRuleProtest, CanSetFlag, CanSetState}
+use Rattle.hall_store.specs.Store.{Asks, Fails, IsRefusedNext}
+use Rattle.hall_store.specs.declared.change.Change.{Change}
+use Rattle.hall_store.specs.declared.change.Change.TheVariants.{Import, PutPuzzle, SetState, PutRound, SetRoundFlag, AddAnswer, AddProtest, RuleProtest}
+use Rattle.hall_store.specs.declared.change.RoundFlag.{RoundFlag}
+use Rattle.hall_store.specs.declared.fault.StoreFault.{StoreFault}
+use Rattle.hall_store.specs.declared.fault.StoreFault.TheVariants.{Failed}
+use Rattle.hall_sql.specs.CanFail.{CanFail, IsChangeInRange, KeepsNoWorld, RefusesAllowed, RefusesChange, RefusesPuzzle}
+use Rattle.hall_sql.specs.Cause.{FeedFails, FindFails, IsAnyUnread, IsStoreCause, ReadFails, RoundFails, StopsAtRow}
+use Rattle.hall_sql.specs.Columns.{answer_params, person_params, protest_params}
+use Rattle.hall_sql.specs.Content.{content_of}
+use Rattle.hall_sql.specs.Feed.{IsTurnedAway}
+use Rattle.hall_sql.specs.Rows.{person_in, place_in, protest_in, puzzle_row_in, round_in, tester_in, world_of}
+use Rattle.hall_sql.specs.Standing.{IsHall, IsSelection, KeptTables, KeptRows}
+use Rattle.hall_sql.specs.Statements.{plain_query}
+use Rattle.hall_sql.specs.Tables.{IsHallSchema}
+use Rattle.hall_sql.specs.WriteCause.{ImportFails, IsStatementRefused, IsUnknown, PersonIsRefused, PuzzleIsRefused}
+use Rattle.hall_sql.specs.WriteCause.{PutPuzzleFails, PutRoundFails, RuleFails, RunFails, SetFlagFails, SetStateFails}
+use Rattle.hall_sql.specs.declared.answers.TheConstants.{ADD_ANSWER}
+use Rattle.hall_sql.specs.declared.people.TheConstants.{ADD_PERSON}
+use Rattle.hall_sql.specs.declared.protests.TheConstants.{ADD_PROTEST, PROTEST}
+use Rattle.hall_sql.specs.declared.puzzles.TheConstants.{PUZZLE}
+use Rattle.hall_sql.specs.declared.rounds.TheConstants.{HEAD, PLACES_OF}
+use Rattle.hall_sql.specs.declared.testers.TheConstants.{TESTERS_OF}
+use Rattle.hall_sql.proofs.CallLemmas.{shown_was_open}
+use Rattle.hall_sql.proofs.ContentLemmas.{all_read}
+use Rattle.hall_sql.proofs.FeedLemmas.{Lists, records}
+use Rattle.hall_sql.proofs.Selections.{selected}
+use Rattle.hall_sql.proofs.StoreLemmas.{rested_stayed}
+use Rattle.hall_sql.proofs.UnreadRows.{BeginsUnread, TellsTwice, TellsUnread, head_twice, head_unread, person_twice, person_unread, places_of_unread, protest_twice, protest_unread, puzzle_twice, puzzle_unread, testers_of_unread}
+use Rattle.hall_sql.proofs.Wordings.{Wording, hall_in, worded}
+
+-- ---- reasons
+
+-- what `CanFail` says of a connection with a clean disk
+abbrev Reason : State → Type 0
+Reason s = (0 < s.faults) ⊎ ((s.is_open ≡ false) ⊎ (KeepsNoWorld s.now.trees ⊎ RefusesAllowed s.now))
+
+-- one that is shut needs no other
+while_open : (s : State) → (IsTrue s.is_open → Reason s) → Reason s
+while_open s why = go s.is_open refl
+  where
+    go : (b : Bool) → s.is_open ≡ b → Reason s
+    go true is = why is
+    go false is = inr (inl is)
+
+module _ (old new : State) (stayed : KeptRows old new) (clean : HasCleanDisk new) where
+  by_store : IsStoreCause old new → Reason new
+  by_store (inl (inl more)) = inl (omega (arith, more))
+  by_store (inl (inr many)) = inl (omega (arith, many))
+  by_store (inr shut) = while_open new (λ opens. absurd (let no : false ≡ true = sym shut ∙ stayed.follows.opened clean opens in cc))
+
+  by_tables : KeepsNoWorld old.now.trees → Reason new
+  by_tables bad =
+      while_open new (λ opens. inr (inr (inl (subst (λ (d : Database). KeepsNoWorld d.trees) (sym (stayed.same clean opens)) bad))))
+
+  by_refusal : (IsTrue old.is_open → RefusesAllowed old.now) → Reason new
+  by_refusal refused =
+      while_open new (λ opens. inr (inr (inr (subst RefusesAllowed (sym (stayed.same clean opens)) (refused (stayed.follows.opened clean opens))))))
+
+-- where a call failed, the state says why
+by_reason : {R : Type 0} (result : Result R StoreFault) (Why : Type 0) (new : State) → (HasCleanDisk new → Fails Why result)
+    → (HasCleanDisk new → Why → Reason new) → Fails (CanFail new) result
+by_reason (Ok x) Why new cause why = tt
+by_reason (Err e) Why new cause why = λ failed clean. why clean (cause clean failed)
+
+-- ---- reads
+
+-- the cause lies in the store, or what the tables kept is no world
+abbrev IsRead : State → State → Type 0
+IsRead old new = IsStoreCause old new ⊎ KeepsNoWorld old.now.trees
+
+of_hall : (s : State) → IsHall s → HasCleanDisk s → IsTrue s.is_open → IsHallSchema s.now.schema
+of_hall s hall clean opens = (hall.settled clean opens).1
+
+module _ {X : Type 0} (read : Row → Option X) (sql : List ℕ) (params : Row) (unread : TellsUnread read sql params)
+    (old new : State) (hall : IsHall old) (clean : HasCleanDisk old) where
+  of_read : ReadFails read sql params old new → IsRead old new
+  of_read (inl cause) = inl cause
+  of_read (inr it) =
+      let has = of_hall old hall clean (shown_was_open sql params old new it.0 it.1) in
+      inr (inl (unread old new it.0 has it.1 it.2))
+
+  of_find : TellsTwice sql params → FindFails read sql params old new → IsRead old new
+  of_find twice (inl fails) = of_read fails
+  of_find twice (inr it) =
+      let has = of_hall old hall clean (shown_was_open sql params old new it.0 it.1) in
+      inr (inr (inl (twice old new it.0 has it.1 it.2)))
+
+of_round : (id : List ℕ) (old new : State) → IsHall old → HasCleanDisk old → RoundFails id old new → IsRead old new
+of_round id old new hall clean (inl head) = of_find round_in HEAD.now (Text id ∷ []) (head_unread id) old new hall clean (head_twice id) head
+of_round id old new hall clean (inr (inl places)) = of_read place_in PLACES_OF.now (Text id ∷ []) (places_of_unread id) old new hall clean places
+of_round id old new hall clean (inr (inr (inl testers))) = of_read tester_in TESTERS_OF.now (Text id ∷ []) (testers_of_unread id) old new hall clean testers
+of_round id old new hall clean (inr (inr (inr none))) = inr (inr (inr (id, none)))
+
+by_read : (old new : State) → KeptRows old new → HasCleanDisk new → IsRead old new → Reason new
+by_read old new stayed clean (inl cause) = by_store old new stayed clean cause
+by_read old new stayed clean (inr bad) = by_tables old new stayed clean bad
+
+module _ {R : Type 0} (result : Result R StoreFault) {old new : State} (hall : IsHall old) (rested : KeptTables old new) where
+  by_rest : (Why : Type 0) → (HasCleanDisk old → Why → IsRead old new) → (HasCleanDisk new → Fails Why result) → Fails (CanFail new) result
+  by_rest Why told cause =
+      by_reason result Why new cause
+      (λ clean why.
+      let was : HasCleanDisk old = omega (arith, rested.follows.lasts.clean, clean) in
+      by_read old new (rested_stayed rested) clean (told was why))
+
+  pub read_fault : {X : Type 0} (read : Row → Option X) (sql : List ℕ) (params : Row) → TellsUnread read sql params
+      → (HasCleanDisk new → Fails (ReadFails read sql params old new) result) → Fails (CanFail new) result
+  read_fault read sql params unread cause =
+      by_rest (ReadFails read sql params old new) (λ was why. of_read read sql params unread old new hall was why) cause
+
+  pub find_fault : {X : Type 0} (read : Row → Option X) (sql : List ℕ) (params : Row) → TellsUnread read sql params → TellsTwice sql params
+      → (HasCleanDisk new → Fails (FindFails read sql params old new) result) → Fails (CanFail new) result
+  find_fault read sql params unread twice cause =
+      by_rest (FindFails read sql params old new) (λ was why. of_find read sql params unread old new hall was twice why) cause
+
+  pub round_fault : (id : List ℕ) → (HasCleanDisk new → Fails (RoundFails id old new) result) → Fails (CanFail new) result
+  round_fault id cause =
+      by_rest (RoundFails id old new) (λ was why. of_round id old new hall was why) cause
+
+-- ---- rows that are fed
+
+last_there : (rows : List Row) (row : Row) → Contains (rows ++ row ∷ []) row
+last_there [] row = (0, omega arith, refl)
+last_there (r ∷ rows) row = let it = last_there rows row in (suc it.0, omega (arith, it.1), it.2)
+
+doubtful : (s : State) → HasCleanDisk s ⊎ (¬ (HasCleanDisk s))
+doubtful s = elim (cases_Bool (nat_eq (doubt s.is_clean) 0)) [
+  | inl same ↦ inl (eqb-true (doubt s.is_clean) 0 same)
+  | inr differs ↦ inr (λ is. absurd (let same : nat_eq (doubt s.is_clean) 0 ≡ true = eq-eqb (doubt s.is_clean) 0 is in cc))
+]
+
+module _ {X : Type 0} (read : Row → Option X) (sql : List ℕ) (params : Row) (tree : ℕ)
+    (terms project : List Term) (order : List (Term × Key)) (names : List (List ℕ))
+    (is : (u : Wording) → command_of (understood (hall_in u) sql)
+    ≡ Select (record { lets = []; body = plain_query tree terms project order }) names)
+    (unlisted : (u : Wording) → reads_listing (hall_in u) sql ≡ false) (plain : (u : Wording) → IsPlain (understood (hall_in u) sql))
+    (apart : (db : Trees) → overlay db [] tree ≡ db tree) (unread : BeginsUnread read sql params) where
+  module _ {K : Type 0} (Takes : K → X → K → Type 0) (Refuses : K → X → Type 0) (AreRows : World → List X → Type 0)
+      {old new : State} (before after : K) (hall : IsHall old) (rested : KeptTables old new)
+      (sound : IsTrue old.is_open → IsDatabase old.now) (lists : Lists read tree terms project order params old.now AreRows) where
+    -- the answer goes on after the row at which the sink stopped
+    goes_on : IsHallSchema old.now.schema → HasCleanDisk old → IsTrue old.is_open
+        → (it : StopsAtRow read Takes Refuses sql params old before after) → (x : X) → read it.row ≡ Some x
+        → (left : List X) × AreRows (world_of old.now.trees) (it.taken ++ x ∷ left)
+    goes_on has clean opens it x is_x =
+        let (u, words) = worded old.now.schema has in
+        let rows = it.rows ++ it.row ∷ [] in
+        let begun = begins_as sql params old old (hall_in u) words _ (is u) (plain u) (unlisted u) rows it.begun in
+        let tail = begun.1.0 in
+        let sel = subst (λ t. IsSelection (plain_query tree terms project order) t params (rows ++ tail)) (apart old.now.trees)
+        (selected tree terms project order (overlay old.now.trees []) params (rows ++ tail) (begun.1.1 Null)) in
+        let last : records read (it.row ∷ []) ≡ x ∷ [] = rw is_x refl in
+        let first : records read rows ≡ it.taken ++ x ∷ [] =
+        flat_map-append (λ r. option_to_list (read r)) it.rows (it.row ∷ [])
+        ∙ ap (λ l. l ++ records read (it.row ∷ [])) (all_read read it.rows it.taken it.reads) ∙ ap (λ l. it.taken ++ l) last in
+        let all : records read (rows ++ tail) ≡ it.taken ++ x ∷ records read tail =
+        flat_map-append (λ r. option_to_list (read r)) rows tail ∙ ap (λ l. l ++ records read tail) first
+        ∙ append_assoc it.taken (x ∷ []) (records read tail) in (
+          records read tail,
+          subst (AreRows (world_of old.now.trees)) all (lists has (hall.keyed clean opens) (sound opens) (rows ++ tail) sel),
+        )
+
+    of_feed : HasCleanDisk new → FeedFails read Takes Refuses sql params old new before after
+        → CanFail new ⊎ IsRefusedNext Takes Refuses AreRows (content_of old) (content_of new) before after
+    of_feed clean (inl cause) = inl (λ late. by_store old new (rested_stayed rested) late cause)
+    of_feed clean (inr it) = at_open new.is_open refl
+      where
+        was : HasCleanDisk old
+        was = omega (arith, rested.follows.lasts.clean, clean)
+
+        turned : (opens : IsTrue new.is_open) → IsTurnedAway read Refuses after it.row
+            → CanFail new ⊎ IsRefusedNext Takes Refuses AreRows (content_of old) (content_of new) before after
+        turned opens (inl none) =
+            let has = of_hall old hall was (rested.follows.opened clean opens) in
+            inl (λ late. by_tables old new (rested_stayed rested) late
+            (inl (unread old (it.rows ++ it.row ∷ []) has it.begun (it.row, last_there it.rows it.row, none))))
+        turned opens (inr refused) =
+            let opened = rested.follows.opened clean opens in
+            let has = of_hall old hall was opened in
+            inr (it.taken, refused.0, it.took, refused.2, λ late. (opens, goes_on has was opened it refused.0 refused.1))
+
+        at_open : (b : Bool) → new.is_open ≡ b → CanFail new ⊎ IsRefusedNext Takes Refuses AreRows (content_of old) (content_of new) before after
+        at_open true is = turned is it.stops
+        at_open false is = inl (λ late. inr (inl is))
+
+    pub fed_fault : (result : Result (Unit {0}) StoreFault)
+        → (HasCleanDisk new → Fails (FeedFails read Takes Refuses sql params old new before after) result)
+        → IfErr result (λ fault. fault ≡ Failed → CanFail new ⊎ IsRefusedNext Takes Refuses AreRows (content_of old) (content_of new) before after)
+    fed_fault (Ok done) cause = tt
+    fed_fault (Err e) cause = λ failed. elim (doubtful new) [
+      | inl clean ↦ of_feed clean (cause clean failed)
+      | inr dirty ↦ inl (λ clean. absurd (dirty clean))
+    ]
+
+-- ---- writes
+
+-- the cause lies in the store, or what the tables kept is no world, or they refused the change
+abbrev IsTold : Change → State → State → Type 0
+IsTold change old new = IsStoreCause old new ⊎ (KeepsNoWorld old.now.trees ⊎ RefusesChange change old.now)
+
+change_fault : {R : Type 0} (change : Change) (old new : State) (result : Result R StoreFault) (Why : Type 0) → IsChangeInRange change
+    → Asks (content_of old) (CanMake change) → OnErr result (KeptRows old new) → (HasCleanDisk new → Fails Why result)
+    → (HasCleanDisk old → Why → IsTold change old new) → Fails (CanFail new) result
+change_fault change old new (Ok x) Why ranged can stayed cause told = tt
+change_fault change old new (Err e) Why ranged can stayed cause told = λ failed clean.
+    let was : HasCleanDisk old = omega (arith, stayed.follows.lasts.clean, clean) in
+    go was clean (told was (cause clean failed))
+  where
+    go : HasCleanDisk old → HasCleanDisk new → IsTold change old new → Reason new
+    go was clean (inl store) = by_store old new stayed clean store
+    go was clean (inr (inl bad)) = by_tables old new stayed clean bad
+    go was clean (inr (inr refused)) =
+        by_refusal old new stayed clean (λ opens. record { change = change; ranged = ranged; allowed = can was opens; refused = refused })
+
+-- one statement, or several of which one is refused
+refused_told : {A B C : Type 0} → A ⊎ C → A ⊎ (B ⊎ C)
+refused_told (inl cause) = inl cause
+refused_told (inr refused) = inr (inr refused)
+
+put_told : (row : PuzzleRow) (old new : State) → PutPuzzleFails row old new → IsStoreCause old new ⊎ RefusesPuzzle row old.now
+put_told row old new (inl cause) = inl cause
+put_told row old new (inr it) = inr (subst (λ n. PuzzleIsRefused row n old.now) (sym it.1) it.2)
+
+read_told : {A B C : Type 0} → A ⊎ B → A ⊎ (B ⊎ C)
+read_told (inl cause) = inl cause
+read_told (inr bad) = inr (inl bad)
+
+person_told : (person : Person) (mid left : State) → IsHallSchema mid.now.schema → PersonIsRefused person mid left
+    → KeepsNoWorld mid.now.trees ⊎ (IsUnknown person.name mid.now × IsStatementRefused ADD_PERSON.now (person_params person) mid.now)
+person_told person mid left has (inl it) = inl (go it.2)
+  where
+    go : IsAnyUnread person_in it.0 ⊎ (1 < length it.0) → KeepsNoWorld mid.now.trees
+    go (inl any) = inl (person_unread person.name mid left it.0 has it.1 any)
+    go (inr many) = inr (inl (person_twice person.name mid left it.0 has it.1 many))
+person_told person mid left has (inr it) = inr it
+
+module _ {R : Type 0} (old new : State) (result : Result R StoreFault) (hall : IsHall old) where
+  pub import_fault : {S : Type 0} (g : Ghosts S) (people : List Person) → All IsPerson people → Asks (content_of old) (λ world. CanImport world people)
+      → OnErr result (KeptRows old new) → (HasCleanDisk new → Fails (ImportFails g people old new) result) → Fails (CanFail new) result
+  import_fault g people ranged can stayed cause =
+      change_fault (Import people) old new result (ImportFails g people old new) ranged can stayed cause (λ was. go)
+    where
+      go : ImportFails g people old new → IsTold (Import people) old new
+      go (inl cause) = inl cause
+      go (inr it) = inr (inr (record {
+        at = it.at;
+        person = it.person;
+        next = it.next;
+        mid = (state g it.mid).now;
+        hall = it.hall;
+        before = it.before;
+        refused = person_told it.person (state g it.mid) (state g it.left) it.hall.schema it.refused;
+      }))
+
+  pub puzzle_fault : (row : PuzzleRow) → IsPuzzleRow row → Asks (content_of old) (λ world. CanPutPuzzle world row)
+      → OnErr result (KeptRows old new) → (HasCleanDisk new → Fails (PutPuzzleFails row old new) result) → Fails (CanFail new) result
+  puzzle_fault row ranged can stayed cause =
+      change_fault (PutPuzzle row) old new result (PutPuzzleFails row old new) ranged can stayed cause (λ was why. refused_told (put_told row old new why))
+
+  pub state_fault : (key : PuzzleKey) (known : PuzzleState) → IsState known → Asks (content_of old) (λ world. CanSetState world key)
+      → OnErr result (KeptRows old new) → (HasCleanDisk new → Fails (SetStateFails key known old new) result) → Fails (CanFail new) result
+  state_fault key known ranged can stayed cause =
+      change_fault (SetState key known) old new result (SetStateFails key known old new) ranged can stayed cause go
+    where
+      go : HasCleanDisk old → SetStateFails key known old new → IsTold (SetState key known) old new
+      go was (inl find) =
+          read_told (of_find puzzle_row_in PUZZLE.now (Text key.author ∷ Text key.label ∷ []) (puzzle_unread key.author key.label) old new hall was (puzzle_twice key.author key.label) find)
+      go was (inr it) = put (put_told (record it.0 { state = known }) old new it.2)
+        where
+          put : IsStoreCause old new ⊎ RefusesPuzzle (record it.0 { state = known }) old.now → IsTold (SetState key known) old new
+          put (inl cause) = inl cause
+          put (inr refused) = inr (inr (it.0, it.1, refused))
+
+  pub put_round_fault : (row : RoundRow) → IsRoundRow row → Asks (content_of old) (λ world. CanPutRound world row)
+      → OnErr result (KeptRows old new) → (HasCleanDisk new → Fails (PutRoundFails row old new) result) → Fails (CanFail new) result
+  put_round_fault row ranged can stayed cause =
+      change_fault (PutRound row) old new result (PutRoundFails row old new) ranged can stayed cause (λ was. refused_told)
+
+  pub flag_fault : (id : List ℕ) (flag : RoundFlag) → Asks (content_of old) (λ world. CanSetFlag world id)
+      → OnErr result (KeptRows old new) → (HasCleanDisk new → Fails (SetFlagFails id flag old new) result) → Fails (CanFail new) result
+  flag_fault id flag can stayed cause =
+      change_fault (SetRoundFlag id flag) old new result (SetFlagFails id flag old new) tt can stayed cause go
+    where
+      go : HasCleanDisk old → SetFlagFails id flag old new → IsTold (SetRoundFlag id flag) old new
+      go was (inl find) = read_told (of_find round_in HEAD.now (Text id ∷ []) (head_unread id) old new hall was (head_twice id) find)
+      go was (inr (round, kept, inl cause)) = inl cause
+      go was (inr (round, kept, inr refused)) = inr (inr (round, kept, refused))
+
+  pub answer_fault : (row : AnswerRow) → IsAnswerRow row → Asks (content_of old) (λ world. CanAddAnswer world row)
+      → OnErr result (KeptRows old new) → (HasCleanDisk new → Fails (RunFails ADD_ANSWER.now (answer_params row) old new) result)
+      → Fails (CanFail new) result
+  answer_fault row ranged can stayed cause =
+      change_fault (AddAnswer row) old new result (RunFails ADD_ANSWER.now (answer_params row) old new) ranged can stayed cause (λ was. refused_told)
+
+  pub protest_fault : (row : ProtestRow) → IsProtestRow row → Asks (content_of old) (λ world. CanAddProtest world row)
+      → OnErr result (KeptRows old new) → (HasCleanDisk new → Fails (RunFails ADD_PROTEST.now (protest_params row) old new) result)
+      → Fails (CanFail new) result
+  protest_fault row ranged can stayed cause =
+      change_fault (AddProtest row) old new result (RunFails ADD_PROTEST.now (protest_params row) old new) ranged can stayed cause (λ was. refused_told)
+
+  pub ruling_fault : (key : ProtestKey) (ruling : Ruling) → IsRuling ruling → Asks (content_of old) (λ world. CanRuleProtest world key)
+      → OnErr result (KeptRows old new) → (HasCleanDisk new → Fails (RuleFails key ruling old new) result) → Fails (CanFail new) result
+  ruling_fault key ruling ranged can stayed cause =
+      change_fault (RuleProtest key ruling) old new result (RuleFails key ruling old new) ranged can stayed cause go
+    where
+      go : HasCleanDisk old → RuleFails key ruling old new → IsTold (RuleProtest key ruling) old new
+      go was (inl find) =
+          read_told (of_find protest_in PROTEST.now (Text key.entrant ∷ Text key.round ∷ Text key.token ∷ []) (protest_unread key.entrant key.round key.token) old new hall was (protest_twice key.entrant key.round key.token) find)
+      go was (inr (row, kept, inl cause)) = inl cause
+      go was (inr (row, kept, inr refused)) = inr (inr (row, kept, refused))

@@ -1,0 +1,121 @@
+-- Why a connection may refuse a call, beside want of memory: as its state alone tells.
+use Rattle.std.specs.Prelude.{◌≡◌, ◌⊎◌, ◌<◌, ◌+◌, ℕ, false, List, [], ◌∷◌, All, Contains, drop, take, length, Some}
+use Rattle.std.specs.List.{filter, list_all}
+use Rattle.std.specs.FinMap.{get}
+use Rattle.sqlite.specs.Effect.{Database}
+use Rattle.sqlite.specs.Order.{Row}
+use Rattle.sqlite.specs.State.{State, HasCleanDisk}
+use Rattle.sqlite.specs.Term.{Term, holds}
+use Rattle.sqlite.specs.Tree.{Trees}
+use Rattle.hall_policy.specs.Ranges.{IsPerson, IsPuzzleRow, IsState, IsRoundRow, IsAnswerRow, IsProtestRow, IsRuling}
+use Rattle.hall_policy.specs.declared.record.Person.{Person}
+use Rattle.hall_policy.specs.declared.record.ProtestRow.{ProtestRow}
+use Rattle.hall_policy.specs.declared.record.PuzzleRow.{PuzzleRow}
+use Rattle.hall_policy.specs.declared.record.Round.{Round}
+use Rattle.hall_store.specs.Change.{CanMake, flagged}
+use Rattle.hall_store.specs.declared.change.Change.{Change}
+use Rattle.hall_store.specs.declared.change.Change.TheVariants.{Nothing, Import, PutPuzzle, SetState}
+use Rattle.hall_store.specs.declared.change.Change.TheVariants.{PutRound, SetRoundFlag, AddAnswer}
+use Rattle.hall_store.specs.declared.change.Change.TheVariants.{AddProtest, RuleProtest}
+use Rattle.hall_sql.specs.AllRead.{AreAllRead}
+use Rattle.hall_sql.specs.Cause.{HasNoRound}
+use Rattle.hall_sql.specs.Columns.{answer_params, person_params, protest_params, ruling_params, stands_under}
+use Rattle.hall_sql.specs.Inside.{IsHallData}
+use Rattle.hall_sql.specs.RoundColumns.{head_params}
+use Rattle.hall_sql.specs.Rows.{world_of}
+use Rattle.hall_sql.specs.Statements.{equals}
+use Rattle.hall_sql.specs.Tables.{hall_schema}
+use Rattle.hall_sql.specs.WriteCause.{IsStatementRefused, PuzzleIsRefused, IsHeadRefused, RestIsRefused, IsUnknown}
+use Rattle.hall_sql.specs.WriteCause.{ImportsEach}
+use Rattle.hall_sql.specs.declared.answers.TheConstants.{ADD_ANSWER}
+use Rattle.hall_sql.specs.declared.people.TheConstants.{ADD_PERSON}
+use Rattle.hall_sql.specs.declared.protests.TheConstants.{ADD_PROTEST, RULE_PROTEST}
+use Rattle.hall_sql.specs.declared.round_writes.TheConstants.{REPLACE_HEAD}
+
+-- ---- what is kept
+
+-- By what a row is looked up, and in which table's tree: a person by name and by key, a puzzle by author and label, a
+-- round by id, an answer by entrant, round, number and token, a protest by entrant, round and token.
+abbrev pub lookups : List (ℕ × List Term)
+lookups =
+    (0, equals 1 0 ∷ [])
+    ∷ (0, equals 2 0 ∷ [])
+    ∷ (3, equals 1 0 ∷ equals 2 1 ∷ [])
+    ∷ (5, equals 1 0 ∷ [])
+    ∷ (9, equals 1 0 ∷ equals 2 1 ∷ equals 3 2 ∷ equals 4 3 ∷ [])
+    ∷ (12, equals 1 0 ∷ equals 2 1 ∷ equals 3 2 ∷ []) ∷ []
+
+-- two rows of a table stand under one key, as SQL compares
+abbrev pub KeepsTwice : Trees → Type 0
+KeepsTwice trees =
+    (lookup : ℕ × List Term) × Contains lookups lookup × (key : Row)
+    × (1 < length (filter (λ row. list_all (holds (key ∷ row ∷ [])) lookup.1) (trees lookup.0)))
+
+-- What the tables keep is no world: a row is no record, or two rows stand under one key, or what is kept under a
+-- round's id is no round with its lists.
+abbrev pub KeepsNoWorld : Trees → Type 0
+KeepsNoWorld trees =
+    (¬ (AreAllRead hall_schema trees)) ⊎ (KeepsTwice trees ⊎ ((id : List ℕ) × HasNoRound (world_of trees) id))
+
+-- ---- what is refused
+
+-- what the change writes lies in the ranges of its types
+abbrev pub IsChangeInRange : Change → Type 0
+IsChangeInRange Nothing = Unit {0}
+IsChangeInRange (Import people) = All IsPerson people
+IsChangeInRange (PutPuzzle row) = IsPuzzleRow row
+IsChangeInRange (SetState key known) = IsState known
+IsChangeInRange (PutRound row) = IsRoundRow row
+IsChangeInRange (SetRoundFlag id flag) = Unit {0}
+IsChangeInRange (AddAnswer row) = IsAnswerRow row
+IsChangeInRange (AddProtest row) = IsProtestRow row
+IsChangeInRange (RuleProtest key ruling) = IsRuling ruling
+
+-- Those before one person of the list are imported, and what the tables then keep is no world, or that one's name is
+-- unknown, and the statement that adds the person is refused.
+pub record RefusesPerson (people : List Person) (old : Database) : Type 0 where
+  pub at : ℕ
+  pub person : Person
+  pub next : drop at people ≡ person ∷ drop (at + 1) people
+  pub mid : Database
+  pub hall : IsHallData mid
+  pub before : ImportsEach (take at people) old mid
+  pub refused : KeepsNoWorld mid.trees
+      ⊎ (IsUnknown person.name mid × IsStatementRefused ADD_PERSON.now (person_params person) mid)
+
+-- the statement that puts the puzzle under its key is refused
+abbrev pub RefusesPuzzle : PuzzleRow → Database → Type 0
+RefusesPuzzle row db = PuzzleIsRefused row (length (filter (stands_under row.key) (db.trees 3))) db
+
+-- a statement of the change is refused: by a rule of the tables, for want of a rowid, or as too large a row
+abbrev pub RefusesChange : Change → Database → Type 0
+RefusesChange Nothing db = ⊥
+RefusesChange (Import people) db = RefusesPerson people db
+RefusesChange (PutPuzzle row) db = RefusesPuzzle row db
+RefusesChange (SetState key known) db =
+    (row : PuzzleRow) × (get (world_of db.trees).puzzles key ≡ Some row)
+    × RefusesPuzzle (record row { state = known }) db
+RefusesChange (PutRound row) db = IsHeadRefused row.round db ⊎ RestIsRefused row db
+RefusesChange (SetRoundFlag id flag) db =
+    (round : Round) × (get (world_of db.trees).rounds id ≡ Some round)
+    × IsStatementRefused REPLACE_HEAD.now (head_params (flagged flag round)) db
+RefusesChange (AddAnswer row) db = IsStatementRefused ADD_ANSWER.now (answer_params row) db
+RefusesChange (AddProtest row) db = IsStatementRefused ADD_PROTEST.now (protest_params row) db
+RefusesChange (RuleProtest key ruling) db =
+    (row : ProtestRow) × (get (world_of db.trees).protests key ≡ Some row)
+    × IsStatementRefused RULE_PROTEST.now (ruling_params key (Some ruling)) db
+
+-- a change that the world allows is refused
+pub record RefusesAllowed (db : Database) : Type 0 where
+  pub change : Change
+  pub ranged : IsChangeInRange change
+  pub allowed : CanMake change (world_of db.trees)
+  pub refused : RefusesChange change db
+
+-- ---- all of it
+
+-- A call may be refused for another cause than want of memory, where the disk is clean: a fault of the device has been
+-- counted, or the connection is shut, or what the tables keep is no world, or they refuse a change that it allows.
+abbrev pub CanFail : State → Type 0
+CanFail s =
+    HasCleanDisk s → (0 < s.faults) ⊎ ((s.is_open ≡ false) ⊎ (KeepsNoWorld s.now.trees ⊎ RefusesAllowed s.now))
