@@ -4,11 +4,15 @@ up, checked, promised, tested and broken.
 
     python3 tools/pages/map.py NAME ..
 
-A NAME is the number of a rule or its name (16, OpenProtest), another code (U3, F2, E5, 503), an action
-(Submit), a function, also with its type or its crate (step, Desk::step, hall_desk::Desk::step), a definition
-(IsInvolved), a wrong body (tester_may_submit), or a column of a table (answers.verdict). Each place is a path and a
-line. What is broken is an edit that the prover must refuse; those with a star are tried by
-`python3 tools/build/wrong_bodies.py --further` alone.
+A NAME is the number of a rule or its name (16, OpenProtest), another code (U3, F2, E5, 503), a code as it is told
+({"denied":16}, {"form":"F2"}), an action (Submit), a function, also with its type or its crate (step, Desk::step,
+hall_desk::Desk::step), a definition (IsInvolved), a wrong body (tester_may_submit), or a column of a table
+(answers.verdict). Each place is a path and a line. What is broken is an edit that the prover must refuse; those with a
+star are tried by `python3 tools/build/wrong_bodies.py --further` alone.
+
+A column is sought by its name. `named` are the files that name it with all others of its table, as they would one more;
+`statements` those of SQL that insert into the table, or that name both; `told` the pages, clients and examples where a
+member of JSON is named so. So a few of them mean another thing of that name.
 """
 import re
 import signal
@@ -30,10 +34,16 @@ JUDGES = {
     "Nurikabe": ("hall_nurikabe", "broken"),
 }
 REQUESTS, REPLIES = "crates/hall_http/src/request.rt", "crates/hall_http/src/reply.rt"
+TESTS = ("tools/tests/**/*.py",)
+CLIENTS = ("clients/**/*.py", "clients/**/*.js")
 # Where a column may be named. Of so many columns of a table a file that spells its rows may lack one; where a table
 # has fewer, the file has all of them and its name.
-NAMING = ("crates/*/src/*.rt", "crates/*/specs/**/*.antt", "tools/tests/**/*.py", "bench/*.py", "docs/RUNNING.md")
+NAMING = ("crates/*/src/*.rt", "crates/*/specs/**/*.antt", *TESTS, "bench/*.py", "examples/databases/*.toml",
+          "docs/RUNNING.md")
 MANY = 6
+# Where it may be told.
+TELLING = ("docs/HTTP.md", "docs/openapi.json", "tools/pages/description.py", *CLIENTS, "examples/*/*.rows",
+           "examples/*/*.out")
 
 
 def line_of(path, text):
@@ -66,13 +76,29 @@ def defined(name, crate=None, module=None):
             yield f"{path}:{line} {own}: {sentence(told)}"
 
 
+def place(path, lines):
+    """The path with the first of these lines, and how many more there are."""
+    return f"{path}:{', '.join(map(str, lines[:MOST]))}" + (f" and {len(lines) - MOST} more" if lines[MOST:] else "")
+
+
+def lines_with(pattern, text):
+    return [number for number, line in enumerate(text.split("\n"), 1) if re.search(pattern, line)]
+
+
+def in_files(patterns, pattern):
+    """The lines of these files that have it, file by file."""
+    for path in (it for of in patterns for it in paths(of)):
+        if found := lines_with(pattern, read(path)):
+            yield place(path, found)
+
+
 def shown_by(pattern):
-    """The lines of examples/ that have it, file by file."""
+    """The lines of examples/ and of the tests that have it, file by file."""
     found = {}
     for path, number in codes.examples_of(pattern):
-        found.setdefault(path, []).append(str(number))
-    for path, lines in found.items():
-        yield f"{path}:{', '.join(lines[:MOST])}" + (f" and {len(lines) - MOST} more" if lines[MOST:] else "")
+        found.setdefault(path, []).append(number)
+    yield from (place(path, lines) for path, lines in found.items())
+    yield from in_files(TESTS, pattern)
 
 
 def probed(number):
@@ -112,6 +138,7 @@ def rule(name, number):
     decide = next(it for it in shown("hall_policy") if it.full_name() == "decide")
     yield row("promised", f"{decide.file}:{decide.line} decide")
     yield from rows("tested", [*shown_by(codes.of_denial(number)), *probed(number)])
+    yield from rows("told", in_files(CLIENTS, rf"denied\W+{number}\b"))
     yield from rows("broken", map(edit, places.broken(name, tree)))
 
 
@@ -188,21 +215,41 @@ def columns():
         yield table, re.findall(r"\b([a-z]\w*) (?:TEXT|INTEGER)\b", text)
 
 
+def naming(table, own, of_table):
+    """The files that name a column with all others of its table, one of them perhaps with a line before it."""
+    for path in (it for pattern in NAMING for it in paths(pattern)):
+        text = read(path)
+        words = {it: lines_with(rf"\b_?{it}\b", text) for it in of_table}
+        is_named = len(of_table) >= MANY or re.search(rf"\b{table}\b", text)
+        if words[own] and is_named and sum(not it for it in words.values()) <= len(of_table) // MANY:
+            yield place(path, words[own])
+
+
+def stating(table, own):
+    """The statements of SQL that insert into the table, also by a name that is put in, or that name both."""
+    asking = rf"\bINTO {table}\b|\b(FROM|UPDATE) {table}\b.*\b{own}\b|\b{own}\b.*\bFROM {table}\b"
+    for path in (it for pattern in NAMING for it in paths(pattern)):
+        text = read(path)
+        if found := lines_with(rf"{asking}|\bINTO \{{" if f'"{table}"' in text else asking, text):
+            yield place(path, found)
+
+
 def column(name):
-    """A column: the files that name it with all others of its table, as one more would be named there too."""
+    """A column: what would name one more of its table, what writes its rows, and what is told of it."""
     table, _, own = name.partition(".")
     of_table = dict(columns()).get(table, ())
     if own in of_table:
         yield f"column {own} of {table}"
         yield row("made", f"{TABLES}:{line_of(TABLES, f'CREATE TABLE {table} ')}")
-        found = []
-        for path in (it for pattern in NAMING for it in paths(pattern)):
-            words = {it: [at for at, line in enumerate(read(path).split("\n"), 1) if re.search(rf"\b{it}\b", line)]
-                     for it in of_table}
-            is_named = len(of_table) >= MANY or re.search(rf"\b{table}\b", read(path))
-            if words[own] and is_named and sum(not it for it in words.values()) <= len(of_table) // MANY:
-                found.append(f"{path}:{', '.join(map(str, words[own][:MOST]))}" + (" .." if words[own][MOST:] else ""))
-        yield from rows("named", found)
+        yield from rows("named", naming(table, own, of_table))
+        yield from rows("statements", stating(table, own))
+        yield from rows("told", in_files(TELLING, rf"\"{own}\"|\w\.{own}\b"))
+
+
+def meant(name):
+    """The name of a code that is written as it is told: `{"denied":16}`, `denied 16`, `refused F2 key`."""
+    found = re.fullmatch(r'\{?"?(?:denied|form|refused)"?[: ] ?"?([A-Z]?\d+)\b.*', name)
+    return found[1] if found else name
 
 
 def places_of(name):
@@ -234,7 +281,7 @@ def main():
         return 2
     unknown = False
     for name in sys.argv[1:]:
-        told = list(places_of(name))
+        told = list(places_of(meant(name)))
         print("\n".join(told or [f"{name} is no rule, code, action, function, definition, wrong body or column"]))
         unknown = unknown or not told
     return 1 if unknown else 0

@@ -20,7 +20,7 @@ ROWS = {
     "rules": {"said", "asked of", "looked up", "checked", "promised", "tested", "broken"},
     "codes": {"said", "tested"},
     "actions": {"said", "rules", "looked up", "checked", "read", "written"},
-    "columns": {"made", "named"},
+    "columns": {"made", "named", "statements"},
 }
 
 
@@ -44,6 +44,22 @@ def test_places(sort):
         rows = {found[1] for it in lines if (found := re.match(r"  ([a-z]+(?: [a-z]+)?) ", it))}
         assert ROWS[sort] <= rows, (name, rows)
         assert not list(wrong_places(lines)), name
+
+
+def test_files_of_a_column():
+    """Also those that read a column and keep nothing, that write rows without its name, and that show it."""
+    told = "\n".join(named.places_of("answers.moment"))
+    for path in ("crates/hall_sql/src/counts.rt", "crates/hall_sql/src/bad_rows.rt", "crates/store_tests/src/rows.rt",
+                 "tools/tests/harness/filled.py", "tools/tests/test_crowd.py", "bench/crowd.py", "bench/waits.py",
+                 "examples/databases/breaches.toml", "docs/HTTP.md", "docs/openapi.json"):
+        assert f" {path}:" in told, path
+
+
+def test_codes_as_they_are_told():
+    for told, name in (('{"denied":16}', "16"), ("denied 16", "16"), ('{"form":"F2","field":"key"}', "F2"),
+                       ("refused F2 key", "F2"), ("refused E7 at place 0", "E7"), ("16", "16")):
+        assert named.meant(told) == name
+    assert named.meant("round_denied_at_start") == "round_denied_at_start"
 
 
 def test_unknown_name():
