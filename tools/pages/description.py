@@ -43,8 +43,11 @@ def limited():
     for found, told in commented(TEXTS, r"pub type (\w+) = Checked<TextOf<\w+, (\w+), (\d+), (\d+)>>;"):
         name, kind, least, most = found.groups()
         yield name, {"type": "string", "pattern": f"^{BYTES[kind]}{{{least},{most}}}$", "description": told}
-    for found, told in commented(NUMBERS, r"pub type (\w+) = Within<(\d+), ([\d_]+)>;"):
-        yield found[1], {"type": "integer", "minimum": int(found[2]), "maximum": int(found[3]), "description": told}
+    constants = dict(re.findall(r"^(?:pub )?const (\w+): u64 = ([\d_]+);", read(NUMBERS), re.M))
+    for found, told in commented(NUMBERS, r"pub type (\w+) = Within<(\w+), (\w+)>;"):
+        name, *ends = found.groups()
+        least, most = (int(constants.get(end, end)) for end in ends)
+        yield name, {"type": "integer", "minimum": least, "maximum": most, "description": told}
     for found, told in commented(NUMBERS, r"pub struct (RulingPoints)\b"):
         least, most = (int(it.replace(",", "")) for it in re.findall(r"-?[\d,]*\d", told))
         yield found[1], {"type": "integer", "minimum": least, "maximum": most, "description": told}

@@ -273,7 +273,7 @@ fn columns(row: &AnswerRow) -> [ValueRef<'_>; 8]
         (row.n.get() as u32).to_sql(),
         (row.moment.get() as u32).to_sql(),
         row.answer.as_str().to_sql(),
-        row.verdict.bits().to_sql(),
+        u32::from(row.verdict.bits()).to_sql(),
     ]
 }
 

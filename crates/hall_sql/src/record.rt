@@ -219,8 +219,7 @@ pub(crate) fn verdict_at(row: &Row, at: usize) -> Result<Broken, StoreFault>
     ensures verdict { IfOk result (λ verdict. verdict_in (column row.now at) ≡ Some verdict) }
     ensures unread { Fails (verdict_in (column row.now at) ≡ None) result }
 {
-    let bits = number_at::<0, MOST_VERDICT>(row, at)?;
-    Ok(Broken::from_bits(bits.get() as u16))
+    Ok(Broken::from_bits(number_at::<0, MOST_VERDICT>(row, at)?.get() as u16))
 }
 
 impl Record for AnswerRow {
