@@ -68,7 +68,7 @@ some_unread : {X : Type 0} (read : Row → Option X) (rows : List Row) → IsAny
 some_unread read rows it each =
     let at = it.1 in
     let reads : IsTrue (is_some (read it.0)) =
-        all-slice_get (λ r. IsTrue (is_some (read r))) rows at.0 it.0 (slice_get-get_or rows at.0 it.0 at.1 ∙ ap Some at.2) each in
+    all-slice_get (λ r. IsTrue (is_some (read r))) rows at.0 it.0 (slice_get-get_or rows at.0 it.0 at.1 ∙ ap Some at.2) each in
     absurd (let no : false ≡ true = sym (ap is_some it.2) ∙ reads in cc)
 
 module _ {X : Type 0} (read : Row → Option X) (count tree : ℕ) (sql : List ℕ) (params : Row)
@@ -108,7 +108,7 @@ module _ {X : Type 0} (read : Row → Option X) (count tree : ℕ) (sql : List �
       let (u, words) = worded old.now.schema has in
       let begun = begins_as sql params old old (hall_in u) words _ (is u) (plain u) (unlisted u) rows begins in
       let sel = subst (λ t. IsSelection (plain_query tree terms project order) t params (rows ++ begun.1.0)) (apart old.now.trees)
-          (selected tree terms project order (overlay old.now.trees []) params (rows ++ begun.1.0) (begun.1.1 Null)) in
+      (selected tree terms project order (overlay old.now.trees []) params (rows ++ begun.1.0) (begun.1.1 Null)) in
       some_unread read rows any (all-front rows begun.1.0 (all_selected old.now.trees (rows ++ begun.1.0) sel all))
     where
       all-front : (front rest : List Row) → AllByRecursion Reads (front ++ rest) → AllByRecursion Reads front
