@@ -18,7 +18,7 @@ use Rattle.sqlite.specs.Command.TheVariants.{Insert}
 use Rattle.sqlite.specs.State.{State, HasCleanDisk, Executes, Writes}
 use Rattle.sqlite.specs.Listing.{understood}
 use Rattle.sqlite.proofs.Callers.{runs_as, statement_of}
-use Rattle.hall_grid.specs.declared.rule.TheConstants.{NAMES}
+use Rattle.hall_grid.specs.declared.rule.TheConstants.Broken.{ALL_BITS}
 use Rattle.hall_grid.specs.Rule.{IsNameSet}
 use Rattle.hall_policy.specs.Limits.{last_second, most_answers, most_number}
 use Rattle.hall_grid.specs.Printable.{is_printable}
@@ -53,8 +53,8 @@ use Rattle.hall_sql.proofs.WriteLemmas.{writes_hall, same_worlds, cast_null, cas
 pub is_within : (least most n : ℕ) → IsWithin least most n → nat_le least n && nat_le n most ≡ true
 is_within least most n h = and_from _ _ (le-leb _ _ h.0) (le-leb _ _ h.1)
 
-verdict_within : (verdict : ℕ) → IsNameSet verdict → nat_le 0 verdict && nat_le verdict (2 ^ NAMES - 1) ≡ true
-verdict_within verdict set = is_within 0 (2 ^ NAMES - 1) verdict (omega arith, omega (arith, set))
+verdict_within : (verdict : ℕ) → IsNameSet verdict → nat_le 0 verdict && nat_le verdict ALL_BITS ≡ true
+verdict_within verdict set = is_within 0 ALL_BITS verdict (omega arith, omega (arith, set))
 
 -- they are read as the answer, whatever its rowid is
 answer_reads : (row : AnswerRow) → IsAnswerRow row → (id : Value) → answer_of_row (id ∷ answer_params row) ≡ Some row

@@ -1,12 +1,12 @@
 -- What a column's value stands for. A value that is no such thing stands for nothing.
-use Rattle.std.specs.Prelude.{nat_le, IsTrue, ◌<◌, ◌&&◌, ◌==◌, ◌⊎◌, ◌/◌, ◌%◌, ◌^◌, ◌-◌, ℕ, ℤ, pos, negsuc, length}
+use Rattle.std.specs.Prelude.{nat_le, IsTrue, ◌<◌, ◌&&◌, ◌==◌, ◌⊎◌, ◌/◌, ◌%◌, ℕ, ℤ, pos, negsuc, length}
 use Rattle.std.specs.Prelude.{Bool, true, false, List}
 use Rattle.std.specs.Prelude.{if◌then◌else◌, Option, Some, None}
 use Rattle.std.proofs.Common.{inl, inr}
 use Rattle.std.specs.Ordering.{int_eq}
 use Rattle.sqlite.specs.declared.types.Value.{Value}
 use Rattle.sqlite.specs.declared.types.Value.TheVariants.{Null, Int, Real, Text, Blob}
-use Rattle.hall_grid.specs.declared.rule.TheConstants.{NAMES}
+use Rattle.hall_grid.specs.declared.rule.TheConstants.Broken.{ALL_BITS}
 use Rattle.hall_grid.specs.Board.{Board}
 use Rattle.hall_grid.specs.FormReading.{◌>>=◌}
 use Rattle.hall_grid.proofs.SpellsOrHasFault.{spells_or_fault}
@@ -58,7 +58,7 @@ within least most value = number_in value >>= passing (λ n. nat_le least n && n
 
 -- the verdict of an answer: the bits of a set of names of rules
 abbrev pub verdict_in : Value → Option ℕ
-verdict_in = within 0 (2 ^ NAMES - 1)
+verdict_in = within 0 ALL_BITS
 
 -- all bytes that are allowed are ASCII
 abbrev pub AreAscii : (ℕ → Bool) → Type 0
