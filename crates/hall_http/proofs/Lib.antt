@@ -19,6 +19,7 @@ pub mod Runs
 pub mod Once
 pub mod Asked
 pub mod Told
+pub mod Lives
 pub mod Endings
 pub mod Histories
 pub mod Handling

@@ -40,10 +40,10 @@ pub one_spelling : HasOneSpelling
 one_spelling a b x y same p q = one_text b x y (subst (λ (given : Reply). BytesOf given x) same p) q
 
 -- ---- which request the bytes are
-same_request : (x : Exchange) (a b : Request) → RequestOf x.request (Ok a) → RequestOf x.request (Ok b) → a ≡ b
+pub same_request : (x : Exchange) (a b : Request) → RequestOf x.request (Ok a) → RequestOf x.request (Ok b) → a ≡ b
 same_request x a b p q = let both : Ok a ≡ Ok b = one_asked x.request (Ok a) (Ok b) p q in cc
 
-no_request : (x : Exchange) (found : FormFault) (a : Request) → RequestOf x.request (Err found) → RequestOf x.request (Ok a) → ⊥
+pub no_request : (x : Exchange) (found : FormFault) (a : Request) → RequestOf x.request (Err found) → RequestOf x.request (Ok a) → ⊥
 no_request x found a p q = let none : Err found ≡ Ok a = one_asked x.request (Err found) (Ok a) p q in absurd (cc)
 
 -- bytes that aren't made into a request, and are served, are none
@@ -69,7 +69,7 @@ served_later x xs served = All-tail (λ y. ¬ (BytesOf reply.Unavailable y.reply
 
 -- ---- bytes that are no request
 -- they have one refusal
-one_refusal : (bytes text word : List ℕ) → IsRefused bytes text → IsRefused bytes word → text ≡ word
+pub one_refusal : (bytes text word : List ℕ) → IsRefused bytes text → IsRefused bytes word → text ≡ word
 one_refusal bytes text word one other =
     let both : Err one.found ≡ Err other.found = one_asked bytes (Err one.found) (Err other.found) one.reads other.reads in
     let same : one.found ≡ other.found = cc in

@@ -35,3 +35,4 @@ pub mod Seats
 pub mod EventLoop
 pub mod Host
 pub mod Wire
+pub mod Lives

@@ -1,6 +1,7 @@
 //! Laws of the definitions, each the contract of a function that does nothing.
 ghost use Rattle.hall_http.specs.Laws.{AreOneRequest, BeginsWithOneRequest, AskForOneThing};
 ghost use Rattle.hall_http.specs.Laws.{AreOneListOfRequests, AreOneListOfRecords, FirstPartsLast, RunsCompose};
+ghost use Rattle.hall_http.specs.Lives.{RunsOverAreLives, BytesOfLivesHideOthers, BytesOfLivesHideAnswers};
 ghost use Rattle.hall_http.specs.Serving.{AreAnswered, AreAnsweredWhileOpen};
 ghost use Rattle.hall_http.specs.Told.{HasOneSpelling, RefusalsTellNothing, BytesHideOthers, BytesHideAnswers};
 ghost use Rattle.hall_http.specs.Wire.{WireHidesOthers, WireHidesAnswers, WireHidesOthersOn, WireHidesAnswersOn};
@@ -43,6 +44,19 @@ pub fn law_bytes()
     ensures refusals { RefusalsTellNothing }
     ensures others { BytesHideOthers }
     ensures answers { BytesHideAnswers }
+{}
+
+/// What the bytes hide in a run they hide over a life of the hall: lists of people that come by no request may stand
+/// between the requests, and a request may get 503 in both lives. An entrant alone is told under a key, without one or
+/// under one that nobody holds, and so is what is no request. The bytes of all these replies together, in their order,
+/// are the same where the requests of others who are entrants alone don't come, if no round is published to which they
+/// hand in; and until a sealed round's end, where two answers to the round are exchanged, they are those of the same
+/// replies with the two exchanged where answers to the round are listed. Each request to certify that is served in both
+/// is answered alike. Each run over bytes is such a life.
+pub fn law_lives()
+    ensures runs { RunsOverAreLives }
+    ensures others { BytesOfLivesHideOthers }
+    ensures answers { BytesOfLivesHideAnswers }
 {}
 
 /// What holds of the bytes of replies in a run holds, among many connections, of those on some of them: a set of

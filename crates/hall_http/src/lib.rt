@@ -43,7 +43,7 @@ pub use device::write_all;
 pub use event_loop::EventLoop;
 pub use fault::{DeviceFault, ReplayFault};
 pub use host::{Host, SystemHost};
-pub use law::{law_bytes, law_requests, law_runs, law_stops, law_wire};
+pub use law::{law_bytes, law_lives, law_requests, law_runs, law_stops, law_wire};
 pub use notice::notify;
 pub use outgoing::Outgoing;
 pub use peer::{Closed, Moved, Peer};

@@ -15,16 +15,16 @@ pub converted : {E : Type 0} (P : Type 0) (r : Result ℤ E) (z v : ℤ) → OkI
 converted P (Ok x) z v h e = let same : v ≡ x = cc in same ∙ h.1
 converted P (Err x) z v h e = cc
 
-abbrev in_year : ℕ → Bool
+abbrev pub in_year : ℕ → Bool
 in_year year = nat_le year 9999
 
-abbrev in_months : ℕ → Bool
+abbrev pub in_months : ℕ → Bool
 in_months month = nat_le 1 month && nat_le month 12
 
-abbrev in_days : ℕ → ℕ → Bool
+abbrev pub in_days : ℕ → ℕ → Bool
 in_days most day = nat_le 1 day && nat_le day most
 
-abbrev test : ℕ → ℕ → ℕ → Bool
+abbrev pub test : ℕ → ℕ → ℕ → Bool
 test year month day = in_year year && in_months month && in_days (days_in_month (pos year) month) day
 
 passes : (year month day : ℕ) → IsDate (pos year) (pos month) (pos day) → test year month day ≡ true
@@ -36,7 +36,7 @@ passes year month day ((_, late), (first, last), (least, most)) =
     (and_from (nat_le 1 day) (nat_le day (days_in_month (pos year) month)) (le-leb 1 day (omega (arith, ints, least)))
     (le-leb day (days_in_month (pos year) month) (omega (arith, ints, most))))
 
-passed : (year month day : ℕ) → test year month day ≡ true → IsDate (pos year) (pos month) (pos day)
+pub passed : (year month day : ℕ) → test year month day ≡ true → IsDate (pos year) (pos month) (pos day)
 passed year month day e =
     let (before, days) = and_parts (in_year year && in_months month) (in_days (days_in_month (pos year) month) day) e in
     let (years, months) = and_parts (in_year year) (in_months month) before in

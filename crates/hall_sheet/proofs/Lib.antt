@@ -14,3 +14,8 @@ pub mod Documents
 pub mod Entries
 pub mod Testers
 pub mod Listing
+pub mod Changes
+pub mod Picked
+pub mod Clocks
+pub mod Grammar
+pub mod Seasons

@@ -9,3 +9,5 @@ pub mod Start
 pub mod Zone
 pub mod Version
 pub mod Sheet
+pub mod Clocks
+pub mod Laws

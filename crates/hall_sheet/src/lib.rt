@@ -3,6 +3,7 @@
 
 mod entry;
 mod fault;
+mod law;
 mod list;
 mod sheet;
 mod start;
@@ -12,5 +13,6 @@ mod words;
 mod zone;
 
 pub use fault::{Field, Refusal, SheetFault};
+pub use law::law_zone;
 pub use list::read_people;
 pub use sheet::read_round;
