@@ -9,7 +9,7 @@ use Rattle.hall_http.specs.Turns.{Service, IsClient, IsClientKept, IsOverRightly
 use Rattle.hall_http.specs.Connection.{Exchange, AreMoments}
 use Rattle.hall_http.specs.Resting.{HasRested, RestingSession}
 use Rattle.hall_http.specs.History.{nothing, then_heard, then_ended, then_answered, then_sent, HasHistory}
-use Rattle.hall_http.specs.Steps.{pending, fresh, IsAfterHearing, IsAfterEnd, IsAfterSending, Looks}
+use Rattle.hall_http.specs.Steps.{pending, fresh, IsAfterHearing, IsAfterEnd, IsAfterSending, Looks, StandsRightly, WaitsRightly}
 use Rattle.hall_http.specs.declared.client.Client.{Client}
 use Rattle.hall_http.specs.declared.client.Step.{Step}
 use Rattle.hall_http.specs.declared.client.Step.TheVariants as step
@@ -35,6 +35,16 @@ over_some over count some =
 -- one that gave none does
 pub over_none : (over : Bool) (count : ℕ) → count ≡ 0 → over_after over (moved.Some count) ≡ true
 over_none over count none = ap (λ n. over_after over (moved.Some n)) none
+
+-- who waits for what it is at stands rightly
+pub stands_so : {H : Type 0} (may_wait : H → List ℕ → Type 0) (k : Connection) (h : H) (s : Step) → WaitsRightly s k
+    → StandsRightly may_wait k h s
+stands_so may_wait k h step.Again so = so
+stands_so may_wait k h step.Leaves so = so
+stands_so may_wait k h (step.Waits what requests) so = so
+stands_so may_wait k h (step.Searches requests) so = absurd so
+stands_so may_wait k h step.Over so = so
+stands_so may_wait k h step.Shut so = so
 
 module _ {P : Type 0} (traffic : P → Traffic) where
   abbrev client : Connection → P → Bool → Bool → Client P

@@ -108,7 +108,7 @@ module _ {D H : Type 0} (kept : D → H) (content : H → Content) where
   went_on m [] n same some = absurd (some refl)
   went_on m (x ∷ xs) n (p, (q, (left, rests), says), more) some = sym (still_on reads m left q rests) ∙ says.0
 
-  -- where the responder doesn't go on, the last reply is 503
+  -- where the responder doesn't go on, the last request was put to the store, and its reply is 503
   pub ended_unavailable : (h : D × Bool) (xs : List Exchange) (i : D × Bool)
       → RestingSession answers (still reads) h xs i → h.1 ≡ true → i.1 ≡ false → EndUnavailable xs
   ended_unavailable h [] i (n, same, (left, rests)) opened shut =
@@ -116,7 +116,7 @@ module _ {D H : Type 0} (kept : D → H) (content : H → Content) where
       let clash = sym stays ∙ shut in
       absurd cc
   ended_unavailable h (x ∷ []) i (n, (m, (read, rested, says), same), (left, rests)) opened shut =
-      ([], x, refl, (says.3 (sym (still_on reads n left i rests ∙ ap (λ (z : D × Bool). z.1) same) ∙ shut)).0)
+      ([], x, refl, says.3 (sym (still_on reads n left i rests ∙ ap (λ (z : D × Bool). z.1) same) ∙ shut))
   ended_unavailable h (x ∷ y ∷ xs) i (n, (m, first, more), after) opened shut =
       let (front, last, is, unavailable) =
       ended_unavailable m (y ∷ xs) i (n, more, after) (went_on m (y ∷ xs) n more (λ e. absurd cc)) shut in

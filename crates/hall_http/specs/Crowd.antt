@@ -3,6 +3,7 @@ use Rattle.std.specs.Prelude.{◌≡◌, ◌≢◌, ◌<◌, ◌≤◌, ◌+◌,
 use Rattle.std.proofs.Common.{get_or}
 use Rattle.hall_http.specs.Answered.{IsUnavailable}
 use Rattle.hall_http.specs.Peer.{Traffic, IsOver, IsUntouched}
+use Rattle.hall_http.specs.Request.{ReachesStore}
 use Rattle.hall_http.specs.Turns.{Turn, Service, exchanges_of, of, IsConnectionTold, IsClient}
 use Rattle.hall_http.specs.Coming.{Nexts, Said, AreDone, since}
 use Rattle.hall_http.specs.declared.server.Next.TheVariants as next
@@ -259,15 +260,17 @@ pub record AreConnectionsTold {P : Type 0} (traffic : P → Traffic) (turns : Li
   pub apart : AreApart traffic gone
   pub told : All (IsPast traffic turns) gone
 
--- the reply to the last of these requests is 503
+-- the last of these requests was put to a store, and the reply to it is 503
 abbrev pub EndUnavailable : List Exchange → Type 0
-EndUnavailable xs = (front : List Exchange) × (last : Exchange) × (xs ≡ front ++ last ∷ []) × IsUnavailable last.reply
+EndUnavailable xs =
+    (front : List Exchange) × (last : Exchange) × (xs ≡ front ++ last ∷ []) × IsUnavailable last.reply
+    × ReachesStore last.moment last.request
 
 -- The requests of all connections were answered over a store, one after another, at the clock's moments, each over
 -- the store that the one before it left and that was only read since, by the replies of a run of the hall, and none
 -- after one that a store answered by 503 which serves no more. And of each connection that came, the first bytes
 -- spell its requests among these, and what it was sent is a first part of the replies to them. Where a store that was
--- shut ended it, the last reply is 503.
+-- shut ended it, the last request was put to the store, and its reply is 503.
 pub record AreServed {H C P : Type 0} (content : H → Content) (now_gives : C → Option ℕ → C → Type 0)
     (traffic : P → Traffic) (why : ServeAllEnd) (before after : H × C) (gone : List (Past P)) : Type 0 where
   pub turns : List Turn

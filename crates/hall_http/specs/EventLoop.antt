@@ -1,8 +1,8 @@
 -- What the event loop was asked for, and what it said.
-use Rattle.std.specs.Prelude.{◌≡◌, ◌≢◌, ◌+◌, ℕ, Option, Some, None, [], ◌∷◌, length}
+use Rattle.std.specs.Prelude.{◌≡◌, ◌≢◌, ◌+◌, ℕ, Option, Some, None, [], ◌∷◌, ◌++◌, length}
 use Rattle.std.specs.declared.net.socket_addr.SocketAddr.{SocketAddr}
 use Rattle.hall_http.specs.Coming.{IsFreshPeer, Said, logged, newcomer}
-use Rattle.hall_http.specs.Seats.{AreFresh, AreStill}
+use Rattle.hall_http.specs.Seats.{AreFresh, AreStill, LetsGo}
 use Rattle.hall_http.specs.Socket.{traffic_of}
 use Rattle.hall_http.specs.declared.event_loop.EventLoop.{EventLoop}
 use Rattle.hall_http.specs.declared.places.Places.{Places}
@@ -18,11 +18,24 @@ said_by sockets = record {
   most = sockets.schedule.places.most;
 }
 
--- a newcomer has a place that was given to it alone, and the number after those before it
+-- a newcomer has the place that was given last, which was free; and else none was given
+abbrev pub GivesPlace : Places → Next Socket → Places → Type 0
+GivesPlace old (next.Newcomer place peer) new =
+    (now : ℕ) × (new.seated.items ≡ old.seated.items ++ (place, now) ∷ [])
+GivesPlace old _ new = new.seated.items ≡ old.seated.items
+
+-- whoever goes was let go last; and else nobody was
+abbrev pub LetsOneGo : Places → Next Socket → Places → Type 0
+LetsOneGo old (next.Gone place) new = LetsGo old place new
+LetsOneGo old _ new = new.let_go.items ≡ old.let_go.items
+
+-- a newcomer has a place that was given to it alone, and the number after those before it; and whoever goes is let go
 pub record HandsOut (old : Places) (said : Next Socket) (new : Places) : Type 0 where
   pub fresh : IsFreshPeer traffic_of (length old.seated.items) said
   pub count : length new.seated.items ≡ length old.seated.items + newcomer said
   pub most : new.most ≡ old.most
+  pub place : GivesPlace old said new
+  pub gone : LetsOneGo old said new
 
 -- so it is where anything is to be done, and it is not the end; else the places are as they were
 abbrev pub MayHandOut : Places → Option (Next Socket) → Places → Type 0

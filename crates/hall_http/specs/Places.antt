@@ -1,6 +1,11 @@
--- How many places are taken.
-use Rattle.std.specs.Prelude.{ℕ, List, Option, Some, None, sum_by}
+-- How many places are taken, and what is known of those who are there.
+use Rattle.std.specs.Prelude.{◌≡◌, ◌≤◌, ◌+◌, ◌⊎◌, ℕ, true, List, Option, Some, None, sum_by}
+use Rattle.hall_http.specs.declared.client.Wish.{Wish}
+use Rattle.hall_http.specs.declared.client.Wish.TheVariants as wish
+use Rattle.hall_http.specs.declared.places.LetGo.{LetGo}
 use Rattle.hall_http.specs.declared.places.Visit.{Visit}
+use Rattle.hall_http.specs.declared.places.Visit.TheVariants.{Ready, Waiting, Searching}
+use Rattle.hall_http.specs.declared.places.Wait.{Wait}
 
 -- 1 where a connection is at a place, and 0 where none is
 abbrev pub is_taken : Option Visit → ℕ
@@ -10,3 +15,32 @@ is_taken None = 0
 -- at how many of these places a connection is
 abbrev pub taken : List (Option Visit) → ℕ
 taken visits = sum_by is_taken visits
+
+-- for how many milliseconds a connection may wait for this
+abbrev pub patience_of : Wish → ℕ
+patience_of wish.Leaving = 2000
+patience_of _ = 10000
+
+-- what a connection waited for last, if it did
+abbrev pub wait_in : Visit → Option Wait
+wait_in (Ready last) = last
+wait_in (Waiting wait) = Some wait
+wait_in (Searching wait) = Some wait
+
+-- it has waited for the other side as long as it may, or has ended and bytes were read off as long as they may be
+abbrev pub HasExpired : Visit → ℕ → Type 0
+HasExpired (Waiting wait) now = wait.since + patience_of wait.wish ≤ now
+HasExpired (Ready (Some wait)) now = (wait.wish ≡ wish.Leaving) × (wait.since + patience_of wait.wish ≤ now)
+HasExpired (Ready None) now = ⊥
+HasExpired (Searching wait) now = ⊥
+
+-- it may make room for a newcomer: it has waited for a second for its next request, or its request for a search; or it
+-- has ended
+abbrev pub MayMakeRoom : Visit → ℕ → Type 0
+MayMakeRoom (Waiting wait) now = ((wait.wish ≡ wish.Idle) × (wait.since + 1000 ≤ now)) ⊎ (wait.wish ≡ wish.Leaving)
+MayMakeRoom (Searching wait) now = wait.since + 1000 ≤ now
+MayMakeRoom (Ready last) now = ⊥
+
+-- a connection that was let go at the millisecond had expired; or it made room, where all places were taken
+abbrev pub IsLetGo : LetGo × ℕ → Type 0
+IsLetGo one = HasExpired one.0.visit one.1 ⊎ ((one.0.is_full ≡ true) × MayMakeRoom one.0.visit one.1)

@@ -1,17 +1,30 @@
 -- Who came to the places, and who has gone.
-use Rattle.std.specs.Prelude.{◌≡◌, ◌<◌, ◌+◌, ℕ, [], None, get_or, length}
-use Rattle.hall_http.specs.Places.{taken}
+use Rattle.std.specs.Prelude.{◌≡◌, ◌<◌, ◌+◌, ◌==◌, ◌⊎◌, ℕ, Bool, true, List, [], ◌∷◌, ◌++◌}
+use Rattle.std.specs.Prelude.{Option, Some, None, flat_map, get_or, length, map}
+use Rattle.hall_http.specs.Coming.{Nexts}
+use Rattle.hall_http.specs.Places.{HasExpired, MayMakeRoom, taken, wait_in}
+use Rattle.hall_http.specs.declared.client.Step.{Step}
+use Rattle.hall_http.specs.declared.client.Step.TheVariants as step
+use Rattle.hall_http.specs.declared.client.Wish.TheVariants as wish
+use Rattle.hall_http.specs.declared.places.LetGo.{LetGo}
 use Rattle.hall_http.specs.declared.places.Places.{Places}
+use Rattle.hall_http.specs.declared.places.Visit.{Visit}
+use Rattle.hall_http.specs.declared.places.Visit.TheVariants.{Ready, Waiting, Searching}
+use Rattle.hall_http.specs.declared.places.Wait.{Wait}
+use Rattle.hall_http.specs.declared.server.Next.{Next}
+use Rattle.hall_http.specs.declared.server.Next.TheVariants as next
 
 -- all places are free, and none was given yet; so many may come
 pub record AreFresh (connections : ℕ) (places : Places) : Type 0 where
   pub free : taken places.visits.items ≡ 0
   pub seated : places.seated.items ≡ []
+  pub let_go : places.let_go.items ≡ []
   pub most : places.most ≡ connections
 
--- no place was given meanwhile, and no more or fewer may come in all
+-- no place was given meanwhile, nobody was let go, and no more or fewer may come in all
 abbrev pub AreStill : Places → Places → Type 0
-AreStill old new = (new.seated.items ≡ old.seated.items) × (new.most ≡ old.most)
+AreStill old new =
+    (new.seated.items ≡ old.seated.items) × (new.most ≡ old.most) × (new.let_go.items ≡ old.let_go.items)
 
 -- the place is free, and one more may be here
 abbrev pub IsOpen : Places → ℕ → Type 0
@@ -24,3 +37,54 @@ pub record HaveAllGone (places : Places) : Type 0 where
   pub came : length places.seated.items + length places.lost.items ≡ places.most
   pub left : length places.freed.items ≡ length places.seated.items
   pub free : taken places.visits.items ≡ 0
+
+-- whether all places are taken
+abbrev pub are_full : Places → Bool
+are_full places = places.here == length places.visits.items
+
+-- who is at the place is known so
+abbrev pub StandsAt : Places → ℕ → (Visit → Type 0) → Type 0
+StandsAt places place Is =
+    (visit : Visit) × (get_or places.visits.items place None ≡ Some visit) × Is visit
+
+-- whoever is at the place, if one is, is known so
+abbrev pub IsKnown : Places → ℕ → Visit → Type 0
+IsKnown places place known = (visit : Visit) → get_or places.visits.items place None ≡ Some visit → visit ≡ known
+
+-- the connection at the place has expired; or it may make room, and all places are taken
+abbrev pub MayLetGo : Places → ℕ → ℕ → Type 0
+MayLetGo places place now =
+    StandsAt places place (λ visit. HasExpired visit now ⊎ ((are_full places ≡ true) × MayMakeRoom visit now))
+
+-- one was let go, of this place
+abbrev pub LetsGo : Places → ℕ → Places → Type 0
+LetsGo old place new =
+    (one : LetGo × ℕ) × (one.0.place ≡ place) × (new.let_go.items ≡ old.let_go.items ++ one ∷ [])
+
+-- a wait begins at the millisecond, or is the one that was known before
+abbrev pub GoesOn : Option Visit → Wait → ℕ → Type 0
+GoesOn old wait now = (wait.since ≡ now) ⊎ ((last : Visit) × (old ≡ Some last) × (wait_in last ≡ Some wait))
+
+-- what was known of a connection may be followed by this: if it waits, it begins now, or goes on
+abbrev pub Follows : Option Visit → Visit → ℕ → Type 0
+Follows old (Ready None) now = Unit {0}
+Follows old (Ready (Some wait)) now = GoesOn old wait now
+Follows old (Waiting wait) now = GoesOn old wait now
+Follows old (Searching wait) now = GoesOn old wait now
+
+-- what is known of a connection that stood so after its turn
+abbrev pub IsHeard : Step → Visit → Type 0
+IsHeard step.Again visit = Unit {0}
+IsHeard step.Leaves (Ready (Some wait)) = wait.wish ≡ wish.Leaving
+IsHeard (step.Waits what requests) (Waiting wait) = wait.wish ≡ what
+IsHeard (step.Searches requests) (Searching wait) = wait.wish ≡ wish.Searching
+IsHeard step visit = ⊥
+
+-- the place of one that goes
+abbrev pub gone_at : {P : Type 0} → Next P → List ℕ
+gone_at (next.Gone place) = place ∷ []
+gone_at _ = []
+
+-- those that go, of all that was to be done, are those that the places let go, in this order
+abbrev pub AreLetGo : {P : Type 0} → Nexts P → Places → Type 0
+AreLetGo nexts places = flat_map gone_at nexts ≡ map (λ one. one.0.place) places.let_go.items

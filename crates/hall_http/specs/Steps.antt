@@ -1,5 +1,5 @@
 -- The steps of a connection.
-use Rattle.std.specs.Prelude.{◌≡◌, ◌≢◌, ◌<◌, ◌+◌, ◌==◌, ◌⊎◌, ℕ, Bool, true, false, if◌then◌else◌, List, [], ◌++◌}
+use Rattle.std.specs.Prelude.{◌≡◌, ◌≢◌, ◌<◌, ◌+◌, ◌==◌, ◌⊎◌, ℕ, Bool, true, false, if◌then◌else◌, List, [], ◌∷◌, ◌++◌}
 use Rattle.std.specs.Prelude.{length, take, drop, Option, Some, None}
 use Rattle.hall_http.specs.Answered.{IsUnavailable}
 use Rattle.hall_http.specs.Outgoing.{outgoing_text}
@@ -9,6 +9,8 @@ use Rattle.hall_http.specs.Head.{IsUnfinished, IsUnfinishedBelow, IsWholeRequest
 use Rattle.hall_http.specs.declared.outgoing.Outgoing.TheVariants.{Nothing, Refusal}
 use Rattle.hall_http.specs.declared.client.Step.{Step}
 use Rattle.hall_http.specs.declared.client.Step.TheVariants as step
+use Rattle.hall_http.specs.declared.client.Wish.{Wish}
+use Rattle.hall_http.specs.declared.client.Wish.TheVariants as wish
 use Rattle.hall_http.specs.declared.connection.Connection.{Connection}
 use Rattle.hall_http.specs.declared.connection.ServeEnd.{ServeEnd}
 use Rattle.hall_http.specs.declared.connection.ServeEnd.TheVariants as end
@@ -111,7 +113,28 @@ Looks answers now_gives before k after l =
 abbrev pub KeepsWaiting : {H : Type 0} → (H → List ℕ → Type 0) → Connection → H → Type 0
 KeepsWaiting may_wait k h = (size : ℕ) × IsWholeRequest (take size k.inbox) × may_wait h (take size k.inbox)
 
--- where the step is that a request needs more work, it may be kept waiting, and so many were answered before it
-abbrev pub SearchesRightly : {H : Type 0} → (H → List ℕ → Type 0) → Connection → H → Step → Type 0
-SearchesRightly may_wait k h (step.Searches requests) = KeepsWaiting may_wait k h × (requests ≡ k.requests)
-SearchesRightly may_wait k h _ = Unit {0}
+-- what a connection waits for while it reads: a request, or where some of one came the rest of it
+abbrev pub wish_of : List ℕ → Wish
+wish_of [] = wish.Idle
+wish_of (x ∷ more) = wish.Asking
+
+-- it waits for what it is at: it reads, its reply is being sent, or it has ended
+abbrev pub AwaitsRightly : Wish → Connection → Type 0
+AwaitsRightly what k =
+    ((k.state ≡ state.Reading) × (what ≡ wish_of k.inbox))
+    ⊎ ((ending : Option ServeEnd) × (k.state ≡ state.Writing ending) × (what ≡ wish.Taking))
+    ⊎ ((e : ServeEnd) × (k.state ≡ state.Ended e) × (what ≡ wish.Leaving))
+
+-- where the step is that it waits for the other side, it does so for what it is at, and so many were answered before;
+-- it reads off only what comes after its end; and it waits for nothing else
+abbrev pub WaitsRightly : Step → Connection → Type 0
+WaitsRightly (step.Waits what requests) k = AwaitsRightly what k × (requests ≡ k.requests)
+WaitsRightly step.Leaves k = (e : ServeEnd) × (k.state ≡ state.Ended e)
+WaitsRightly (step.Searches requests) k = ⊥
+WaitsRightly _ k = Unit {0}
+
+-- so it stands after its turn; or where the step is that its request needs more work, that may be kept waiting, and so
+-- many were answered before it
+abbrev pub StandsRightly : {H : Type 0} → (H → List ℕ → Type 0) → Connection → H → Step → Type 0
+StandsRightly may_wait k h (step.Searches requests) = KeepsWaiting may_wait k h × (requests ≡ k.requests)
+StandsRightly may_wait k h other = WaitsRightly other k

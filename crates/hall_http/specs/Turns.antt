@@ -4,7 +4,7 @@ use Rattle.std.specs.Prelude.{Option, Some, None, Bool, true, false}
 use Rattle.hall_http.specs.Served.{HaveRead, MayGoOn, refusal}
 use Rattle.hall_http.specs.Connection.{Exchange, AreMoments, AreOpen, requests_of, replies_of}
 use Rattle.hall_http.specs.Resting.{RestingSession, still}
-use Rattle.hall_http.specs.Steps.{gated}
+use Rattle.hall_http.specs.Steps.{WaitsRightly, gated}
 use Rattle.hall_http.specs.Head.{IsWholeRequest, IsUnfinished, HasNoWholeRequest, NeverHas}
 use Rattle.hall_http.specs.History.{ConnectionHistory, HasHistory, Ends, told_at}
 use Rattle.hall_http.specs.Peer.{Traffic, IsOver}
@@ -112,10 +112,11 @@ abbrev pub IsOverRightly : Step → Traffic → Type 0
 IsOverRightly step.Over t = IsOver t
 IsOverRightly _ t = Unit {0}
 
--- it went a step without an answer, after which others may be answered
+-- it went a step without an answer, after which others may be answered, and it waits for what it is at
 abbrev pub IsMoved : {P : Type 0} → (P → Traffic) → Client P → Step → Client P → Type 0
 IsMoved traffic k step l =
     (goes_on step ≡ true) × IsClientKept traffic k l × IsOverRightly step (traffic l.peer)
+    × WaitsRightly step l.connection
 
 -- how requests are answered: what a responder may answer, how it rests, and what a clock gives
 pub record Service (H C : Type 0) : Type 1 where

@@ -1,6 +1,6 @@
 //! One connection and the other side of it.
 ghost use Rattle.std.specs.Prelude.{◌≡◌, List};
-ghost use Rattle.hall_http.specs.Steps.{SearchesRightly};
+ghost use Rattle.hall_http.specs.Steps.{StandsRightly};
 ghost use Rattle.hall_http.specs.Peer.{IsUntouched};
 ghost use Rattle.hall_http.specs.Turns.{IsClient, IsClientKept, IsMoved, IsTurned, goes_on, service_of};
 ghost use Rattle.hall_http.specs.Connection.{Exchange};
@@ -99,8 +99,9 @@ impl<P: Peer> Client<P> {
         clock: &mut C,
     ) -> Step
         requires { (xs : List Exchange) × IsClient P.traffic xs self.old }
-        ensures { IsTurned (service_of H.answers H.goes_on H.rests C.now_gives) P.traffic
+        ensures turned { IsTurned (service_of H.answers H.goes_on H.rests C.now_gives) P.traffic
             ((responder.old, true), clock.old) self.old ((responder.new, goes_on result), clock.new) self.new result }
+        ensures stands { StandsRightly H.may_wait self.new.connection responder.new result }
     {
         for _step in 0..STEPS {
             match self.step(alloc, routes, responder, clock) {
@@ -120,8 +121,9 @@ impl<P: Peer> Client<P> {
         clock: &mut C,
     ) -> Step
         requires { (xs : List Exchange) × IsClient P.traffic xs self.old }
-        ensures { IsTurned (service_of H.answers H.goes_on H.rests C.now_gives) P.traffic
+        ensures turned { IsTurned (service_of H.answers H.goes_on H.rests C.now_gives) P.traffic
             ((responder.old, true), clock.old) self.old ((responder.new, goes_on result), clock.new) self.new result }
+        ensures stands { StandsRightly H.may_wait self.new.connection responder.new result }
     {
         match self.connection.state() {
             State::Looking => self.look(alloc, routes, responder, clock),
@@ -143,7 +145,7 @@ impl<P: Peer> Client<P> {
         requires at { self.old.connection.state ≡ State.Looking }
         ensures turned { IsTurned (service_of H.answers H.goes_on H.rests C.now_gives) P.traffic
             ((responder.old, true), clock.old) self.old ((responder.new, goes_on result), clock.new) self.new result }
-        ensures searches { SearchesRightly H.may_wait self.old.connection responder.new result }
+        ensures stands { StandsRightly H.may_wait self.new.connection responder.new result }
     {
         if !self.connection.prepare(alloc, routes, responder) {
             return Step::Searches {

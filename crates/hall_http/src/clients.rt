@@ -4,6 +4,7 @@ ghost use Rattle.hall_http.specs.Connection.{Exchange};
 ghost use Rattle.hall_http.specs.Crowd.{Admits, AllLeave, AnswersNoMore, AreGone, AreKept, AreSomeKept, IsAt, IsFree};
 ghost use Rattle.hall_http.specs.Crowd.{MayGo, MayLose, Receives, Serves};
 ghost use Rattle.hall_http.specs.Peer.{IsUntouched};
+ghost use Rattle.hall_http.specs.Steps.{StandsRightly};
 ghost use Rattle.hall_http.specs.Turns.{IsClient, IsOverRightly, IsPlaceKept, IsPlaceTurned, goes_on, service_of};
 ghost use Rattle.hall_http.specs.declared.client.Client.{Client};
 
@@ -52,8 +53,10 @@ fn turn_at<P: Peer, H: Responder, C: Clock>(
     clock: &mut C,
 ) -> Step
     requires { (k : Client P) → place.old ≡ Some k → (xs : List Exchange) × IsClient P.traffic xs k }
-    ensures { IsPlaceTurned (service_of H.answers H.goes_on H.rests C.now_gives) P.traffic
+    ensures turned { IsPlaceTurned (service_of H.answers H.goes_on H.rests C.now_gives) P.traffic
         ((responder.old, true), clock.old) place.old ((responder.new, goes_on result), clock.new) place.new result }
+    ensures stands { (k : Client P) → place.new ≡ Some k →
+        StandsRightly H.may_wait k.connection responder.new result }
 {
     match place {
         Some(client) => client.turn(alloc, routes, responder, clock),
@@ -131,6 +134,8 @@ impl<P: Peer + Drop> Clients<P> {
         ensures serves { Serves (service_of H.answers H.goes_on H.rests C.now_gives) P.traffic place
             ((responder.old, true), clock.old) self.old ((responder.new, goes_on result), clock.new) self.new }
         ensures over { (k : Client P) → IsAt self.new place k → IsOverRightly result (P.traffic k.peer) }
+        ensures stands { (k : Client P) → IsAt self.new place k →
+            StandsRightly H.may_wait k.connection responder.new result }
         ensures gone { self.new.gone ≡ self.old.gone }
     {
         if place >= self.places.len() {

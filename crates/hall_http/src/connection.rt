@@ -5,7 +5,7 @@ ghost use Rattle.hall_http.specs.Head.{IsUnfinishedBelow};
 ghost use Rattle.hall_http.specs.Outgoing.{outgoing_text};
 ghost use Rattle.hall_http.specs.Resting.{HasRested};
 ghost use Rattle.hall_http.specs.Steps.{pending, fresh, IsAfterHearing, IsAfterSending, IsAfterEnd, Looks, gated};
-ghost use Rattle.hall_http.specs.Steps.{KeepsWaiting, then_of};
+ghost use Rattle.hall_http.specs.Steps.{KeepsWaiting, then_of, wish_of};
 
 use crate::client::Wish;
 use crate::head::{Cut, cut_from, cut_request};
@@ -110,7 +110,9 @@ impl Connection {
     }
 
     /// What it waits for while it reads.
-    pub(crate) fn wish(&self) -> Wish {
+    pub(crate) fn wish(&self) -> Wish
+        ensures { result ≡ wish_of self.now.inbox }
+    {
         if self.inbox.unread().is_empty() {
             Wish::Idle
         } else {

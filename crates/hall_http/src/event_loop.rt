@@ -1,8 +1,11 @@
 //! The system's sockets: who comes, whose turn it is, and who has waited too long.
-ghost use Rattle.std.specs.Prelude.{◌≡◌, IfOk, IfSome};
+ghost use Rattle.std.specs.Prelude.{◌≡◌, IfOk, IfSome, None, Some, get_or, true};
+ghost use Rattle.hall_http.specs.declared.places.Visit.{Visit};
 ghost use Rattle.hall_http.specs.declared.server.Next.TheVariants as Next;
-ghost use Rattle.hall_http.specs.EventLoop.{HandsOut, IsFreshLoop, MayHandOut, said_by};
-ghost use Rattle.hall_http.specs.Seats.{AreFresh, AreStill, HaveAllGone, IsOpen};
+ghost use Rattle.hall_http.specs.Coming.{logged};
+ghost use Rattle.hall_http.specs.Places.{HasExpired, MayMakeRoom};
+ghost use Rattle.hall_http.specs.Seats.{AreFresh, AreLetGo, AreStill, GoesOn, HaveAllGone, IsHeard, IsOpen, MayLetGo};
+ghost use Rattle.hall_http.specs.Seats.{StandsAt};
 
 use crate::client::{Step, Wish};
 use crate::clients::MOST_CLIENTS;
@@ -30,18 +33,11 @@ const MOST_EVENTS: usize = 256;
 /// For how many milliseconds at most none is let in once there was no place, or the system refused one.
 const RETRY: u64 = 1000;
 
-/// How many milliseconds a connection has for a request from its first byte on, for taking a reply, and for the first
-/// byte of the next request.
-const PATIENCE: u64 = 10_000;
-
-/// With more milliseconds left than these an idle connection has only just come, or was only just answered.
-const FRESH: u64 = 9_000;
+/// For fewer milliseconds than these an idle connection has only just come, or was only just answered.
+const FRESH: u64 = 1_000;
 
 /// By how many milliseconds those whose requests need more work stand behind all others who may go.
 const LAST: u64 = 1 << 62;
-
-/// How many milliseconds bytes are read off that are no longer answered.
-const LAST_PATIENCE: u64 = 2_000;
 
 /// The most milliseconds of a wait, or between two waits, that count against anybody's patience. The rest of a longer
 /// time is the hall's own: a request took it, or the machine stood still.
@@ -78,6 +74,7 @@ pub struct EventLoop<'r, N, E> {
     /// Where it tells that writes are refused, and that they are taken again.
     journal: Option<Counted<E>>,
     refuses_writes: bool,
+    ghost lets_go: { AreLetGo (logged nexts) schedule.places },
 }
 
 /// Who is here and who waits, and whose turn it is.
@@ -107,6 +104,8 @@ struct Schedule<'r, N> {
 }
 
 impl<'r, N: Net + AllocGlobal + time::Clock, E: Drop> EventLoop<'r, N, E> {
+    ghost use Rattle.hall_http.specs.EventLoop.{IsFreshLoop};
+
     /// Listens on the address, for so many connections; and tells there, if there is a place for it, once the disk
     /// refuses writes, and once it takes them again.
     pub fn new(
@@ -135,6 +134,8 @@ impl<'r, N, E> EventLoop<'r, N, E> {
 }
 
 impl<'r, N: time::Clock, E: Write> Sockets for EventLoop<'r, N, E> {
+    ghost use Rattle.hall_http.specs.EventLoop.{said_by};
+
     type Peer = Socket;
 
     ghost is_over = { λ sockets. HaveAllGone sockets.schedule.places };
@@ -196,48 +197,72 @@ impl<'r, N: Net + AllocGlobal + time::Clock> Schedule<'r, N> {
 }
 
 impl<'r, N> Schedule<'r, N> {
+    ghost use Rattle.hall_http.specs.EventLoop.{MayHandOut};
+
     /// The connection at the place is ready.
     fn wake(&mut self, place: usize)
         ensures { AreStill self.old.places self.new.places }
     {
         if let Some(Visit::Waiting(wait)) = self.places.at(place) {
-            self.places.put(place, Visit::Ready(Some(wait)));
+            self.places.put(place, Visit::Ready(Some(wait)), self.now);
             let _queued = self.ready.push_back(place);
         }
     }
 
     /// What the connection waits for: where it waited for the same before, its patience goes on.
-    fn wait(&self, place: usize, wish: Wish, requests: usize) -> Wait {
+    fn wait(&self, place: usize, wish: Wish, requests: usize) -> Wait
+        ensures wish { result.wish ≡ wish }
+        ensures since { GoesOn (get_or self.entry.now.places.visits.items place None) result self.entry.now.now }
+    {
         if let Some(Visit::Ready(Some(last))) = self.places.at(place)
             && last.wish == wish
             && last.requests == requests
         {
             return last;
         }
-        let patience = match wish {
-            Wish::Leaving => LAST_PATIENCE,
-            _ => PATIENCE,
-        };
         Wait {
             wish,
             requests,
-            until: self.now.saturating_add(patience),
+            since: self.now,
         }
     }
 
     /// Whether the connection at the place has ended, and its patience too.
-    fn has_left(&self, place: usize) -> bool {
+    fn has_left(&self, place: usize) -> bool
+        ensures { result ≡ true →
+            StandsAt self.entry.now.places place (λ visit. HasExpired visit self.entry.now.now) }
+    {
         match self.places.at(place) {
-            Some(Visit::Ready(Some(wait))) => wait.wish == Wish::Leaving && wait.until <= self.now,
+            Some(Visit::Ready(Some(wait))) => {
+                wait.wish == Wish::Leaving && wait.has_ended(self.now)
+            }
             _ => false,
         }
     }
 
     /// The place is free again.
     fn free(&mut self, place: usize)
-        ensures { AreStill self.old.places self.new.places }
+        ensures still { AreStill self.old.places self.new.places }
+        ensures free { get_or self.new.places.visits.items place None ≡ None }
     {
         self.places.free(place, self.now);
+        self.try_again();
+    }
+
+    /// The connection at the place is let go.
+    fn let_go(&mut self, place: usize) -> Option<Next<Socket>>
+        requires { MayLetGo self.old.places place self.old.now }
+        ensures { MayHandOut self.old.places result self.new.places }
+    {
+        self.places.let_go(place, self.now);
+        self.try_again();
+        Some(Next::Gone(place))
+    }
+
+    /// Newcomers for whom there was no place may get one.
+    fn try_again(&mut self)
+        ensures { self.new.places ≡ self.old.places }
+    {
         if self.backlog == Backlog::Later {
             self.backlog = Backlog::Waiting;
         }
@@ -251,7 +276,7 @@ impl<'r, N> Schedule<'r, N> {
             if let Some(place) = self.searching.pop_front()
                 && let Some(Visit::Searching(wait)) = self.places.at(place)
             {
-                self.places.put(place, Visit::Ready(Some(wait)));
+                self.places.put(place, Visit::Ready(Some(wait)), self.now);
                 let _queued = self.ready.push_back(place);
                 return;
             }
@@ -261,7 +286,9 @@ impl<'r, N> Schedule<'r, N> {
     /// A free place, where one more may be here; or else the place of the one that may go and times out first.
     /// Those whose requests need more work go last.
     fn find_place(&self) -> (Option<usize>, Option<usize>)
-        ensures { IfSome result.0 (IsOpen self.entry.now.places) }
+        ensures open { IfSome result.0 (IsOpen self.entry.now.places) }
+        ensures leaves { IfSome result.1 (λ place.
+            StandsAt self.entry.now.places place (λ visit. MayMakeRoom visit self.entry.now.now)) }
     {
         let mut found = None;
         let mut first = u64::MAX;
@@ -288,15 +315,17 @@ impl<'r, N> Schedule<'r, N> {
     /// When the patience of one ends that may make room for a newcomer: nothing that it asked is unanswered, and
     /// nothing unsent; and it had a second to ask. One whose request needs more work may go too, after all others,
     /// since its search is kept for whoever sends the request again.
-    fn may_go(&self, visit: Visit) -> Option<u64> {
+    fn may_go(&self, visit: Visit) -> Option<u64>
+        ensures { IfSome result (λ _. MayMakeRoom visit self.entry.now.now) }
+    {
         match visit {
             Visit::Waiting(wait) => match wait.wish {
-                Wish::Idle if wait.until.saturating_sub(self.now) <= FRESH => Some(wait.until),
-                Wish::Leaving => Some(wait.until),
+                Wish::Idle if wait.has_lasted(FRESH, self.now) => Some(wait.until()),
+                Wish::Leaving => Some(wait.until()),
                 Wish::Idle | Wish::Asking | Wish::Taking | Wish::Searching => None,
             },
-            Visit::Searching(wait) if wait.until.saturating_sub(self.now) <= FRESH => {
-                Some(wait.until.saturating_add(LAST))
+            Visit::Searching(wait) if wait.has_lasted(FRESH, self.now) => {
+                Some(wait.until().saturating_add(LAST))
             }
             Visit::Ready(_) | Visit::Searching(_) => None,
         }
@@ -304,7 +333,9 @@ impl<'r, N> Schedule<'r, N> {
 
     /// One whose patience has ended.
     fn expired(&mut self) -> Option<usize>
-        ensures { AreStill self.old.places self.new.places }
+        ensures still { self.new.places ≡ self.old.places }
+        ensures expired { IfSome result (λ place.
+            StandsAt self.new.places place (λ visit. HasExpired visit self.new.now)) }
     {
         if self.now < self.quiet_until {
             return None;
@@ -312,11 +343,11 @@ impl<'r, N> Schedule<'r, N> {
         self.quiet_until = u64::MAX;
         for place in 0..self.places.len() {
             if let Some(Visit::Waiting(wait)) = self.places.at(place) {
-                if wait.until <= self.now {
+                if wait.has_ended(self.now) {
                     self.quiet_until = 0;
                     return Some(place);
                 }
-                self.quiet_until = self.quiet_until.min(wait.until);
+                self.quiet_until = self.quiet_until.min(wait.until());
             }
         }
         None
@@ -349,8 +380,7 @@ impl<'r, N> Schedule<'r, N> {
         let place = self.ready.pop_front()?;
         self.round -= 1;
         if self.has_left(place) {
-            self.free(place);
-            return Some(Next::Gone(place));
+            return self.let_go(place);
         }
         Some(Next::Turn(place))
     }
@@ -365,8 +395,7 @@ impl<'r, N> Schedule<'r, N> {
             return Some(next);
         }
         let place = self.expired()?;
-        self.free(place);
-        Some(Next::Gone(place))
+        self.let_go(place)
     }
 
     /// Lets a newcomer in, where there is one and a place for it.
@@ -375,11 +404,8 @@ impl<'r, N> Schedule<'r, N> {
     {
         let place = match self.find_place() {
             (Some(place), _) => place,
-            (None, Some(place)) => {
-                self.free(place);
-                return Some(Next::Gone(place));
-            }
-            (None, None) => {
+            (None, Some(place)) if self.places.are_full() => return self.let_go(place),
+            (None, _) => {
                 self.backlog = Backlog::Later;
                 return None;
             }
@@ -457,9 +483,7 @@ impl<'r, N: time::Clock> Schedule<'r, N> {
         if is_cut || told == MOST_EVENTS || self.quiet_until <= self.now {
             self.hear_all()?;
         }
-        if self.backlog == Backlog::Later {
-            self.backlog = Backlog::Waiting;
-        }
+        self.try_again();
         self.has_heard = true;
         Ok(())
     }
@@ -508,6 +532,8 @@ fn place_of(event: &Event) -> usize {
 }
 
 impl<'r, N: time::Clock> Schedule<'r, N> {
+    ghost use Rattle.hall_http.specs.EventLoop.{HandsOut};
+
     /// Waits until something is to be done.
     fn next(&mut self) -> Next<Socket>
         ensures handed_out { HandsOut self.old.places result self.new.places }
@@ -537,7 +563,9 @@ impl<'r, N: time::Clock> Schedule<'r, N> {
 
     /// Hears how the connection at the place stands after its turn.
     fn stands(&mut self, place: usize, step: Step)
-        ensures { AreStill self.old.places self.new.places }
+        ensures still { AreStill self.old.places self.new.places }
+        ensures heard { (visit : Visit) → get_or self.new.places.visits.items place None ≡ Some visit →
+            IsHeard step visit }
     {
         match step {
             Step::Again => {
@@ -545,12 +573,12 @@ impl<'r, N: time::Clock> Schedule<'r, N> {
             }
             Step::Searches { requests } => {
                 let wait = self.wait(place, Wish::Searching, requests);
-                self.places.put(place, Visit::Searching(wait));
+                self.places.put(place, Visit::Searching(wait), self.now);
                 let _queued = self.searching.push_back(place);
             }
             Step::Leaves => {
                 let wait = self.wait(place, Wish::Leaving, 0);
-                self.places.put(place, Visit::Ready(Some(wait)));
+                self.places.put(place, Visit::Ready(Some(wait)), self.now);
                 let _queued = self.ready.push_back(place);
             }
             Step::Waits { wish, requests } => {
@@ -559,8 +587,8 @@ impl<'r, N: time::Clock> Schedule<'r, N> {
                     _ => requests,
                 };
                 let wait = self.wait(place, wish, requests);
-                self.places.put(place, Visit::Waiting(wait));
-                self.quiet_until = self.quiet_until.min(wait.until);
+                self.places.put(place, Visit::Waiting(wait), self.now);
+                self.quiet_until = self.quiet_until.min(wait.until());
             }
             Step::Over | Step::Shut => self.free(place),
         }

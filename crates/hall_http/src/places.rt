@@ -1,18 +1,56 @@
 //! The places of the connections, and how many of these may still come.
-ghost use Rattle.std.specs.Prelude.{◌≡◌, ◌≤◌, ◌<◌, ◌+◌, [], ◌∷◌, ◌++◌, IfOk, None, get_or, length, true};
-ghost use Rattle.hall_http.specs.Places.{taken};
+ghost use Rattle.std.specs.Prelude.{◌≡◌, ◌≤◌, ◌<◌, ◌+◌, [], ◌∷◌, ◌++◌, All, IfOk, None, Some, get_or, length, true};
+ghost use Rattle.hall_http.specs.Places.{IsLetGo, patience_of, taken};
 
 use crate::client::Wish;
 use http_server::Log;
 use std::alloc::{AllocError, Global};
 use std::mem;
 
-/// What a connection waited for last, after so many requests, and the millisecond at which its patience ends.
+/// How many milliseconds a connection has for a request from its first byte on, for taking a reply, and for the first
+/// byte of the next request.
+const PATIENCE: u64 = 10_000;
+
+/// How many milliseconds bytes are read off that are no longer answered.
+const LAST_PATIENCE: u64 = 2_000;
+
+/// What a connection waited for last, after so many requests, and since which millisecond.
 #[derive(Clone, Copy, PartialEq, Eq)]
 pub(crate) struct Wait {
     pub(crate) wish: Wish,
     pub(crate) requests: usize,
-    pub(crate) until: u64,
+    pub(crate) since: u64,
+}
+
+impl Wait {
+    /// For how many milliseconds it may wait.
+    fn patience(self) -> u64
+        ensures { result ≡ patience_of self.wish }
+    {
+        match self.wish {
+            Wish::Leaving => LAST_PATIENCE,
+            Wish::Idle | Wish::Asking | Wish::Taking | Wish::Searching => PATIENCE,
+        }
+    }
+
+    /// The millisecond at which its patience ends.
+    pub(crate) fn until(self) -> u64 {
+        self.since.saturating_add(self.patience())
+    }
+
+    /// Whether it has waited so many milliseconds.
+    pub(crate) fn has_lasted(self, span: u64, now: u64) -> bool
+        ensures { result ≡ true → self.since + span ≤ now }
+    {
+        now >= self.since && now - self.since >= span
+    }
+
+    /// Whether its patience has ended.
+    pub(crate) fn has_ended(self, now: u64) -> bool
+        ensures { result ≡ true → self.since + patience_of self.wish ≤ now }
+    {
+        self.has_lasted(self.patience(), now)
+    }
 }
 
 /// What is known of a connection.
@@ -24,6 +62,14 @@ pub(crate) enum Visit {
     Waiting(Wait),
     /// Its request needs more work.
     Searching(Wait),
+}
+
+/// A connection that is let go: its place, what was known of it, and whether all places were taken.
+#[derive(Clone, Copy)]
+pub(crate) struct LetGo {
+    place: usize,
+    visit: Visit,
+    is_full: bool,
 }
 
 /// Who is here, at which place. A connection that may come has a place, until that is free again; or it can't be set
@@ -43,14 +89,18 @@ pub(crate) struct Places {
     freed: Log<usize, u64>,
     /// When newcomers were lost.
     lost: Log<(), u64>,
+    /// Those that were let go, and the millisecond.
+    let_go: Log<LetGo, u64>,
     ghost counted: { here ≡ taken visits.items },
     ghost in_all: { left + (length freed.items + length lost.items) ≡ most },
     ghost stays: { length seated.items ≡ length freed.items + here },
     ghost fits: { here ≤ left },
+    ghost rightly: { All (λ one. ∥ IsLetGo one ∥₁) let_go.items },
 }
 
 impl Places {
-    ghost use Rattle.hall_http.specs.Seats.{HaveAllGone, IsOpen, AreFresh, AreStill};
+    ghost use Rattle.hall_http.specs.Seats.{AreFresh, AreStill, Follows, HaveAllGone, IsKnown, IsOpen, LetsGo, MayLetGo};
+    ghost use Rattle.hall_http.specs.Seats.{are_full};
 
     /// So many places, all free, for so many connections.
     pub(crate) fn new(alloc: Global, count: usize, most: u64) -> Result<Places, AllocError>
@@ -68,6 +118,7 @@ impl Places {
             seated: Log::new(),
             freed: Log::new(),
             lost: Log::new(),
+            let_go: Log::new(),
         })
     }
 
@@ -102,9 +153,18 @@ impl Places {
         self.left == 0
     }
 
+    /// Whether all places are taken.
+    pub(crate) fn are_full(&self) -> bool
+        ensures { result ≡ are_full self.now }
+    {
+        self.here == self.visits.len() as u64
+    }
+
     /// What is known from now on of the connection at the place, if one is there.
-    pub(crate) fn put(&mut self, place: usize, visit: Visit)
-        ensures { AreStill self.old self.new }
+    pub(crate) fn put(&mut self, place: usize, visit: Visit, now: u64)
+        requires { Follows (get_or self.old.visits.items place None) visit now }
+        ensures still { AreStill self.old self.new }
+        ensures known { IsKnown self.new place visit }
     {
         if self.at(place).is_some() {
             self.visits[place] = Some(visit);
@@ -117,6 +177,7 @@ impl Places {
         ensures before { result.items ≡ self.old.seated.items }
         ensures seated { self.new.seated.items ≡ self.old.seated.items ++ (place, now) ∷ [] }
         ensures most { self.new.most ≡ self.old.most }
+        ensures let_go { self.new.let_go.items ≡ self.old.let_go.items }
     {
         self.visits[place] = Some(Visit::Ready(None));
         self.here += 1;
@@ -133,9 +194,29 @@ impl Places {
         self.lost = self.lost.and(&(), &now);
     }
 
+    /// The connection at the place is let go.
+    pub(crate) fn let_go(&mut self, place: usize, now: u64)
+        requires { MayLetGo self.old place now }
+        ensures gone { LetsGo self.old place self.new }
+        ensures seated { self.new.seated.items ≡ self.old.seated.items }
+        ensures most { self.new.most ≡ self.old.most }
+    {
+        let Some(visit) = self.at(place) else {
+            return;
+        };
+        let one = LetGo {
+            place,
+            visit,
+            is_full: self.are_full(),
+        };
+        self.let_go = self.let_go.and(&one, &now);
+        self.free(place, now);
+    }
+
     /// The place is free again.
     pub(crate) fn free(&mut self, place: usize, now: u64)
-        ensures { AreStill self.old self.new }
+        ensures still { AreStill self.old self.new }
+        ensures free { get_or self.new.visits.items place None ≡ None }
     {
         if self.at(place).is_some() {
             self.visits[place] = None;

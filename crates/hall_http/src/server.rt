@@ -6,11 +6,13 @@ ghost use Rattle.hall_desk.specs.Desk.{kept_by, SaneThen};
 ghost use Rattle.hall_desk.specs.Sane.{Sane};
 ghost use Rattle.hall_desk.specs.Promises.{HasUniqueSolutions, RightAnswersAreSolutions};
 ghost use Rattle.hall_http.specs.Crowd.{Admits, AreAsSaid, AreAtTurns, AreHandled, AreKept, AreKeptAtTurns, AreServed};
-ghost use Rattle.hall_http.specs.Crowd.{AreSomeKept, EndsServing, MayLose, Receives, Serves};
+ghost use Rattle.hall_http.specs.Crowd.{AreSomeKept, EndsServing, IsAt, MayLose, Receives, Serves};
 ghost use Rattle.hall_http.specs.Peer.{IsUntouched};
 ghost use Rattle.hall_http.specs.declared.clients.Departure.TheVariants as Departure;
 ghost use Rattle.hall_http.specs.Coming.{AreDone, IsFreshPeer, Said, newcomer, since, stays_open};
+ghost use Rattle.hall_http.specs.Steps.{StandsRightly};
 ghost use Rattle.hall_http.specs.Turns.{goes_on, service_of};
+ghost use Rattle.hall_http.specs.declared.client.Client.{Client};
 
 use crate::client::Step;
 use crate::clients::{Clients, Departure, Gone, MOST_CLIENTS};
@@ -186,6 +188,8 @@ fn visit<P: Peer + Drop, H: Responder, C: Clock>(
     ensures serves { Serves (service_of H.answers H.goes_on H.rests C.now_gives) P.traffic place
         ((responder.old, true), clock.old) clients.old ((responder.new, goes_on result), clock.new) clients.new }
     ensures lost { MayLose P.traffic Departure.Over place clients.old clients.new }
+    ensures stands { (k : Client P) → IsAt clients.new place k →
+        StandsRightly H.may_wait k.connection responder.new result }
 {
     let step = clients.turn(alloc, routes, place, responder, clock);
     match step {

@@ -1,4 +1,4 @@
-use Rattle.std.proofs.Common.{◌∙◌}
+use Rattle.std.proofs.Common.{◌∙◌, sym}
 use Rattle.hall_http.specs.declared.clients.Departure.TheVariants as departure
 use Rattle.hall_http.proofs.SoFar.{loses_before, loses_none, serves_kept, serves_then}
 use Rattle.hall_http.proofs.server.visit.Goals as goal
@@ -32,3 +32,6 @@ pub returns-in_default-clause-lost : goal.returns-in_default-clause-lost
 returns-in_default-clause-lost g c =
     loses_none g.P.Peer.traffic departure.Over c.args.place c.args.clients.now c.turn-step.new.self
     c.turn-step.ensures.gone
+
+pub returns-in-Over-clause-stands : goal.returns-in-Over-clause-stands
+returns-in-Over-clause-stands g c = λ k at. let clash = sym c.forget.ensures.none ∙ at in absurd cc

@@ -21,6 +21,7 @@ returns-in-Some g c =
             (c.in-Some.ensures.over ∙ over_some _ c.in-Some.count c.if-count-gt0.true) c.in-Some.ensures.hung_up;
       },
       tt,
+      tt,
     )
 
 pub returns-in_default : goal.returns-in_default
@@ -44,5 +45,6 @@ returns-in_default g c =
             c.requires.at c.end_input.ensures (ap (λ (n : ℕ). take n c.receive.new.chunk) none)
             c.receive.ensures.came c.receive.ensures.went (c.receive.ensures.over ∙ over _) c.receive.ensures.hung_up;
       },
+      tt,
       tt,
     )

@@ -13,6 +13,7 @@ returns-in-Some g c = (
         (λ over. let clash = sym c.requires.unended ∙ over in absurd cc) c.in-Some.ensures.hung_up;
   },
   tt,
+  c.requires.at,
 )
 
 pub returns-in-None : goal.returns-in-None
@@ -26,4 +27,5 @@ returns-in-None g c = (
         c.in-None.ensures.hung_up;
   },
   inr (c.in-None.ensures.hung_up ∙ c.requires.hung_up, c.in-None.ensures.over),
+  tt,
 )

@@ -20,6 +20,7 @@ returns-in-None g c = (
         (c.in-None.ensures.went ∙ append-nil _) c.in-None.ensures.over c.in-None.ensures.hung_up;
   },
   inl c.in-None.ensures.broke,
+  tt,
 )
 
 pub returns : goal.returns
@@ -31,5 +32,6 @@ returns g c = (
         client_sent g.P.Peer.traffic _ _ _ _ xs is _ _ c.requires.at.0 _ c.requires.at.1 c.sent.ensures
         c.in-Some.ensures.came c.in-Some.ensures.went c.in-Some.ensures.over c.in-Some.ensures.hung_up;
   },
+  tt,
   tt,
 )

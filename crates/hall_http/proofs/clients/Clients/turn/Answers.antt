@@ -1,7 +1,7 @@
 use Rattle.std.proofs.Common.{◌∙◌, arith, ◌<◌, ◌≤◌, None, Some, length, sym}
 use Rattle.std.proofs.lemmas.List.{get_or_past}
 use Rattle.hall_http.proofs.Crowds.{serves_none, turn_over, turn_place}
-use Rattle.hall_http.proofs.Numbers.{read_at}
+use Rattle.hall_http.proofs.Numbers.{is_there, read_at}
 use Rattle.hall_http.proofs.clients.Clients.turn.Goals as goal
 
 pub returns-then-place-len-clause-serves : goal.returns-then-place-len-clause-serves
@@ -29,11 +29,21 @@ returns-clause-serves g c =
     let inside : c.args.place < length c.args.self.now.places.items =
     omega (arith, c.if-place-len.false, c.len.ensures, c.args.self.now.places.ok.0) in
     turn_place g.P.Peer.traffic c.args.self.now c.args.place inside c.index_mut.result.now c.turn_at.new.place
-    c.index_mut.ensures.value _ _ _ _ c.turn_at.ensures
+    c.index_mut.ensures.value _ _ _ _ c.turn_at.ensures.turned
 
 pub returns-clause-over : goal.returns-clause-over
 returns-clause-over g c =
     let inside : c.args.place < length c.args.self.now.places.items =
     omega (arith, c.if-place-len.false, c.len.ensures, c.args.self.now.places.ok.0) in
     turn_over g.P.Peer.traffic c.args.self.now c.args.place inside c.index_mut.result.now c.turn_at.new.place
-    c.index_mut.ensures.value _ _ _ _ c.turn_at.ensures
+    c.index_mut.ensures.value _ _ _ _ c.turn_at.ensures.turned
+
+pub returns-then-place-len-clause-stands : goal.returns-then-place-len-clause-stands
+returns-then-place-len-clause-stands g c = λ k at. tt
+
+pub returns-clause-stands : goal.returns-clause-stands
+returns-clause-stands g c =
+    let inside : c.args.place < length c.args.self.now.places.items =
+    omega (arith, c.if-place-len.false, c.len.ensures, c.args.self.now.places.ok.0) in
+    λ k at.
+    c.turn_at.ensures.stands k (sym (is_there c.args.self.now.places.items c.args.place c.turn_at.new.place inside) ∙ at)
