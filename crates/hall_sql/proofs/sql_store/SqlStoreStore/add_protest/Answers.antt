@@ -3,5 +3,5 @@ use Rattle.hall_sql.proofs.sql_store.SqlStoreStore.add_protest.Goals as goal
 
 pub returns-clause-fault : goal.returns-clause-fault
 returns-clause-fault g c =
-    protest_fault _ _ c.add_protest.result c.self.invariant c.args.row c.protest_in_range.ensures (rw c.self.view_is c.requires)
+    protest_fault _ _ c.add_protest.result c.self.invariant c.args.row c.in_range.ensures (rw c.self.view_is c.requires)
     c.add_protest.ensures.wrote.refused c.add_protest.ensures.cause
