@@ -9,7 +9,10 @@ pub mod Protesting
 pub mod RulingProtest
 pub mod EmptySane
 mod PlanLemmas
+mod ReadPlans
 pub mod TablePlans
+mod RoundPlans
+mod Copied
 pub mod Totalled
 pub mod Truths
 pub mod Saneness

@@ -1,9 +1,9 @@
 -- The plan of a table.
-use Rattle.std.proofs.Common.{◌≡◌, ℕ, List, Option, Some, None, refl, sym, subst}
+use Rattle.std.proofs.Common.{◌≡◌, ℕ, List, Option, Some, refl, sym, subst}
 use Rattle.hall_policy.specs.Actions.{last_rule}
 use Rattle.hall_policy.specs.World.{IsRoundAt}
 use Rattle.hall_policy.specs.Facts.{AreTrue, IsRoundFound}
-use Rattle.hall_policy.specs.Decided.{IsDecided, IsDecidedUpTo}
+use Rattle.hall_policy.specs.Decided.{IsDecidedUpTo}
 use Rattle.hall_policy.specs.declared.facts.Facts.{Facts}
 use Rattle.hall_policy.specs.declared.record.RoundRow.{RoundRow}
 use Rattle.hall_policy.specs.declared.record.PuzzleState.TheVariants as state
@@ -13,15 +13,13 @@ use Rattle.hall_policy.specs.declared.request.Request.{Request}
 use Rattle.hall_policy.specs.declared.rule.Decision.{Decision}
 use Rattle.hall_policy.specs.declared.rule.Decision.TheVariants.{Allow, Deny}
 use Rattle.hall_store.specs.Store.{Content, Kept, Asks, IsRoundKept}
-use Rattle.hall_store.specs.declared.change.Change.TheVariants.{Nothing}
-use Rattle.hall_store.proofs.Knowing.{carried}
 use Rattle.hall_desk.specs.Lookups.{IsCaller}
 use Rattle.hall_desk.specs.Totals.{IsTableAt}
 use Rattle.hall_desk.specs.Step.{Allowed}
 use Rattle.hall_desk.specs.Plans.{IsPlanFor, HasSearched}
 use Rattle.hall_desk.specs.declared.plan.Plan.{Plan}
 use Rattle.hall_desk.specs.declared.reply.Reply.TheVariants as reply
-use Rattle.hall_desk.proofs.PlanLemmas.{planned}
+use Rattle.hall_desk.proofs.ReadPlans.{answering, denied_plan, read_plan}
 use Rattle.hall_desk.proofs.Telling.{table_told}
 
 module _ (old mid : Content) (facts : Facts) (t : ℕ) (request : Request) (id : List ℕ) (is : request.action ≡ Table id)
@@ -31,39 +29,23 @@ module _ (old mid : Content) (facts : Facts) (t : ℕ) (request : Request) (id :
   found : mid.honest → AreTrue facts mid.world request.action
   found h = table_told mid.world facts request.action id is (read h).1.row
 
-  -- the caller was found before
-  caller_there : mid.honest → IsCaller mid.world request.key facts.caller
-  caller_there h = carried (λ w. IsCaller w request.key facts.caller) old mid kept caller h (read h).0
-
   module _ (decision : Decision) (decided : IsDecidedUpTo last_rule facts request.action t decision) where
     -- a table that is denied
-    pub table_denied : (rule : ℕ) (plan : Plan) → decision ≡ Deny rule → plan ≡ record { reply = reply.Denied rule; change = Nothing; visits = None } →
-        mid.honest → mid.serves × IsPlanFor mid.world t request plan
-    table_denied rule plan denied made h = (
-      (read h).0,
-      subst (λ (p : Plan). IsPlanFor mid.world t request p) (sym made)
-          (planned facts mid.world t request (Deny rule) (reply.Denied rule) Nothing None (caller_there h)
-          (subst (λ (d : Decision). IsDecided mid.world facts request.action t d) denied (decided mid.world (found h))) state.GaveUp (refl, refl) tt (λ _. refl) (λ allowed. absurd (cc))),
-    )
+    pub table_denied : (rule : ℕ) (plan : Plan) → decision ≡ Deny rule → plan ≡ answering (reply.Denied rule) → mid.honest → mid.serves × IsPlanFor mid.world t request plan
+    table_denied = denied_plan old mid facts t request caller kept (λ h. (read h).0) found decision decided
 
     -- a table that is answered
     pub table_planned : (new : Content) (text : List ℕ) (plan : Plan) → decision ≡ Allow → Kept mid new →
-        (new.honest → new.serves × IsTableAt new.world id text) → plan ≡ record { reply = reply.Table text; change = Nothing; visits = None } →
+        (new.honest → new.serves × IsTableAt new.world id text) → plan ≡ answering (reply.Table text) →
         new.honest → new.serves × IsPlanFor new.world t request plan
-    table_planned new text plan allowed left served made h =
-        let s : new.serves = (served h).0 in
-        let table = (served h).1 in (
-          s,
-          subst (λ (p : Plan). IsPlanFor new.world t request p) (sym made)
-              (planned facts new.world t request Allow (reply.Table text) Nothing None
-              (carried (λ w. IsCaller w request.key facts.caller) mid new left (λ h0 s0. caller_there h0) h s)
-              (carried (λ w. IsDecided w facts request.action t Allow) mid new left
-              (λ h0 s0. subst (λ (d : Decision). IsDecided mid.world facts request.action t d) allowed (decided mid.world (found h0))) h s)
-              state.GaveUp
-              (subst (λ (a : Action). Allowed new.world facts.caller a t state.GaveUp (reply.Table text) new.world) (sym is)
-              ((text, table, refl), refl))
-              tt (λ _. refl) (λ allowed. subst (λ (a : Action). HasSearched new.world a (record { reply = reply.Table text; change = Nothing; visits = None })) (sym is) tt)),
-        )
+    table_planned new text plan allowed left served =
+        read_plan old mid facts t request caller kept (λ h. (read h).0) found decision decided new (reply.Table text) plan allowed left (λ h. (
+          (served h).0,
+          (
+            subst (λ (a : Action). Allowed new.world facts.caller a t state.GaveUp (reply.Table text) new.world) (sym is) ((text, (served h).1, refl), refl),
+            subst (λ (a : Action). HasSearched new.world a (answering (reply.Table text))) (sym is) tt,
+          ),
+        ))
 
     -- the round that an answered table is of
     pub table_round : (row : RoundRow) → facts.round ≡ Some row → mid.honest → mid.serves × IsRoundAt mid.world id row

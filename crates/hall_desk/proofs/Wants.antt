@@ -17,15 +17,11 @@ use Rattle.hall_policy.specs.declared.rule.Decision.{Decision}
 use Rattle.hall_policy.specs.declared.rule.Decision.TheVariants.{Allow}
 use Rattle.hall_policy.specs.declared.rule.Rule.TheVariants as rule
 use Rattle.hall_store.specs.Caller.{caller_of}
-use Rattle.hall_store.specs.Store.{Content, Kept, Told}
+use Rattle.hall_store.specs.Store.{Content, Told}
 use Rattle.hall_store.specs.declared.fault.StoreFault.{StoreFault}
 use Rattle.hall_desk.specs.Lookups.{IsCaller}
 use Rattle.hall_desk.specs.declared.wanted.Wanted.{Wanted}
 use Rattle.hall_desk.specs.Wanted.{IsSearchOfFound, IsSearchFor}
-use Rattle.hall_desk.specs.TableCopy.{IsCopied}
-use Rattle.hall_desk.specs.Totals.{IsTableAt}
-use Rattle.hall_desk.specs.declared.table_copy.TableCopy.{TableCopy}
-use Rattle.hall_store.proofs.Knowing.{carried}
 
 -- no rule that a Certify is asked speaks of the moment, since it names no round
 pub at_any_moment : (world : World) (caller : Option Person) (key : PuzzleKey) (budget t later : ℕ) → NoneDecides world caller (Certify key budget) t → NoneDecides world caller (Certify key budget) later
@@ -77,8 +73,3 @@ told_asked found old new request facts decision sender key budget t asks sent ca
   (λ h s. search_asked new.world request facts sender key budget t asks sent (caller h s)
       (subst (λ (d : Decision). IsDecided new.world facts request.action t d) allows (told.1 h s)) found is),
 )
-
--- the copy of a table is still one of the store's after a call that leaves the world
-pub copied_kept : (old new : Content) (copied : Option TableCopy) → Kept old new → IsCopied old copied → IsCopied new copied
-copied_kept old new None kept was = tt
-copied_kept old new (Some copy) kept was = carried (λ w. IsTableAt w copy.round copy.text) old new kept was

@@ -5,6 +5,8 @@ pub mod Shown
 pub mod Lines
 pub mod Totals
 pub mod TableCopy
+pub mod RoundCopy
+pub mod Copies
 pub mod Judged
 pub mod Step
 pub mod Run

@@ -16,6 +16,7 @@ ghost use Rattle.hall_desk.specs.Plans.{IsQuietPlan, IsSeedReply, AreStepped, No
 ghost use Rattle.hall_desk.specs.Plans.{StopsWithin, StopsInSeed, LeavesRun};
 
 use crate::census::Census;
+use crate::copies::Copies;
 use crate::memo::Memo;
 use crate::plan::Plan;
 use crate::planning::make_plan;
@@ -23,9 +24,9 @@ use crate::reply::Reply;
 use crate::seed::seed;
 use crate::serving::still_serves;
 use crate::step::{commit, run, step};
-use crate::table_copy::{TableCopy, left_by};
 use crate::under_way::{Searches, search_on};
 use crate::wanted::search_for;
+use crate::{round_copy, table_copy};
 use hall_policy::{Moment, People, Request};
 use hall_store::{Change, ReadStore, Store, StoreFault};
 use std::alloc::{AllocError, Global};
@@ -33,12 +34,12 @@ use std::marker::Model;
 
 /// What answers requests to the hall, one after another, over the world of its store; a contract sees the store.
 ///
-/// It keeps a copy of the table that it made last, until something is changed, the searches that requests wait for,
-/// and what a search found last.
+/// It keeps copies of the table that it made last and of the round that was read last, until what they tell of is
+/// changed, the searches that requests wait for, and what a search found last.
 #[derive(Drop)]
 pub struct Desk<S: ReadStore> {
     store: S,
-    copied: Option<TableCopy>,
+    copies: Copies,
     memo: Option<Memo>,
     searches: Option<Searches>,
     /// The device failed when the last write was to be made.
@@ -46,13 +47,13 @@ pub struct Desk<S: ReadStore> {
 }
 
 impl<S: ReadStore> Model for Desk<S> {
-    ghost use Rattle.hall_desk.specs.TableCopy.{IsCopied};
+    ghost use Rattle.hall_desk.specs.Copies.{AreCopied};
 
     ghost Value = { S };
 
     ghost view = { λ d. d.store };
 
-    ghost invariant = { λ d. IsCopied (S.content d.store) d.copied };
+    ghost invariant = { λ d. AreCopied (S.content d.store) d.copies };
 }
 
 impl<S: ReadStore> Desk<S> {
@@ -62,7 +63,7 @@ impl<S: ReadStore> Desk<S> {
     {
         Desk {
             store,
-            copied: None,
+            copies: Copies::none(),
             memo: None,
             searches: None,
             refuses_writes: false,
@@ -96,7 +97,7 @@ impl<S: ReadStore> Desk<S> {
             &mut self.store,
             t,
             request,
-            &mut self.copied,
+            &mut self.copies,
             &self.memo,
         )
     }
@@ -163,7 +164,8 @@ impl<S: Store> Desk<S> {
         ensures nothing { planned_change plan ≡ Change.Nothing → IsOk result × (kept_by self.new ≡ kept_by self.old) }
         ensures reply { IfOk result (λ reply. reply ≡ planned_reply plan) }
     {
-        self.copied = left_by(&plan, self.copied.take());
+        self.copies.table = table_copy::left_by(&plan, self.copies.table.take());
+        self.copies.round = round_copy::left_by(&plan, self.copies.round.take());
         let writes = is_change(&plan.change);
         let made = commit(alloc, &mut self.store, plan);
         if writes {
@@ -195,7 +197,7 @@ impl<S: Store> Desk<S> {
         ensures right { SaneThen RightAnswersAreSolutions (S.content (kept_by self.old))
             (S.content (kept_by self.new)) }
     {
-        self.copied = None;
+        self.copies = Copies::none();
         step(alloc, &mut self.store, t, request)
     }
 
@@ -216,7 +218,7 @@ impl<S: Store> Desk<S> {
         ensures fault { Fails (S.content (kept_by self.new)).can_fail result }
         ensures sane { SaneThen Sane (S.content (kept_by self.old)) (S.content (kept_by self.new)) }
     {
-        self.copied = None;
+        self.copies = Copies::none();
         seed(alloc, &mut self.store, people)
     }
 
@@ -263,7 +265,7 @@ impl<S: Store> Desk<S> {
             (S.content (kept_by self.new)) }
         ensures refused { OnErr result (kept_by self.new ≡ kept_by self.old) }
     {
-        self.copied = None;
+        self.copies = Copies::none();
         run(alloc, &mut self.store, requests)
     }
 }

@@ -3,16 +3,19 @@
 ghost use Rattle.std.specs.Prelude.{◌≡◌, ◌≢◌, ℕ, List, IfSome, IfNone, None};
 ghost use Rattle.hall_policy.specs.World.{World};
 ghost use Rattle.hall_policy.specs.Decided.{IsDecidedUpTo, PassesUpTo};
-ghost use Rattle.hall_policy.specs.declared.request.Action.TheVariants.{Table};
+ghost use Rattle.hall_policy.specs.declared.request.Action.TheVariants.{ReadRound, Table};
 ghost use Rattle.hall_policy.specs.declared.rule.Decision.TheVariants.{Deny};
 ghost use Rattle.hall_store.specs.Store.{Asks, Kept, Told};
 ghost use Rattle.hall_store.specs.declared.change.Change.{Change};
+ghost use Rattle.hall_desk.specs.Copies.{AreCopied};
+ghost use Rattle.hall_desk.specs.RoundCopy.{IsRoundCopied};
 ghost use Rattle.hall_desk.specs.TableCopy.{IsCopied};
 ghost use Rattle.hall_desk.specs.Lookups.{IsCaller};
 ghost use Rattle.hall_desk.specs.Plans.{IsPlanFor, Planned, FailsIn, IsAvailable, IsNobodys, IsQuietPlan};
 
 use crate::answers::Answers;
 use crate::certify_puzzle::Certify;
+use crate::copies::Copies;
 use crate::handler::Handler;
 use crate::import::Import;
 use crate::list_puzzles::ListPuzzles;
@@ -25,9 +28,10 @@ use crate::publish::Publish;
 use crate::put_puzzle::PutPuzzle;
 use crate::put_round::PutRound;
 use crate::read_puzzle::ReadPuzzle;
-use crate::read_round::ReadRound;
+use crate::read_round::plan_round;
 use crate::release::Release;
 use crate::reply::Reply;
+use crate::round_copy::RoundCopy;
 use crate::rule_protest::RuleProtest;
 use crate::solutions::Solutions;
 use crate::submit::Submit;
@@ -47,23 +51,23 @@ pub(crate) struct RequestAt<'a> {
 }
 
 /// What the request will be answered, and what it will change. Reads only, and for a denial nothing that a later rule
-/// asks. A table is the copy, where that is the round's; and what a search would find is what is remembered, where that
-/// is of the same puzzle and budget.
+/// asks. A table, or a round that is read, is the copy where that is the round's; and what a search would find is what
+/// is remembered, where that is of the same puzzle and budget.
 pub(crate) fn make_plan<S: ReadStore>(
     alloc: Global,
     store: &mut S,
     t: Moment,
     request: &Request,
-    copied: &mut Option<TableCopy>,
+    copies: &mut Copies,
     memo: &Option<Memo>,
 ) -> Result<Plan, StoreFault>
-    requires { IsCopied (S.content store.old) copied.old }
+    requires { AreCopied (S.content store.old) copies.old }
     ensures kept { Kept (S.content store.old) (S.content store.new) }
     ensures untouched { IsNobodys request.now → store.new ≡ store.old }
     ensures keyless { IsNobodys request.now → IsQuietPlan result }
     ensures fault { FailsIn (S.content store.new) result }
     ensures planned { Planned (S.content store.new) t request.now result }
-    ensures copied { IsCopied (S.content store.new) copied.new }
+    ensures copied { AreCopied (S.content store.new) copies.new }
 {
     let mut facts = no_facts();
     let asked = RequestAt {
@@ -73,8 +77,10 @@ pub(crate) fn make_plan<S: ReadStore>(
         memo,
     };
     let plan = match &request.action {
-        Action::Table { round } => plan_for_anyone(&asked, store, round, &mut facts, copied),
-        _ => plan_by_key(&asked, store, &mut facts),
+        Action::Table { round } => {
+            plan_for_anyone(&asked, store, round, &mut facts, &mut copies.table)
+        }
+        _ => plan_by_key(&asked, store, &mut facts, &mut copies.round),
     };
     drop(facts);
     plan
@@ -128,19 +134,22 @@ fn plan_by_key<S: ReadStore>(
     asked: &RequestAt,
     store: &mut S,
     facts: &mut Facts,
+    copied: &mut Option<RoundCopy>,
 ) -> Result<Plan, StoreFault>
     requires facts { facts.old.caller ≡ None }
+    requires copied { IsRoundCopied (S.content store.old) copied.old }
     requires action { (round : List ℕ) → asked.now.request.now.action ≢ Table round }
     ensures kept { Kept (S.content store.old) (S.content store.new) }
     ensures untouched { IsNobodys asked.now.request.now → store.new ≡ store.old }
     ensures keyless { IsNobodys asked.now.request.now → IsQuietPlan result }
     ensures fault { FailsIn (S.content store.new) result }
     ensures planned { Planned (S.content store.new) asked.now.t asked.now.request.now result }
+    ensures copied { IsRoundCopied (S.content store.new) copied.new }
 {
     match &asked.request.key {
         Some(key) => {
             facts.caller = store.person_by_key(asked.alloc, key)?;
-            plan_for_caller(asked, store, facts)
+            plan_for_caller(asked, store, facts, copied)
         }
         None => Ok(deny_without_key(asked, facts)),
     }
@@ -178,21 +187,27 @@ fn plan_for_caller<S: ReadStore>(
     asked: &RequestAt,
     store: &mut S,
     facts: &mut Facts,
+    copied: &mut Option<RoundCopy>,
 ) -> Result<Plan, StoreFault>
+    requires copied { IsRoundCopied (S.content store.old) copied.old }
     requires caller { Asks (S.content store.old) (λ world. IsCaller world asked.now.request.now.key facts.old.caller) }
     requires action { (round : List ℕ) → asked.now.request.now.action ≢ Table round }
     ensures kept { Kept (S.content store.old) (S.content store.new) }
     ensures fault { FailsIn (S.content store.new) result }
     ensures told { Told (S.content store.old) (S.content store.new) result
         (λ world plan. IsPlanFor world asked.now.t asked.now.request.now plan) }
+    ensures copied { IsRoundCopied (S.content store.new) copied.new }
 {
     match caller_rule(facts, &asked.request.action, asked.t) {
         Some(rule) => Ok(Plan::of(Reply::Denied(rule))),
-        None => dispatch(asked, store, facts),
+        None => match &asked.request.action {
+            Action::ReadRound { round } => plan_round(asked, store, round, facts, copied),
+            _ => dispatch(asked, store, facts),
+        },
     }
 }
 
-/// The plan of the request's action, by its handler. (A table has none.)
+/// The plan of the request's action, by its handler. (A table and a round that is read have none.)
 fn dispatch<S: ReadStore>(
     asked: &RequestAt,
     store: &mut S,
@@ -201,6 +216,7 @@ fn dispatch<S: ReadStore>(
     requires caller { Asks (S.content store.old) (λ world. IsCaller world asked.now.request.now.key facts.old.caller) }
     requires passed { PassesUpTo 3 facts.old asked.now.request.now.action asked.now.t }
     requires action { (round : List ℕ) → asked.now.request.now.action ≢ Table round }
+    requires reads { (round : List ℕ) → asked.now.request.now.action ≢ ReadRound round }
     ensures kept { Kept (S.content store.old) (S.content store.new) }
     ensures fault { FailsIn (S.content store.new) result }
     ensures told { Told (S.content store.old) (S.content store.new) result
@@ -217,7 +233,6 @@ fn dispatch<S: ReadStore>(
         Action::PutRound { round, sheet } => asked.handle(store, &PutRound { round, sheet }, facts),
         Action::Release { round } => asked.handle(store, &Release { round }, facts),
         Action::ListRounds => asked.handle(store, &ListRounds {}, facts),
-        Action::ReadRound { round } => asked.handle(store, &ReadRound { round }, facts),
         Action::Submit {
             round,
             number,
@@ -244,7 +259,7 @@ fn dispatch<S: ReadStore>(
             facts,
         ),
         Action::Publish { round } => asked.handle(store, &Publish { round }, facts),
-        Action::Table { .. } => unreachable!(),
+        Action::ReadRound { .. } | Action::Table { .. } => unreachable!(),
     }
 }
 

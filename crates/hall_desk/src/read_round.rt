@@ -2,63 +2,78 @@
 ghost use Rattle.std.specs.Prelude.{◌≡◌, ◌≢◌, ◌≤◌, ◌<◌, ◌+◌, None, length};
 ghost use Rattle.std.specs.FinMap.{get};
 ghost use Rattle.hall_policy.specs.Limits.{most_entries};
-ghost use Rattle.hall_store.specs.Store.{Asks, Kept, Told};
+ghost use Rattle.hall_policy.specs.World.{IsRoundAt};
+ghost use Rattle.hall_policy.specs.declared.request.Action.TheVariants as action;
+ghost use Rattle.hall_store.specs.Store.{Asks, Kept, Served, Told};
+ghost use Rattle.hall_desk.specs.Lookups.{IsCaller};
+ghost use Rattle.hall_desk.specs.RoundCopy.{IsRoundCopied, IsShownAt};
 ghost use Rattle.hall_desk.specs.Sane.{Sane};
 ghost use Rattle.hall_desk.specs.Shown.{ShowsRound, ShowsPuzzles, ShowsPuzzle};
-ghost use Rattle.hall_desk.specs.Plans.{FailsIn, AreKept};
+ghost use Rattle.hall_desk.specs.Plans.{FailsIn, AreKept, IsPlanFor};
 
-use crate::handler::Handler;
 use crate::plan::Plan;
+use crate::planning::RequestAt;
 use crate::put_puzzle::text_of;
 use crate::reply::{Reply, ShownPuzzle, ShownRound};
+use crate::round_copy::{RoundCopy, copy_of, shown_of};
 use crate::rows::{Rows, push};
-use hall_policy::{
-    Action, Decision, Entry, Facts, Moment, PuzzleNumber, RoundId, RoundRow, decide,
-};
-use hall_store::{Change, ReadStore, StoreFault};
-use std::alloc::{AllocError, Global};
+use hall_policy::{Decision, Entry, Facts, PuzzleNumber, RoundId, RoundRow, decide};
+use hall_store::{ReadStore, StoreFault};
+use std::alloc::Global;
 
-/// What is read: the round of this id.
-#[derive(Clone, Copy)]
-pub(crate) struct ReadRound<'a> {
-    pub(crate) round: &'a RoundId,
+/// The plan for a round that is read: by the copy, where it is this round's.
+pub(crate) fn plan_round<S: ReadStore>(
+    asked: &RequestAt,
+    store: &mut S,
+    round: &RoundId,
+    facts: &mut Facts,
+    copied: &mut Option<RoundCopy>,
+) -> Result<Plan, StoreFault>
+    requires action { asked.now.request.now.action ≡ action.ReadRound round.now }
+    requires copied { IsRoundCopied (S.content store.old) copied.old }
+    requires caller { Asks (S.content store.old) (λ world. IsCaller world asked.now.request.now.key facts.old.caller) }
+    ensures kept { Kept (S.content store.old) (S.content store.new) }
+    ensures fault { FailsIn (S.content store.new) result }
+    ensures told { Told (S.content store.old) (S.content store.new) result
+        (λ world plan. IsPlanFor world asked.now.t asked.now.request.now plan) }
+    ensures copied { IsRoundCopied (S.content store.new) copied.new }
+{
+    facts.round = store.round(asked.alloc, round)?;
+    match decide(facts, &asked.request.action, asked.t) {
+        Decision::Deny(rule) => Ok(Plan::of(Reply::Denied(rule))),
+        Decision::Repeat => unreachable!(),
+        Decision::Allow => {
+            let Some(row) = &facts.round else {
+                unreachable!()
+            };
+            let shown = make_shown(asked.alloc, store, round, row, copied)?;
+            Ok(Plan::of(Reply::ReadRound(shown)))
+        }
+    }
 }
 
-impl<'a> Handler for ReadRound<'a> {
-    ghost use Rattle.hall_desk.specs.Handler.{read_round_action};
-
-    ghost action_of = { read_round_action };
-
-    fn decision<S: ReadStore>(
-        &self,
-        alloc: Global,
-        store: &mut S,
-        t: Moment,
-        action: &Action,
-        facts: &mut Facts,
-    ) -> Result<Decision, StoreFault> {
-        facts.round = store.round(alloc, self.round)?;
-        Ok(decide(facts, action, t))
+/// The round as it is read, of which a copy is kept where there is memory for it.
+fn make_shown<S: ReadStore>(
+    alloc: Global,
+    store: &mut S,
+    round: &RoundId,
+    row: &RoundRow,
+    copied: &mut Option<RoundCopy>,
+) -> Result<ShownRound, StoreFault>
+    requires row { (S.content store.old).honest → (S.content store.old).serves
+        × IsRoundAt (S.content store.old).world round.now row.now }
+    requires copied { IsRoundCopied (S.content store.old) copied.old }
+    ensures kept { Kept (S.content store.old) (S.content store.new) }
+    ensures fault { FailsIn (S.content store.new) result }
+    ensures served { Served (S.content store.new) result (λ world shown. IsShownAt world round.now shown) }
+    ensures copied { IsRoundCopied (S.content store.new) copied.new }
+{
+    if let Some(shown) = shown_of(alloc, copied, round)? {
+        return Ok(shown);
     }
-
-    fn first_reply(&self, _facts: &Facts) -> Result<Option<Reply>, AllocError> {
-        Ok(None)
-    }
-
-    /// The round with its puzzles' texts.
-    fn plan<S: ReadStore>(
-        &self,
-        alloc: Global,
-        store: &mut S,
-        _t: Moment,
-        facts: &Facts,
-    ) -> Result<Plan, StoreFault> {
-        let Some(row) = &facts.round else {
-            unreachable!()
-        };
-        let shown = show_round(alloc, store, row)?;
-        Ok(Plan::of(Reply::ReadRound(shown)))
-    }
+    let shown = show_round(alloc, store, row)?;
+    *copied = copy_of(alloc, round, &shown).ok();
+    Ok(shown)
 }
 
 /// The round as it is read.

@@ -9,6 +9,7 @@ ghost use Rattle.hall_desk.specs.Plans.{IsStepOver, StopsWithin, LeavesRun, Runs
 ghost use Rattle.hall_desk.specs.Plans.{IsAvailable};
 ghost use Rattle.hall_desk.specs.Plans.{NobodysAreAnswered, WritesIfAny};
 
+use crate::copies::Copies;
 use crate::plan::Plan;
 use crate::planning::make_plan;
 use crate::reply::Reply;
@@ -94,7 +95,7 @@ fn make_step<S: Store>(alloc: Global, store: &mut S, t: Moment, request: &Reques
     ensures answered { IsNobodys request.now → IsAvailable result }
     ensures untouched { IsNobodys request.now → store.new ≡ store.old }
 {
-    let made = make_plan(alloc, store, t, request, &mut None, &None);
+    let made = make_plan(alloc, store, t, request, &mut Copies::none(), &None);
     match made {
         Ok(plan) => match commit(alloc, store, plan) {
             Ok(reply) => reply,

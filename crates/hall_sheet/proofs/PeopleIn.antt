@@ -1,66 +1,108 @@
 -- The people of a list, row by row.
-use Rattle.std.proofs.Common.{◌≡◌, ◌∙◌, ◌-◌, ◌<◌, ℕ, List, [], ◌∷◌, ◌++◌, length, Some, None, Result, Ok, Err, refl, sym, ap, arith, length-append}
-use Rattle.csv.specs.Reading.{default_config, strip_bom, records}
+use Rattle.std.proofs.Common.{◌≡◌, ◌∙◌, ◌-◌, ◌<◌, nat_lt, ℕ, Bool, true, false, List, [], ◌∷◌, ◌++◌, length, Some, None, Result, Ok, Err, inl, inr, refl, sym, ap, subst, arith, ltb-true, length-append}
+use Rattle.std.specs.List.{list_any}
 use Rattle.csv.specs.Records.{Row, fields_of}
 use Rattle.hall_policy.specs.Limits.{most_people}
 use Rattle.hall_policy.specs.Lists.{ArePeople}
+use Rattle.hall_policy.specs.Reading.{◌>>=◌, unless}
 use Rattle.hall_policy.specs.declared.record.Person.{Person}
+use Rattle.hall_sheet.specs.declared.fault.Field.TheVariants as field
 use Rattle.hall_sheet.specs.declared.fault.Refusal.{Refusal}
+use Rattle.hall_sheet.specs.declared.fault.Refusal.TheVariants.{Range, Repeated}
 use Rattle.hall_sheet.specs.declared.fault.SheetFault.{SheetFault}
 use Rattle.hall_sheet.specs.declared.fault.SheetFault.TheVariants as fault
-use Rattle.hall_sheet.specs.declared.list.Listed.{Listed}
 use Rattle.hall_sheet.specs.Given.{SheetFails}
-use Rattle.hall_sheet.specs.List.{Rows, HasLeft, TakesRow, TakesHeader, IsListed, AddsRow}
-use Rattle.hall_sheet.specs.People.{person_after, people_from, people_in}
+use Rattle.hall_sheet.specs.List.{Rows, HasLeft, TakesRow, AddsRow, UnlessRepeated, IsRead, spelled_after}
+use Rattle.hall_sheet.specs.People.{new_after, person_of, people_from}
+use Rattle.hall_sheet.proofs.IsListed.{are_one, people_more, people_before, people_twice}
 
--- the people so far, and those of the rows that are left, are the people of the bytes
-pub record Kept (bytes : List ℕ) (rows : Rows) (list : Listed) : Type 0 where
+-- the people so far, and those of the rows that are left, are all, unless one is there twice
+pub record Kept (all : Result (List Person) Refusal) (rows : Rows) (people : List Person) : Type 0 where
   pub left : List (List (List ℕ))
-  pub people : List Person
   pub has : HasLeft rows left
-  pub listed : IsListed list people
-  pub so_far : people_in bytes ≡ people_from people left
+  pub so_far : UnlessRepeated people all (all ≡ people_from people left)
 
-pub begun : (bytes : List ℕ) (rows : Rows) (list : Listed)
-    → TakesHeader (Ok tt) (records default_config (strip_bom bytes)) rows → IsListed list [] → Kept bytes rows list
-begun bytes rows list h none = record { left = h.0; people = []; has = h.1; listed = none; so_far = h.2 }
+pub begun : (rows : Rows) (people : List Person) (left : List (List (List ℕ))) → people ≡ [] → HasLeft rows left → Kept (people_from [] left) rows people
+begun rows people left none has = subst (λ (before : List Person). Kept (people_from [] left) rows before) (sym none)
+    (record { left = left; has = has; so_far = inl (record { few = omega arith; different = λ i j d less low. absurd (omega (arith, low)) }, refl) })
 
-pub refused_header : (bytes : List ℕ) (e : SheetFault) (rows : Rows)
-    → TakesHeader (Err e) (records default_config (strip_bom bytes)) rows → SheetFails e (people_in bytes)
-refused_header bytes e rows h = h
+-- a person was spelled, so there was room
+room : (r : Bool) (spelled : Result Person Refusal) (person : Person) → (unless (Range field.List) r >>= (λ _. spelled)) ≡ Ok person → r ≡ true
+room true spelled person e = refl
+room false spelled person e = cc e
 
-pub gone_on : (bytes : List ℕ) (a b : Rows) (c d : Listed) (row : Row) (k : Kept bytes a c) → TakesRow (Some row) k.left b
-    → AddsRow (Ok tt) k.people (fields_of row) d → Kept bytes b d
-gone_on bytes a b c d row k took adds = record {
+low : (before : List Person) (fields : List (List ℕ)) (person : Person) → spelled_after before fields ≡ Ok person → length before < most_people
+low before fields person e = ltb-true (length before) most_people (room (nat_lt (length before) most_people) (person_of fields) person e)
+
+-- one more person after these, of whom none is there twice
+grown : (all : Result (List Person) Refusal) (people : List Person) (person : Person) (b : Bool) → list_any (λ p. are_one p person) people ≡ b → length people < most_people →
+    (more : List (List (List ℕ))) → ArePeople people → all ≡ (new_after people person >>= (λ q. people_from (people ++ q ∷ []) more)) →
+    UnlessRepeated (people ++ person ∷ []) all (all ≡ people_from (people ++ person ∷ []) more)
+grown all people person true some below more are so_far = inr (people_twice people person some, so_far ∙ rw some refl)
+grown all people person false none below more are so_far = inl (people_more people person are below none, so_far ∙ rw none refl)
+
+-- where one is there twice already, so it is among more
+more_twice : (all : Result (List Person) Refusal) (people : List Person) (person : Person) (Then : Type 0) → ¬ (ArePeople people) → all ≡ Err Repeated → UnlessRepeated (people ++ person ∷ []) all Then
+more_twice all people person Then twice is = inr ((λ are. twice (people_before people person are)), is)
+
+added : (all : Result (List Person) Refusal) (people : List Person) (fields : List (List ℕ)) (left more : List (List (List ℕ))) (person : Person) →
+    left ≡ fields ∷ more → spelled_after people fields ≡ Ok person → UnlessRepeated people all (all ≡ people_from people left) →
+    UnlessRepeated (people ++ person ∷ []) all (all ≡ people_from (people ++ person ∷ []) more)
+added all people fields left more person took spelled (inl (are, so_far)) =
+    grown all people person (list_any (λ p. are_one p person) people) refl (low people fields person spelled) more are (so_far ∙ rw (took, spelled) refl)
+added all people fields left more person took spelled (inr (twice, is)) = more_twice all people person (all ≡ people_from (people ++ person ∷ []) more) twice is
+
+pub gone_on : (all : Result (List Person) Refusal) (a b : Rows) (people after : List Person) (row : Row) (k : Kept all a people) → TakesRow (Some row) k.left b →
+    AddsRow (Ok tt) people (fields_of row) after → Kept all b after
+gone_on all a b people after row k took (person, spelled, is) = subst (λ (now : List Person). Kept all b now) (sym is) (record {
   left = took.0;
-  people = k.people ++ adds.0 ∷ [];
   has = took.2;
-  listed = adds.2;
-  so_far = k.so_far ∙ rw (took.1, adds.1) refl;
-}
+  so_far = added all people (fields_of row) k.left took.0 person took.1 spelled k.so_far;
+})
 
-pub nearer : (bytes : List ℕ) (a : Rows) (c d : Listed) (row : Row) (k : Kept bytes a c)
-    → AddsRow (Ok tt) k.people (fields_of row) d → most_people - length d.people.items < most_people - length c.people.items
-nearer bytes a c d row k adds =
-    let more = length-append k.people (adds.0 ∷ []) in
-    let before : length c.people.items ≡ length k.people = ap length k.listed.people in
-    let after : length d.people.items ≡ length (k.people ++ adds.0 ∷ []) = ap length adds.2.people in
-    omega (arith, more, before, after, adds.2.valid.few)
+pub nearer : (people after : List Person) (row : Row) → AddsRow (Ok tt) people (fields_of row) after → most_people - length after < most_people - length people
+nearer people after row (person, spelled, is) =
+    let below : length people < most_people = low people (fields_of row) person spelled in
+    omega (arith, below, ap length is, length-append people (person ∷ []))
 
-fails_at : (e : SheetFault) (people : List Person) (row : Row) (left more : List (List (List ℕ)))
-    (all : Result (List Person) Refusal) → left ≡ fields_of row ∷ more → all ≡ people_from people left
-    → SheetFails e (person_after people (fields_of row)) → SheetFails e all
-fails_at fault.Memory people row left more all is so_far f = tt
-fails_at (fault.Refused r) people row left more all is so_far f = so_far ∙ rw (is, f) refl
+fails_at : (e : SheetFault) (all : Result (List Person) Refusal) (people : List Person) (fields : List (List ℕ)) (left more : List (List (List ℕ))) →
+    left ≡ fields ∷ more → all ≡ people_from people left → SheetFails e (spelled_after people fields) → SheetFails e all
+fails_at fault.Memory all people fields left more took so_far fails = tt
+fails_at (fault.Refused r) all people fields left more took so_far fails = so_far ∙ rw (took, fails) refl
 
-pub refused : (bytes : List ℕ) (a b : Rows) (c d : Listed) (row : Row) (e : SheetFault) (k : Kept bytes a c)
-    → TakesRow (Some row) k.left b → AddsRow (Err e) k.people (fields_of row) d → SheetFails e (people_in bytes)
-refused bytes a b c d row e k took adds =
-    fails_at e k.people row k.left took.0 (people_in bytes) took.1 k.so_far adds
+pub refused : (all : Result (List Person) Refusal) (a b : Rows) (people after : List Person) (row : Row) (e : SheetFault) (k : Kept all a people) → TakesRow (Some row) k.left b →
+    AddsRow (Err e) people (fields_of row) after → IsRead (Err e) after all
+refused all a b people after row e k took (fails, is) = subst (λ (now : List Person). IsRead (Err e) now all) (sym is) (by k.so_far)
+  where
+    by : UnlessRepeated people all (all ≡ people_from people k.left) → UnlessRepeated people all (SheetFails e all)
+    by (inl (are, so_far)) = inl (are, fails_at e all people (fields_of row) k.left took.0 took.1 so_far fails)
+    by (inr twice) = inr twice
 
-pub ended : (bytes : List ℕ) (a b : Rows) (c : Listed) (people : List Person) (k : Kept bytes a c) → TakesRow None k.left b
-    → people ≡ c.people.items → people_in bytes ≡ Ok people
-ended bytes a b c people k took is = k.so_far ∙ rw took (ap Ok (sym (is ∙ k.listed.people)))
+pub out_of_memory : (all : Result (List Person) Refusal) (a : Rows) (people : List Person) (e : SheetFault) → Kept all a people → e ≡ fault.Memory → IsRead (Err e) people all
+out_of_memory all a people e k is = subst (λ (f : SheetFault). IsRead (Err f) people all) (sym is) (by k.so_far)
+  where
+    by : UnlessRepeated people all (all ≡ people_from people k.left) → IsRead (Err fault.Memory) people all
+    by (inl (are, so_far)) = inl (are, tt)
+    by (inr twice) = inr twice
 
-pub are_people : (bytes : List ℕ) (a : Rows) (c : Listed) → Kept bytes a c → ArePeople c.people.items
-are_people bytes a c k = rw k.listed.people k.listed.valid
+pub ended : (all : Result (List Person) Refusal) (a b : Rows) (people : List Person) (k : Kept all a people) → TakesRow None k.left b → IsRead (Ok tt) people all
+ended all a b people k took = by k.so_far
+  where
+    by : UnlessRepeated people all (all ≡ people_from people k.left) → IsRead (Ok tt) people all
+    by (inl (are, so_far)) = inl (are, so_far ∙ rw took refl)
+    by (inr twice) = inr twice
+
+-- what is given of the people that were read
+pub given_twice : (read : Result (Unit {0}) SheetFault) (people : List Person) (all : Result (List Person) Refusal) → ¬ (ArePeople people) → IsRead read people all → all ≡ Err Repeated
+given_twice (Ok done) people all twice (inl (are, is)) = absurd (twice are)
+given_twice (Ok done) people all twice (inr (lacking, is)) = is
+given_twice (Err e) people all twice (inl (are, is)) = absurd (twice are)
+given_twice (Err e) people all twice (inr (lacking, is)) = is
+
+pub given_all : (people : List Person) (all : Result (List Person) Refusal) → ArePeople people → IsRead (Ok tt) people all → all ≡ Ok people
+given_all people all are (inl (same, is)) = is
+given_all people all are (inr (lacking, is)) = absurd (lacking are)
+
+pub given_fault : (e : SheetFault) (people : List Person) (all : Result (List Person) Refusal) → ArePeople people → IsRead (Err e) people all → SheetFails e all
+given_fault e people all are (inl (same, is)) = is
+given_fault e people all are (inr (lacking, is)) = absurd (lacking are)

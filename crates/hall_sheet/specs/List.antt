@@ -1,24 +1,23 @@
 -- An entry list that is read row by row: the rows that are left, and the people so far.
-use Rattle.std.specs.Prelude.{◌≡◌, ◌<◌, ℕ, List, [], ◌∷◌, ◌++◌, length, Bool, true, false, Option, Some, None}
+use Rattle.std.specs.Prelude.{◌≡◌, ◌⊎◌, ◌<◌, nat_lt, ℕ, List, [], ◌∷◌, ◌++◌, length, false, Option, Some, None}
 use Rattle.std.specs.Prelude.{Result, Ok, Err}
 use Rattle.std.specs.Borrow.{Bor}
-use Rattle.std.specs.List.{list_any}
-use Rattle.std.specs.Str.{bytes_eq}
-use Rattle.std.specs.BTreeSet.{BTreeSet, contains}
 use Rattle.csv.specs.Machine.{ends_at_end}
 use Rattle.csv.specs.Reading.{default_config, records_from, source_of, reader_config, reader_state, reader_trim, Ready}
 use Rattle.csv.specs.Reading.{owned_rows_reader, owned_rows_left}
 use Rattle.csv.specs.Records.{Row, fields_of}
 use Rattle.csv.specs.declared.iter.ByteRecordsIntoIter.{ByteRecordsIntoIter}
 use Rattle.csv.specs.declared.reader.Trim.TheVariants as trim
-use Rattle.hall_policy.specs.Text.{text_cmp}
+use Rattle.hall_policy.specs.Limits.{most_people}
 use Rattle.hall_policy.specs.Lists.{ArePeople}
+use Rattle.hall_policy.specs.Reading.{◌>>=◌, unless}
 use Rattle.hall_policy.specs.declared.record.Person.{Person}
-use Rattle.hall_sheet.specs.declared.fault.Refusal.TheVariants.{Repeated}
+use Rattle.hall_sheet.specs.declared.fault.Field.TheVariants as field
+use Rattle.hall_sheet.specs.declared.fault.Refusal.{Refusal}
+use Rattle.hall_sheet.specs.declared.fault.Refusal.TheVariants.{Range, Repeated}
 use Rattle.hall_sheet.specs.declared.fault.SheetFault.{SheetFault}
-use Rattle.hall_sheet.specs.declared.list.Listed.{Listed}
 use Rattle.hall_sheet.specs.Given.{SheetFails}
-use Rattle.hall_sheet.specs.People.{new_after, person_after, people_from, people_of}
+use Rattle.hall_sheet.specs.People.{person_of, people_from, people_of}
 
 -- an iterator over the rows of some bytes, between two rows
 abbrev pub Rows : Type 0
@@ -48,25 +47,21 @@ TakesHeader (Ok done) left rows =
     (more : List (List (List ℕ))) × HasLeft rows more × (people_of left ≡ people_from [] more)
 TakesHeader (Err e) left rows = SheetFails e (people_of left)
 
--- the set has the texts that the people have, and no other
-abbrev pub AreTexts : (Person → List ℕ) → List Person → BTreeSet (List ℕ) → Type 0
-AreTexts text people seen =
-    (q : List ℕ) → contains text_cmp seen q ≡ list_any (λ (p : Person). bytes_eq (text p) q) people
+-- the person of the record after people who are at most 4,999, whether new among them or not
+abbrev pub spelled_after : List Person → List (List ℕ) → Result Person Refusal
+spelled_after before fields = unless (Range field.List) (nat_lt (length before) most_people) >>= (λ _. person_of fields)
 
--- these are the people so far, and their names and keys
-pub record IsListed (listed : Listed) (so_far : List Person) : Type 0 where
-  pub people : listed.people.items ≡ so_far
-  pub names : AreTexts (λ (p : Person). p.name) so_far listed.names
-  pub keys : AreTexts (λ (p : Person). p.key) so_far listed.keys
-  pub valid : ArePeople so_far
+-- the person of a row was added, or the row has none and the people are those before
+abbrev pub AddsRow : Result (Unit {0}) SheetFault → List Person → List (List ℕ) → List Person → Type 0
+AddsRow (Ok done) before fields after =
+    (person : Person) × (spelled_after before fields ≡ Ok person) × (after ≡ before ++ person ∷ [])
+AddsRow (Err e) before fields after = SheetFails e (spelled_after before fields) × (after ≡ before)
 
--- the person is new and was added, or isn't new
-abbrev pub Adds : Bool → List Person → Person → Listed → Type 0
-Adds true before person listed = (new_after before person ≡ Ok person) × IsListed listed (before ++ person ∷ [])
-Adds false before person listed = new_after before person ≡ Err Repeated
+-- of people of whom none has a name or a key of another, this is true; and where one has, that is the first fault
+abbrev pub UnlessRepeated : List Person → Result (List Person) Refusal → Type 0 → Type 0
+UnlessRepeated people all Then = (ArePeople people × Then) ⊎ ((¬ (ArePeople people)) × (all ≡ Err Repeated))
 
--- the person of a row was added, or the row has none
-abbrev pub AddsRow : Result (Unit {0}) SheetFault → List Person → List (List ℕ) → Listed → Type 0
-AddsRow (Ok done) before fields listed =
-    (person : Person) × (person_after before fields ≡ Ok person) × IsListed listed (before ++ person ∷ [])
-AddsRow (Err e) before fields listed = SheetFails e (person_after before fields)
+-- these people were read, and they are all or the reading ended with the first fault, unless one is there twice
+abbrev pub IsRead : Result (Unit {0}) SheetFault → List Person → Result (List Person) Refusal → Type 0
+IsRead (Ok done) people all = UnlessRepeated people all (all ≡ Ok people)
+IsRead (Err e) people all = UnlessRepeated people all (SheetFails e all)

@@ -1,20 +1,19 @@
 //! Entry lists.
-ghost use Rattle.std.specs.Prelude.{◌≡◌, ◌++◌, ◌∷◌, [], ◌<◌, ℕ, List, length, IfOk, IfErr, Ok};
+ghost use Rattle.std.specs.Prelude.{◌≡◌, ◌++◌, ◌∷◌, [], ℕ, List, Result, IfOk, IfErr, OnOk, OnErr};
 ghost use Rattle.csv.specs.Reading.{default_config, strip_bom, records};
 ghost use Rattle.csv.specs.Records.{fields_of};
-ghost use Rattle.hall_policy.specs.Limits.{most_people};
 ghost use Rattle.hall_policy.specs.declared.record.Person.{Person};
+ghost use Rattle.hall_sheet.specs.declared.fault.Refusal.{Refusal as Refused};
 ghost use Rattle.hall_sheet.specs.declared.fault.SheetFault.TheVariants.{Memory};
 ghost use Rattle.hall_sheet.specs.Given.{Gives};
-ghost use Rattle.hall_sheet.specs.People.{texts_in, header_in, person_of, people_in};
-ghost use Rattle.hall_sheet.specs.List.{HasLeft, TakesRow, TakesHeader, IsListed, Adds, AddsRow};
+ghost use Rattle.hall_sheet.specs.People.{texts_in, header_in, person_of, people_from, people_in};
+ghost use Rattle.hall_sheet.specs.List.{HasLeft, TakesRow, TakesHeader, AddsRow, IsRead};
 
 use crate::entry::read_line;
 use crate::fault::{Field, Refusal, SheetFault};
 use csv::{ByteRecord, ByteRecordsIntoIter, ReaderBuilder, StringRecord};
-use hall_policy::{Key, MOST_PEOPLE, Name, People, Person, is_new};
+use hall_policy::{MOST_PEOPLE, People, Person};
 use std::alloc::{AllocError, Global};
-use std::collections::BTreeSet;
 
 const SYNTAX: SheetFault = SheetFault::Refused(Refusal::Syntax);
 
@@ -83,66 +82,69 @@ fn read_person(alloc: Global, row: ByteRecord) -> Result<Person, SheetFault>
     read_line(&row)?.person(alloc)
 }
 
-/// The people so far, with their names and keys.
-#[derive(Drop)]
-struct Listed {
-    people: Vec<Person>,
-    names: BTreeSet<Name>,
-    keys: BTreeSet<Key>,
+/// Puts the person at the end; refused, it leaves the others.
+fn push(people: &mut Vec<Person>, person: Person) -> Result<(), AllocError>
+    ensures ok { OnOk result (people.new.items ≡ people.old.items ++ person ∷ []) }
+    ensures err { OnErr result (people.new.items ≡ people.old.items) }
+{
+    people.push(person)?;
+    Ok(())
 }
 
-impl Listed {
-    /// Nobody.
-    fn new(alloc: Global) -> Listed
-        ensures { IsListed result [] }
-    {
-        Listed {
-            people: Vec::new(alloc),
-            names: BTreeSet::new(alloc),
-            keys: BTreeSet::new(alloc),
-        }
+/// Adds the person of a row, also one with a name or a key of before, where the people are fewer than `MOST_PEOPLE`.
+fn add_row(alloc: Global, people: &mut Vec<Person>, row: ByteRecord) -> Result<(), SheetFault>
+    ensures { AddsRow result people.old.items (fields_of row) people.new.items }
+{
+    if people.len() >= MOST_PEOPLE {
+        return Err(SheetFault::Refused(Refusal::Range(Field::List)));
     }
+    let person = read_person(alloc, row)?;
+    push(people, person)?;
+    Ok(())
+}
 
-    /// Adds the person, and tells whether name and key were new; where they weren't, the list is of no more use.
-    fn add(&mut self, person: Person) -> Result<bool, AllocError>
-        requires { length self.old.people.items < most_people }
-        ensures { (before : List Person) → IsListed self.old before
-            → IfOk result (λ new. Adds new before person self.new) }
-    {
-        if !is_new(&mut self.names, &person.name)? || !is_new(&mut self.keys, &person.key)? {
-            return Ok(false);
-        }
-        self.people.push(person)?;
-        Ok(true)
+/// Adds the people of the rows, as long as each spells one.
+fn read_rows(
+    alloc: Global,
+    rows: &mut ByteRecordsIntoIter<&[u8]>,
+    people: &mut Vec<Person>,
+) -> Result<(), SheetFault>
+    requires { people.old.items ≡ [] }
+    ensures { (left : List (List (List ℕ))) → HasLeft rows.old left
+        → IsRead result people.new.items (people_from [] left) }
+{
+    while let Some(row) = next_row(rows)? {
+        add_row(alloc, people, row)?;
     }
+    Ok(())
+}
 
-    /// Adds the person of a row.
-    fn add_row(&mut self, alloc: Global, row: ByteRecord) -> Result<(), SheetFault>
-        ensures { (before : List Person) → IsListed self.old before → AddsRow result before (fields_of row) self.new }
-    {
-        if self.people.len() >= MOST_PEOPLE {
-            return Err(SheetFault::Refused(Refusal::Range(Field::List)));
-        }
-        if self.add(read_person(alloc, row)?)? {
-            Ok(())
-        } else {
-            Err(SheetFault::Refused(Refusal::Repeated))
-        }
+/// The people that were read, where none has a name or a key of one before, and else that; then what was wrong.
+fn unless_repeated(
+    alloc: Global,
+    people: Vec<Person>,
+    read: Result<(), SheetFault>,
+) -> Result<People, SheetFault>
+    ensures { (all : Result (List Person) Refused) → IsRead read people.items all → Gives (λ people. people) result all }
+{
+    let Some(people) = People::new(alloc, people)? else {
+        return Err(SheetFault::Refused(Refusal::Repeated));
+    };
+    match read {
+        Ok(()) => Ok(people),
+        Err(fault) => Err(fault),
     }
 }
 
 /// The people of an entry list, or the first thing that is wrong with its bytes.
+///
+/// A name or a key that stands twice is sought once, among all that was read, and comes before what ended the reading.
 pub fn read_people(alloc: Global, bytes: &[u8]) -> Result<People, SheetFault>
     ensures { Gives (λ people. people) result (people_in bytes.now) }
 {
     let mut rows = rows_of(alloc, bytes);
     read_header(&mut rows)?;
-    let mut list = Listed::new(alloc);
-    while let Some(row) = next_row(&mut rows)? {
-        list.add_row(alloc, row)?;
-    }
-    match People::new(alloc, list.people)? {
-        Some(people) => Ok(people),
-        None => unreachable!(),
-    }
+    let mut people = Vec::new(alloc);
+    let read = read_rows(alloc, &mut rows, &mut people);
+    unless_repeated(alloc, people, read)
 }

@@ -10,9 +10,9 @@ PUZZLES = 25
 
 def fill(path, answers, tables=TABLES):
     """A round that runs now (`now`) and a published one (`then`), each with 25 puzzles; `answers` answers of others in
-    the first, and 1,000 in the second."""
+    the first, 10 of eve's and 50 of ivy's, and 1,000 of others in the second."""
     now, entrants = int(time.time()), [f"e{k}" for k in range(max(20, answers // 1000))]
-    names = ["eve", *(f"s{k}" for k in range(40)), *entrants]
+    names = ["eve", "ivy", *(f"s{k}" for k in range(40)), *entrants]
     places = [(round, k + 1, f"p{k}") for round in ("now", "then") for k in range(PUZZLES)]
     rounds = [("now", "Now", now - 600, 1440, 60, 0), ("then", "Then", now - 100_000, 60, 0, 1)]
     conn = sqlite3.connect(path)
@@ -25,6 +25,7 @@ def fill(path, answers, tables=TABLES):
     conn.executemany("INSERT INTO round_puzzles VALUES (?, ?, 'bob', ?, 40)", places)
     rows = [*handed_in("now", answers, entrants, now - 500), *handed_in("then", 1000, entrants, now - 99_000)]
     rows += [("eve", "now", 1, f"t{k}", k + 1, now - 400, WRONG, 20) for k in range(10)]
+    rows += handed_in("now", 2 * PUZZLES, ["ivy"], now - 400)
     conn.executemany("INSERT INTO answers VALUES (?, ?, ?, ?, ?, ?, ?, ?)", rows)
     conn.commit()
     conn.close()
@@ -37,12 +38,15 @@ def handed_in(round, count, entrants, moment):
         yield entrants[k % len(entrants)], round, place + 1, f"t{turn}", turn + 1, moment, WRONG, 20
 
 
-def requests(kind, count):
-    for k in range(count):
+def requests(kind, count, first=0):
+    """So many requests of a kind. Of Submits, the one at this place and those after it."""
+    for k in range(first, first + count):
         if kind == "ReadRound":
             yield "GET", "/rounds/now", "eve-key-eve", None
         elif kind == "Answers":
             yield "GET", "/rounds/now/answers", "eve-key-eve", None
+        elif kind == "50 Answers":
+            yield "GET", "/rounds/now/answers", "ivy-key-ivy", None
         elif kind == "Table":
             yield "GET", "/rounds/then/table", "", None
         else:
