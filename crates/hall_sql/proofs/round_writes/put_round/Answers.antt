@@ -14,11 +14,12 @@ use Rattle.hall_sql.proofs.round_writes.put_round.Goals as goal
 
 pub returns-in-Ok-clause-wrote : goal.returns-in-Ok-clause-wrote
 returns-in-Ok-clause-wrote g c =
+    let same : c.conn-2-1.given.0 ≡ c.commit.new.self.0 = search rules in
     let it = rw c.transaction-tx.ensures.begun at c.in_ok-put_inside.ensures in
-    let done : MakesInTables {R = Unit} {E = StoreFault} (PutRound c.args.row.now) (state g.S.Store c.args.conn.now) _ (Ok tt) =
-    committed_wrote g.S.Store c.args.conn.now c.requires.hall c.live.ensures (PutRound c.args.row.now) tt (state g.S.Store c.put_inside.new.tx.conn.now) _
-    it.carries it.done c.in-Ok.ensures.survives c.in-Ok.ensures.ended c.in-Ok.ensures.ok in
-    search rules
+    let end = state g.S.Store c.commit.new.self.0 in
+    subst (λ h. MakesInTables {R = Unit} {E = StoreFault} (PutRound c.args.row.now) (state g.S.Store c.args.conn.now) (state g.S.Store h) (Ok tt)) (sym same)
+    (committed_wrote g.S.Store c.args.conn.now c.requires.hall c.live.ensures (PutRound c.args.row.now) tt (state g.S.Store c.put_inside.new.tx.conn.now) end
+    it.carries it.done c.in-Ok.ensures.survives c.in-Ok.ensures.ended c.in-Ok.ensures.ok)
 
 pub returns-in-Ok-clause-rows : goal.returns-in-Ok-clause-rows
 returns-in-Ok-clause-rows g c =
