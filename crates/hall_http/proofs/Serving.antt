@@ -116,11 +116,13 @@ module _ {D H : Type 0} (kept : D → H) (content : H → Content) where
       let clash = sym stays ∙ shut in
       absurd cc
   ended_unavailable h (x ∷ []) i (n, (m, (read, rested, says), same), (left, rests)) opened shut =
-      ([], x, refl, says.3 (sym (still_on reads n left i rests ∙ ap (λ (z : D × Bool). z.1) same) ∙ shut))
+      let (refused, reached) =
+      says.3 (sym (still_on reads n left i rests ∙ ap (λ (z : D × Bool). z.1) same) ∙ shut) in
+      ([], x, refl, refused, reached)
   ended_unavailable h (x ∷ y ∷ xs) i (n, (m, first, more), after) opened shut =
-      let (front, last, is, unavailable) =
+      let (front, last, is, refused, reached) =
       ended_unavailable m (y ∷ xs) i (n, more, after) (went_on m (y ∷ xs) n more (λ e. absurd cc)) shut in
-      (x ∷ front, last, ap (λ (ys : List Exchange). x ∷ ys) is, unavailable)
+      (x ∷ front, last, ap (λ (ys : List Exchange). x ∷ ys) is, refused, reached)
 
   pub while_open : (h : D × Bool) (xs : List Exchange) (i : D × Bool) → RestingSession answers (still reads) h xs i
       → AreAnsweredWhileOpen content (kept h.0) xs (kept i.0)
