@@ -18,8 +18,8 @@ AnswersAgree =
     IsTimed (asked.moment, asked.request) → IsAnswered world asked given new → IsAnswered world asked other next →
     (given ≡ other) × (new ≡ next)
 
--- two steps from a sane world by one moment and request, neither of them Unavailable, have one reply and one next world,
--- whatever searches would find; only a Certify runs one
+-- two steps from a sane world by one moment and request, neither of them Unavailable, have one reply and one next
+-- world, whatever searches would find; only a Certify runs one
 abbrev pub StepsAgree : Type 0
 StepsAgree =
     (world : World) (t : ℕ) (request : Request) (given other : Reply) (new next : World) → Sane world →

@@ -33,8 +33,8 @@ pub record StaysReleased (world later : World) (id : List ℕ) (round : Round) :
   pub places : (number : ℕ) → place_of later id number ≡ place_of world id number
   pub testers : (name : List ℕ) → IsTesterOf later id name ↔ IsTesterOf world id name
 
--- a puzzle of a released round as it stays: its whole row but for the state, which a search may set, and only where none
--- came to an end yet
+-- a puzzle of a released round as it stays: its whole row but for the state, which a search may set, and only where
+-- none came to an end yet
 pub record StaysListed (later : World) (key : PuzzleKey) (row : PuzzleRow) : Type 0 where
   pub after : PuzzleRow
   pub found : get later.puzzles key ≡ Some after

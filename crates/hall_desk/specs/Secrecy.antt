@@ -28,8 +28,8 @@ use Rattle.hall_desk.specs.declared.reply.Reply.TheVariants as reply
 -- ---- others
 
 -- from the world, e learns nothing of others who hold the role entrant alone: for a list of requests, and a person e of
--- the world at the list's end who holds the role entrant alone, the replies to e in a run of the list are those in a run
--- of the list without the others' requests. The three premises on the runs: no reply is Unavailable, none grants a
+-- the world at the list's end who holds the role entrant alone, the replies to e in a run of the list are those in a
+-- run of the list without the others' requests. The three premises on the runs: no reply is Unavailable, none grants a
 -- publication, and each request to certify that stands in both lists is answered alike in both, so their searches find
 -- the same
 abbrev pub HidesOthers : World → Type 0

@@ -1,5 +1,6 @@
 -- What is shown of puzzles, rounds and answers, and which answers a caller sees.
-use Rattle.std.specs.Prelude.{◌≡◌, ◌+◌, ◌&&◌, ◌||◌, not, ℕ, Bool, true, false, List, [], ◌∷◌, Option, Some, None, nat_le, if◌then◌else◌}
+use Rattle.std.specs.Prelude.{◌≡◌, ◌+◌, ◌&&◌, ◌||◌, not, ℕ, Bool, true, false, List, [], ◌∷◌, Option, Some, None}
+use Rattle.std.specs.Prelude.{nat_le, if◌then◌else◌}
 use Rattle.std.specs.FinMap.{get}
 use Rattle.hall_grid.specs.Canonical.{CanonicalText}
 use Rattle.hall_policy.specs.World.{World, end_of, same_text}

@@ -24,7 +24,8 @@ use Rattle.hall_policy.specs.declared.record.ProtestRow.{ProtestRow}
 use Rattle.hall_policy.specs.declared.record.Ruling.{Ruling}
 use Rattle.hall_policy.specs.declared.request.Sheet.{Sheet}
 use Rattle.hall_policy.specs.declared.request.Action.{Action}
-use Rattle.hall_policy.specs.declared.request.Action.TheVariants.{Import, PutPuzzle, ReadPuzzle, ListPuzzles, Certify, PutRound, Release, ListRounds, ReadRound}
+use Rattle.hall_policy.specs.declared.request.Action.TheVariants.{Import, PutPuzzle, ReadPuzzle, ListPuzzles, Certify}
+use Rattle.hall_policy.specs.declared.request.Action.TheVariants.{PutRound, Release, ListRounds, ReadRound}
 use Rattle.hall_policy.specs.declared.request.Action.TheVariants.{Submit, Answers, Solutions, Protest, Protests}
 use Rattle.hall_policy.specs.declared.request.Action.TheVariants.{RuleProtest, Publish, Table}
 use Rattle.hall_policy.specs.declared.request.Request.{Request}

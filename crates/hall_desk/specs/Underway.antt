@@ -16,7 +16,8 @@ pub record SearchOf : Type 0 where
   pub visits : ℕ
 
 -- the search from the start, within the budget, by rules that ask the same
-pub record Searches (q r : Question) (start : List (Option ℕ)) (budget visits asked : ℕ) (search : Search) : Type 0 where
+pub record Searches (q r : Question) (start : List (Option ℕ)) (budget visits asked : ℕ) (search : Search)
+  : Type 0 where
   pub same : IsSameQuestion q r
   pub begun : started_at search ≡ start
   pub limit : budget_of search ≡ budget

@@ -1,5 +1,6 @@
 -- A list of requests without those of other entrants, and the replies to some of a list's requests.
-use Rattle.std.specs.Prelude.{◌≢◌, ◌&&◌, ℕ, Bool, true, false, not, List, [], ◌∷◌, Option, Some, None, All, if◌then◌else◌}
+use Rattle.std.specs.Prelude.{◌≢◌, ◌&&◌, ℕ, Bool, true, false, not, List, [], ◌∷◌, Option, Some, None, All}
+use Rattle.std.specs.Prelude.{if◌then◌else◌}
 use Rattle.std.specs.List.{filter}
 use Rattle.hall_policy.specs.World.{World, same_text}
 use Rattle.hall_policy.specs.OwnAlike.{is_entrant_alone}

@@ -156,7 +156,8 @@ fn found(puzzle: Puzzle, budget: u64, searched: Searched) -> Certifying
 /// It paused so.
 fn paused(puzzle: Puzzle, budget: u64, by_kind: ByKind) -> Certifying
     requires { IsUnderWayOf puzzle budget by_kind }
-    ensures { result ≡ Certifying.Paused (record { puzzle = puzzle; budget = budget; visits = visits_of_kind by_kind }) }
+    ensures { result
+        ≡ Certifying.Paused (record { puzzle = puzzle; budget = budget; visits = visits_of_kind by_kind }) }
 {
     Certifying::Paused(PuzzleSearch {
         puzzle,

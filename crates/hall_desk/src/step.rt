@@ -1,5 +1,6 @@
 //! Plans made and committed, one request after another.
-ghost use Rattle.std.specs.Prelude.{◌≡◌, ◌⊎◌, ◌+◌, ◌≤◌, ◌<◌, ◌++◌, ◌∷◌, [], length, IfOk, IsOk, OnErr, vec_len, vec_capacity};
+ghost use Rattle.std.specs.Prelude.{◌≡◌, ◌⊎◌, ◌+◌, ◌≤◌, ◌<◌, ◌++◌, ◌∷◌, [], length, IfOk, IsOk, OnErr, vec_len};
+ghost use Rattle.std.specs.Prelude.{vec_capacity};
 ghost use Rattle.hall_store.specs.Store.{Leads, LeavesOneOf, IsSettled, MakesInWorld, WritesOnce, Asks, Fails};
 ghost use Rattle.hall_store.specs.Change.{CanMake, changed};
 ghost use Rattle.hall_store.specs.declared.change.Change.{Change};
@@ -63,8 +64,8 @@ fn make<S: Store>(alloc: Global, store: &mut S, change: Change) -> Result<(), St
     }
 }
 
-/// Answers one request, by one write at most, and by none where the request is denied, repeated or has nothing to write.
-/// It is read for the ranges that its types keep, and so keeps a sane world.
+/// Answers one request, by one write at most, and by none where the request is denied, repeated or has nothing to
+/// write. It is read for the ranges that its types keep, and so keeps a sane world.
 pub(crate) fn step<S: Store>(alloc: Global, store: &mut S, t: Moment, request: &Request) -> Reply
     ensures leads { Leads (S.content store.old) (S.content store.new) }
     ensures once { WritesOnce (S.content store.old) (S.content store.new) }

@@ -1,15 +1,19 @@
 -- Fillings and answer texts, the rules that a filling breaks, and the verdict on a text.
-use Rattle.std.specs.Prelude.{◌≡◌, ◌↔◌, ◌⊎◌, ℕ, ◌+◌, ◌<◌, ◌==◌, List, ◌∷◌, ◌++◌, length, map, take, drop, All, if◌then◌else◌, nat_lt}
+use Rattle.std.specs.Prelude.{◌≡◌, ◌↔◌, ◌⊎◌, ℕ, ◌+◌, ◌<◌, ◌==◌, List, ◌∷◌, ◌++◌, length, map, take, drop, All}
+use Rattle.std.specs.Prelude.{if◌then◌else◌, nat_lt}
 use Rattle.hall_grid.specs.declared.board.Size.{Size}
 use Rattle.hall_grid.specs.declared.board.Kind.{Kind}
 use Rattle.hall_grid.specs.declared.board.Kind.TheVariants.{Sudoku, Slither, Nurikabe}
 use Rattle.hall_grid.specs.declared.rule.Rule.{Rule}
-use Rattle.hall_grid.specs.declared.rule.Rule.TheVariants.{A0, U1, U2, U3, U4, S1, S2, S3, S4, S5, N1, N2, N3, N4, N5, N6}
+use Rattle.hall_grid.specs.declared.rule.Rule.TheVariants.{A0, U1, U2, U3, U4, S1, S2, S3, S4, S5, N1, N2, N3, N4, N5}
+use Rattle.hall_grid.specs.declared.rule.Rule.TheVariants.{N6}
 use Rattle.hall_grid.specs.Board.{Board, cells}
 use Rattle.hall_grid.specs.Rule.{Names, IsNameSet}
 use Rattle.hall_grid.specs.Sudoku.{RepeatsInRow, RepeatsInColumn, RepeatsInBox, ChangesGiven}
-use Rattle.hall_grid.specs.Slither.{all_sides, flat_sides, HasNoLine, HasLooseEnd, HasCrossing, HasOtherCount, HasLinesApart}
-use Rattle.hall_grid.specs.Nurikabe.{HasNumberInWall, HasPool, HasWallsApart, HasIslandWithoutNumber, HasIslandWithTwo, HasIslandOfOtherSize}
+use Rattle.hall_grid.specs.Slither.{all_sides, flat_sides, HasNoLine, HasLooseEnd, HasCrossing, HasOtherCount}
+use Rattle.hall_grid.specs.Slither.{HasLinesApart}
+use Rattle.hall_grid.specs.Nurikabe.{HasNumberInWall, HasPool, HasWallsApart, HasIslandWithoutNumber}
+use Rattle.hall_grid.specs.Nurikabe.{HasIslandWithTwo, HasIslandOfOtherSize}
 
 -- how many places a filling has: the cells, or the sides of cells
 abbrev pub places_of : Kind → Size → ℕ

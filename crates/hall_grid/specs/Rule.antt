@@ -1,9 +1,11 @@
 -- The names of rules, sets of them as numbers, and how a verdict is written.
-use Rattle.std.specs.Prelude.{◌≡◌, ◌↔◌, ◌⊎◌, IsTrue, ℕ, ◌<◌, Bool, not, List, [], ◌∷◌, ◌++◌, codes, bit_and, ◌^◌, ◌==◌, if◌then◌else◌, IsBitSet}
+use Rattle.std.specs.Prelude.{◌≡◌, ◌↔◌, ◌⊎◌, IsTrue, ℕ, ◌<◌, Bool, not, List, [], ◌∷◌, ◌++◌, codes, bit_and, ◌^◌}
+use Rattle.std.specs.Prelude.{◌==◌, if◌then◌else◌, IsBitSet}
 use Rattle.std.specs.List.{flat_map}
 use Rattle.hall_grid.specs.declared.rule.TheConstants.{NAMES}
 use Rattle.hall_grid.specs.declared.rule.Rule.{Rule}
-use Rattle.hall_grid.specs.declared.rule.Rule.TheVariants.{A0, U1, U2, U3, U4, S1, S2, S3, S4, S5, N1, N2, N3, N4, N5, N6}
+use Rattle.hall_grid.specs.declared.rule.Rule.TheVariants.{A0, U1, U2, U3, U4, S1, S2, S3, S4, S5, N1, N2, N3, N4, N5}
+use Rattle.hall_grid.specs.declared.rule.Rule.TheVariants.{N6}
 
 -- the place of a name in the table of names, from 0
 abbrev pub place : Rule → ℕ

@@ -1,5 +1,6 @@
 -- Writing forms: what the writer chooses at a cell, and the bytes of a form.
-use Rattle.std.specs.Prelude.{◌≡◌, ℕ, ◌+◌, ◌<◌, ◌≤◌, List, [], ◌∷◌, ◌++◌, slice_get, Option, Some, None, nat_lt, if◌then◌else◌, zero, suc}
+use Rattle.std.specs.Prelude.{◌≡◌, ℕ, ◌+◌, ◌<◌, ◌≤◌, List, [], ◌∷◌, ◌++◌, slice_get, Option, Some, None, nat_lt}
+use Rattle.std.specs.Prelude.{if◌then◌else◌, zero, suc}
 use Rattle.std.specs.Fmt.{digits}
 use Rattle.std.specs.Prelude.{false}
 use Rattle.hall_grid.specs.declared.board.Kind.{Kind}

@@ -1,8 +1,10 @@
 //! Answer texts: fillings as they are written.
-ghost use Rattle.std.specs.Prelude.{◌≡◌, ◌<◌, ◌≤◌, ◌≢◌, ◌++◌, ℕ, List, All, IfOk, OnOk, MatchOption, length, string_bytes, map};
+ghost use Rattle.std.specs.Prelude.{◌≡◌, ◌<◌, ◌≤◌, ◌≢◌, ◌++◌, ℕ, List, All, IfOk, OnOk, MatchOption, length};
+ghost use Rattle.std.specs.Prelude.{string_bytes, map};
 ghost use Rattle.hall_grid.specs.Board.{HasSize};
 ghost use Rattle.hall_grid.specs.Slither.{flat_sides, all_sides};
-ghost use Rattle.hall_grid.specs.Answer.{places_of, values_of, value_byte, sudoku_byte, slither_byte, nurikabe_byte, text_of, IsFilling, AnswerText, SaysNothing};
+ghost use Rattle.hall_grid.specs.Answer.{places_of, values_of, value_byte, sudoku_byte, slither_byte, nurikabe_byte};
+ghost use Rattle.hall_grid.specs.Answer.{text_of, IsFilling, AnswerText, SaysNothing};
 ghost use Rattle.hall_grid.specs.Printable.{IsPrintableText};
 ghost use Rattle.hall_grid.specs.Values.{SpellsValues, HasCellText};
 

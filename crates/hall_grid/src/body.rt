@@ -1,5 +1,6 @@
 //! The body of a puzzle text.
-ghost use Rattle.std.specs.Prelude.{◌≡◌, ◌<◌, ◌-◌, ◌*◌, ◌⊎◌, ◌↔◌, ◌++◌, IsTrue, IfOk, IfErr, OnOk, length, replicate, All};
+ghost use Rattle.std.specs.Prelude.{◌≡◌, ◌<◌, ◌-◌, ◌*◌, ◌⊎◌, ◌↔◌, ◌++◌, IsTrue, IfOk, IfErr, OnOk, length, replicate};
+ghost use Rattle.std.specs.Prelude.{All};
 ghost use Rattle.hall_grid.specs.Board.{cells, HasSize, IsClue};
 ghost use Rattle.hall_grid.specs.Body.{Spells, FaultAt, IsWrong, HasPlace, fitted};
 ghost use Rattle.hall_grid.specs.FormReading.{TakesForm, given_clues};

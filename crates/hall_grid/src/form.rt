@@ -1,6 +1,7 @@
 //! The forms of a body.
 ghost use Rattle.std.specs.Prelude.{◌≡◌, Ok, Err, MatchResult, option_map};
-ghost use Rattle.hall_grid.specs.FormReading.{hex_value, run_value, two_at, three_at, number16_form, short_form, cell4_form, cell4_value, cell4_short, form_at, given_clues};
+ghost use Rattle.hall_grid.specs.FormReading.{hex_value, run_value, two_at, three_at, number16_form, short_form};
+ghost use Rattle.hall_grid.specs.FormReading.{cell4_form, cell4_value, cell4_short, form_at, given_clues};
 
 use crate::board::{Clue, Kind};
 

@@ -1,5 +1,6 @@
 //! Laws of the definitions, each the contract of a function that does nothing.
-ghost use Rattle.hall_grid.specs.Laws.{SpellsOrHasFault, SpellsOnePuzzle, SpellsBoardsAlone, SpelledHasNoFault, HasOneFault, HasCanonicalText, CanonicalSpells, HasOneCanonicalText};
+ghost use Rattle.hall_grid.specs.Laws.{SpellsOrHasFault, SpellsOnePuzzle, SpellsBoardsAlone, SpelledHasNoFault};
+ghost use Rattle.hall_grid.specs.Laws.{HasOneFault, HasCanonicalText, CanonicalSpells, HasOneCanonicalText};
 
 /// Each text spells one puzzle or has one fault, and each puzzle has one canonical text, which spells it.
 pub fn law_texts()

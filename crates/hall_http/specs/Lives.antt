@@ -104,9 +104,9 @@ AreWithoutIn last e (people_came people given ∷ xs) ys =
     (answered : Reply) × (rest : List Occurrence) × (ys ≡ people_came people answered ∷ rest)
     × IsRefusedAlike given answered × AreWithoutIn last e xs rest
 
--- In two lives from a sane world, of which the second has not the requests of others who hold the role entrant alone, e,
--- who holds it alone too, is told the same bytes: under e's key, without a key or under nobody's, and by the replies to
--- bytes that are no request; where what stands in both gets 503 in both or in none, each request to certify that is
+-- In two lives from a sane world, of which the second has not the requests of others who hold the role entrant alone,
+-- e, who holds it alone too, is told the same bytes: under e's key, without a key or under nobody's, and by the replies
+-- to bytes that are no request; where what stands in both gets 503 in both or in none, each request to certify that is
 -- served is answered alike, and in neither a round is published to which the others hand in.
 abbrev pub BytesOfLivesHideOthers : Type 0
 BytesOfLivesHideOthers =

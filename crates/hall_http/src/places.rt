@@ -99,7 +99,8 @@ pub(crate) struct Places {
 }
 
 impl Places {
-    ghost use Rattle.hall_http.specs.Seats.{AreFresh, AreStill, Follows, HaveAllGone, IsKnown, IsOpen, LetsGo, MayLetGo};
+    ghost use Rattle.hall_http.specs.Seats.{AreFresh, AreStill, Follows, HaveAllGone, IsKnown, IsOpen, LetsGo};
+    ghost use Rattle.hall_http.specs.Seats.{MayLetGo};
     ghost use Rattle.hall_http.specs.Seats.{are_full};
 
     /// So many places, all free, for so many connections.

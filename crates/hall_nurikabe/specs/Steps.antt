@@ -1,5 +1,6 @@
 -- How far numbers reach over cells without wall, beyond their groups.
-use Rattle.std.specs.Prelude.{◌≡◌, ◌⊎◌, ℕ, ◌+◌, ◌<◌, ◌≤◌, List, Option, length, slice_index, slice_index_or, slice_get, Some, None}
+use Rattle.std.specs.Prelude.{◌≡◌, ◌⊎◌, ℕ, ◌+◌, ◌<◌, ◌≤◌, List, Option, length, slice_index, slice_index_or}
+use Rattle.std.specs.Prelude.{slice_get, Some, None}
 use Rattle.hall_grid.specs.declared.board.Size.{Size}
 use Rattle.hall_grid.specs.declared.board.Clue.TheVariants.{Unknown, Number}
 use Rattle.hall_grid.specs.Board.{Board, cells, Touch}

@@ -54,7 +54,8 @@ exchanged ex (RuleProtest round entrant token ruling) = RuleProtest round entran
 exchanged ex (Publish round) = Publish round
 exchanged ex (Table round) = Table round
 
--- the person's own answers show alike in both worlds, those of the first read by `ex`, and the person's protests are the same
+-- the person's own answers show alike in both worlds, those of the first read by `ex`, and the person's protests are
+-- the same
 pub record OwnAlike (ex : List ℕ → List ℕ → List ℕ) (hidden : List ℕ → Bool) (person : Person) (world other : World)
     : Type 0 where
   pub answers : (key : AnswerKey) → key.entrant ≡ person.name →

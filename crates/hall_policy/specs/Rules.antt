@@ -255,7 +255,8 @@ IsAtLimit world caller (Submit round number token answer) =
     TheCaller caller (λ person. most_answers ≤ answers_given world person.name round number)
 IsAtLimit world caller (Protest round token number text) =
     TheCaller caller (λ person. most_protests ≤ protests_made world person.name round)
-IsAtLimit world caller (PutPuzzle key puzzle) = (get world.puzzles key ≡ None) × (most_puzzles ≤ puzzles_put world key.author)
+IsAtLimit world caller (PutPuzzle key puzzle) =
+    (get world.puzzles key ≡ None) × (most_puzzles ≤ puzzles_put world key.author)
 IsAtLimit world caller _ = ⊥
 
 -- a person of the list has a known name with another key or other roles, or the key of another person, or is

@@ -1,5 +1,6 @@
 -- The totals of a round, and what a tally holds of the rows that it has taken.
-use Rattle.std.specs.Prelude.{◌≡◌, ◌↔◌, ◌⊎◌, ◌++◌, ℕ, ℤ, List, [], ◌∷◌, length, Option, Some, None, Contains, AllPairs, All}
+use Rattle.std.specs.Prelude.{◌≡◌, ◌↔◌, ◌⊎◌, ◌++◌, ℕ, ℤ, List, [], ◌∷◌, length, Option, Some, None, Contains}
+use Rattle.std.specs.Prelude.{AllPairs, All}
 use Rattle.std.specs.List.{filter}
 use Rattle.std.specs.Ordering.{nat_cmp, ordering_then}
 use Rattle.std.specs.declared.cmp.Ordering.{Ordering}
@@ -26,7 +27,8 @@ answers_by entrant = filter (λ row. same_text row.key.entrant entrant)
 abbrev pub protests_by : List ℕ → List ProtestRow → List ProtestRow
 protests_by entrant = filter (λ row. same_text row.key.entrant entrant)
 
--- the entrants with an answer among these, each once and in the order of names, each with the total of that entrant's rows
+-- the entrants with an answer among these, each once and in the order of names, each with the total of that entrant's
+-- rows
 pub record AreTotalsOf (round : RoundRow) (protests : List ProtestRow) (answers : List AnswerRow)
     (totals : List (List ℕ × ℤ)) : Type 0 where
   pub in_order : AllPairs (λ a b. text_cmp a.0 b.0 ≡ Less) totals
@@ -68,7 +70,8 @@ AreHeld round protests answers totals (Some entrant) = IsLastOf round protests a
 AreHeld round protests answers totals None = (answers ≡ []) × (totals ≡ [])
 
 -- the tally of the round has taken these protests and then these answers
-pub record IsTallyOf (round : RoundRow) (protests : List ProtestRow) (answers : List AnswerRow) (tally : Tally) : Type 0 where
+pub record IsTallyOf (round : RoundRow) (protests : List ProtestRow) (answers : List AnswerRow) (tally : Tally)
+  : Type 0 where
   pub round_is : tally.round ≡ round
   pub rulings_are : AreRulingsOf protests (rulings_at tally.rulings)
   pub answers_are : AreHeld round protests answers tally.totals tally.last

@@ -125,7 +125,8 @@ fn unless_repeated(
     people: Vec<Person>,
     read: Result<(), SheetFault>,
 ) -> Result<People, SheetFault>
-    ensures { (all : Result (List Person) Refused) → IsRead read people.items all → Gives (λ people. people) result all }
+    ensures { (all : Result (List Person) Refused) → IsRead read people.items all
+        → Gives (λ people. people) result all }
 {
     let Some(people) = People::new(alloc, people)? else {
         return Err(SheetFault::Refused(Refusal::Repeated));

@@ -1,5 +1,6 @@
 //! Sides that would close a loop beside another line: what lines lead back to is found by going along them.
-ghost use Rattle.std.specs.Prelude.{◌≡◌, ◌≢◌, ◌⊎◌, ℕ, ◌<◌, true, false, IfOk, IfSome, IsTrue, OnOk, Some, Contains, length};
+ghost use Rattle.std.specs.Prelude.{◌≡◌, ◌≢◌, ◌⊎◌, ℕ, ◌<◌, true, false, IfOk, IfSome, IsTrue, OnOk, Some, Contains};
+ghost use Rattle.std.specs.Prelude.{length};
 ghost use Rattle.std.specs.Prelude.{slice_index_or};
 ghost use Rattle.hall_grid.specs.Board.{IsSize};
 ghost use Rattle.hall_grid.specs.Slither.{all_sides, dots, is_end};

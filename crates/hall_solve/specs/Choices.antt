@@ -1,5 +1,6 @@
 -- The choices that a search made and has not yet exhausted, the newest last.
-use Rattle.std.specs.Prelude.{◌≡◌, ℕ, ◌+◌, ◌-◌, ◌*◌, ◌<◌, ◌⊎◌, List, Some, None, length, All, Any, AllPairs, sum_by, slice_index, slice_index_or}
+use Rattle.std.specs.Prelude.{◌≡◌, ℕ, ◌+◌, ◌-◌, ◌*◌, ◌<◌, ◌⊎◌, List, Some, None, length, All, Any, AllPairs, sum_by}
+use Rattle.std.specs.Prelude.{slice_index, slice_index_or}
 use Rattle.hall_solve.specs.declared.choice.Choice.{Choice}
 use Rattle.hall_solve.specs.Trail.{Trailed}
 use Rattle.hall_solve.specs.Question.{plain_tree, Extends}

@@ -9,7 +9,8 @@ use Rattle.hall_solve.specs.Trail.{Trailed, IsTrailed}
 use Rattle.hall_solve.specs.Choices.{AreMade, IsAhead, visits_ahead}
 
 -- between two visits: each solution is the one that was found, or ahead; the one that was found is not ahead
-pub record IsUnderWay (q : Question) (start : List (Option ℕ)) (b : Trailed) (stack : List Choice) (got : Option (List ℕ)) (visits : ℕ) : Type 0 where
+pub record IsUnderWay (q : Question) (start : List (Option ℕ)) (b : Trailed) (stack : List Choice)
+    (got : Option (List ℕ)) (visits : ℕ) : Type 0 where
   pub partial : IsPartial q b.places
   pub trailed : IsTrailed b
   pub made : AreMade b stack

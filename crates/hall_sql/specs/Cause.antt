@@ -26,8 +26,8 @@ IsStoreCause old new = MoreFaults old.faults new.faults ⊎ (old.is_open ≡ fal
 abbrev pub IsAnyUnread : {X : Type 0} → (Row → Option X) → List Row → Type 0
 IsAnyUnread read rows = (row : Row) × Contains rows row × (read row ≡ None)
 
--- Why a read of rows fails: the cause lies in the store, or over the tables as they were the query answers rows of which
--- one is no record.
+-- Why a read of rows fails: the cause lies in the store, or over the tables as they were the query answers rows of
+-- which one is no record.
 abbrev pub ReadFails : {X : Type 0} → (Row → Option X) → List ℕ → Row → State → State → Type 0
 ReadFails read sql params old new =
     IsStoreCause old new ⊎ ((rows : List Row) × Shown sql params old new rows × IsAnyUnread read rows)
@@ -37,8 +37,8 @@ abbrev pub FindFails : {X : Type 0} → (Row → Option X) → List ℕ → Row 
 FindFails read sql params old new =
     ReadFails read sql params old new ⊎ ((rows : List Row) × Shown sql params old new rows × (1 < length rows))
 
--- what was found, the places and the testers' names make no round with its lists: there are places and no round, or they
--- are not numbered from 1 on, or the puzzles there are no list of a round, or the names are no list of testers
+-- what was found, the places and the testers' names make no round with its lists: there are places and no round, or
+-- they are not numbered from 1 on, or the puzzles there are no list of a round, or the names are no list of testers
 abbrev pub AreNoRound : Option Round → List (PlaceKey × Entry) → List (List ℕ) → Type 0
 AreNoRound None places names = places ≢ []
 AreNoRound (Some round) places names =

@@ -8,7 +8,8 @@ use Rattle.sqlite.specs.Effect.{Database, IsDatabase}
 use Rattle.sqlite.specs.State.{State}
 use Rattle.hall_sql.specs.Standing.{IsBareDatabase}
 use Rattle.hall_sql.specs.declared.tables.HallTable.{HallTable}
-use Rattle.hall_sql.specs.declared.tables.HallTable.TheVariants.{People, Puzzles, Rounds, Places, Answers, Protests, Testers}
+use Rattle.hall_sql.specs.declared.tables.HallTable.TheVariants.{People, Puzzles, Rounds, Places, Answers, Protests}
+use Rattle.hall_sql.specs.declared.tables.HallTable.TheVariants.{Testers}
 use Rattle.hall_sql.specs.declared.tables.TheConstants.{MAKE_PEOPLE, MAKE_PUZZLES, MAKE_ROUNDS, MAKE_PLACES}
 use Rattle.hall_sql.specs.declared.tables.TheConstants.{MAKE_ANSWERS, MAKE_PROTESTS, MAKE_TESTERS}
 use Rattle.hall_sql.specs.Tables.{shape_of, no_schema, schema_with_people, schema_with_puzzles, schema_with_rounds}

@@ -56,5 +56,6 @@ IsCauseToRead {F} g image_at tells refuses opens closes old path new (Unopened e
     (there : F) × tells old path false there × refuses there path error new
 IsCauseToRead {F} g image_at tells refuses opens closes old path new (Refused fault) =
     (there : F) × tells old path false there
-    × IsHandedBack MakesAtMost (λ was left. fault ≡ Failed → RefusesToRead was left) g image_at opens closes there path new
+    × IsHandedBack MakesAtMost (λ was left. fault ≡ Failed → RefusesToRead was left)
+        g image_at opens closes there path new
 IsCauseToRead g image_at tells refuses opens closes old path new WasOld = ⊥

@@ -146,9 +146,9 @@ pub record PutsTesterList (id : List ℕ) (names : List (List ℕ)) (old new : D
   pub rows : new.trees 14 ≡ with_tester_rows id names (without_rows id (old.trees 14))
   pub others : KeptOtherRows (is_tester_of id) old.trees new.trees
 
--- The rows that a round leaves where it is put: its head is the one row of the rounds under its id, and of the places and
--- of the testers, all rows under the id are gone, and then one was added for each entry and for each name. No other row
--- stands there, be it a record or none.
+-- The rows that a round leaves where it is put: its head is the one row of the rounds under its id, and of the places
+-- and of the testers, all rows under the id are gone, and then one was added for each entry and for each name. No other
+-- row stands there, be it a record or none.
 pub record PutsRows (row : RoundRow) (old new : Database) : Type 0 where
   pub head : HasHeadRow row.round new
   pub places : new.trees 7

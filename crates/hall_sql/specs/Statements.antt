@@ -9,7 +9,8 @@ use Rattle.sqlite_value.specs.declared.keys.Key.{Key}
 use Rattle.sqlite.specs.Term.{Term, lit, col, op2}
 use Rattle.sqlite.specs.Query.{Query, inner, end}
 use Rattle.hall_sql.specs.declared.tables.HallTable.{HallTable}
-use Rattle.hall_sql.specs.declared.tables.HallTable.TheVariants.{People, Puzzles, Rounds, Places, Answers, Protests, Testers}
+use Rattle.hall_sql.specs.declared.tables.HallTable.TheVariants.{People, Puzzles, Rounds, Places, Answers, Protests}
+use Rattle.hall_sql.specs.declared.tables.HallTable.TheVariants.{Testers}
 use Rattle.hall_sql.specs.declared.tables.TheConstants.{PEOPLE_ROWIDS, PUZZLES_ROWIDS, ROUNDS_ROWIDS, PLACES_ROWIDS}
 use Rattle.hall_sql.specs.declared.tables.TheConstants.{ANSWERS_ROWIDS, PROTESTS_ROWIDS, TESTERS_ROWIDS}
 use Rattle.hall_sql.specs.Tables.{table_at}

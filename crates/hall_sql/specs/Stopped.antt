@@ -20,7 +20,8 @@ StopsAreFound last s =
 
 -- the world that is found in them is this one
 abbrev pub StopsFind : {D : Type 0} {g : Ghosts D} → FileStore D g → World → Type 0
-StopsFind last kept = (left : Image) → (files.state last).may_leave left → (world : World) → FindsWorld left world → world ≡ kept
+StopsFind last kept =
+    (left : Image) → (files.state last).may_leave left → (world : World) → FindsWorld left world → world ≡ kept
 
 -- they hold this one
 abbrev pub StopsHold : {D : Type 0} {g : Ghosts D} → FileStore D g → World → Type 0
@@ -29,7 +30,8 @@ StopsHold last kept = (left : Image) → (files.state last).may_leave left → �
 -- the world that is found in them is one that a stop might leave of the content
 abbrev pub StopsLeave : {D : Type 0} {g : Ghosts D} → FileStore D g → Content → Type 0
 StopsLeave last content =
-    (left : Image) → (files.state last).may_leave left → (world : World) → FindsWorld left world → ∥ content.may_leave world ∥₁
+    (left : Image) → (files.state last).may_leave left → (world : World) → FindsWorld left world
+    → ∥ content.may_leave world ∥₁
 
 -- while the store serves, a stop between two calls leaves its tables, and nothing else
 abbrev pub IsAtRest : State → Type 0

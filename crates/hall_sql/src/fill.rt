@@ -5,7 +5,8 @@ ghost use Rattle.sqlite.specs.Held.{state};
 ghost use Rattle.sqlite.specs.State.{HasCleanDisk};
 ghost use Rattle.hall_policy.specs.Sink.{HasTaken};
 ghost use Rattle.hall_store.specs.Store.{Leads};
-ghost use Rattle.hall_sql.specs.Fill.{AreFilled, AddsAnswer, AddsHead, AddsPlace, AddsProtest, AddsPuzzle, Fills, PutsPerson};
+ghost use Rattle.hall_sql.specs.Fill.{AreFilled, AddsAnswer, AddsHead, AddsPlace, AddsProtest, AddsPuzzle, Fills};
+ghost use Rattle.hall_sql.specs.Fill.{PutsPerson};
 ghost use Rattle.hall_sql.specs.Inside.{LeadsUncommitted, MakesInside};
 ghost use Rattle.hall_sql.specs.Standing.{AddsOutcomes, IsHall, KeptRows};
 ghost use Rattle.hall_sql.specs.Content.{content_of};
@@ -134,7 +135,8 @@ pub(crate) fn fill<S: Alter>(
     ensures filled { HasCleanDisk (state S.Store conn.new) → OnOk result (IsTrue (state S.Store conn.new).is_open
         × Fills rows.now (state S.Store conn.old).now (state S.Store conn.new).now) }
     ensures stops { IsTrue (state S.Store conn.old).is_open
-        → AddsOutcomes (AreFilled rows.now (state S.Store conn.old).now) (state S.Store conn.old) (state S.Store conn.new) }
+        → AddsOutcomes (AreFilled rows.now (state S.Store conn.old).now) (state S.Store conn.old)
+            (state S.Store conn.new) }
     ensures refused { OnErr result (KeptRows (state S.Store conn.old) (state S.Store conn.new)) }
 {
     if !conn.is_autocommit() {

@@ -111,8 +111,8 @@ pub(crate) fn take_rows<T: Alter>(
 
 /// Takes the whole world of a hall of the version before into one that holds nothing, or that already.
 ///
-/// The source is only read. Where the target holds another world it is left, and so it is after a fault. A row of either
-/// that is no record is a fault.
+/// The source is only read. Where the target holds another world it is left, and so it is after a fault. A row of
+/// either that is no record is a fault.
 pub fn migrate<S: Alter + Drop, T: Alter + Drop>(
     alloc: Global,
     old: &mut OldStore<S>,

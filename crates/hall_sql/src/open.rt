@@ -107,7 +107,8 @@ pub fn open_at<S: Alter + Drop, F: PathFiles<S>>(
     ensures opened { IfOk result (λ store.
         OpensAt S.Store F.image_at F.opens files.old path.now store files.new) }
     ensures starts { IfOk result (λ store. Starts (F.image_at path.now) (content_of (state S.Store store))) }
-    ensures cause { IfErr result (IsCauseAt S.Store F.image_at F.refuses F.opens F.closes files.old path.now files.new) }
+    ensures cause { IfErr result
+        (IsCauseAt S.Store F.image_at F.refuses F.opens F.closes files.old path.now files.new) }
 {
     let conn = match files.open(path) {
         Ok(conn) => conn,

@@ -8,8 +8,8 @@ use Rattle.hall_policy.specs.declared.record.Person.{Person}
 abbrev pub with_key : World → List ℕ → Option Person
 with_key world key = find (λ person. same_text person.key key) (values world.people)
 
--- the person found is the one with the key and stands under that person's name; nobody else has the key, or stands with it
--- under another name
+-- the person found is the one with the key and stands under that person's name; nobody else has the key, or stands with
+-- it under another name
 pub record IsKeyHolder (world : World) (key : List ℕ) (person : Option Person) : Type 0 where
   pub found : person ≡ with_key world key
   pub there : IfSome person (λ p. get world.people p.name ≡ Some p)

@@ -42,8 +42,8 @@ world_of_maps store = record {
   testers = from_entries (flat_map testers_in store.rounds.entries);
 }
 
--- ordered maps have no device that could lie or fail, so no fault is counted, and only memory can be wanting; nor do they
--- count their writes, and a stop leaves nothing
+-- ordered maps have no device that could lie or fail, so no fault is counted, and only memory can be wanting; nor do
+-- they count their writes, and a stop leaves nothing
 abbrev pub content_of_maps : MapStore → Content
 content_of_maps store = record {
   honest = ⊤;

@@ -7,7 +7,8 @@ ghost use Rattle.hall_store.specs.Store.{Stops};
 ghost use Rattle.hall_policy.specs.Sink.{HasTaken};
 ghost use Rattle.hall_store.specs.Keyed.{Each, IsAnswerKept, IsFirst, slot_cmp, slot_of, first_slot, agree, least_word};
 ghost use Rattle.hall_store.specs.Keyed.{HasAny};
-ghost use Rattle.hall_store.specs.declared.slot.Part.TheVariants.{Entrant as ToEntrant, Puzzle as ToPuzzle, Round as ToRound};
+ghost use Rattle.hall_store.specs.declared.slot.Part.TheVariants.{Entrant as ToEntrant, Puzzle as ToPuzzle};
+ghost use Rattle.hall_store.specs.declared.slot.Part.TheVariants.{Round as ToRound};
 
 use crate::slot::{AnswerSlot, Part};
 use crate::writes::push;

@@ -10,8 +10,8 @@ use hall_policy::{
 use std::alloc::Global;
 use std::marker::Model;
 
-/// A store, and copies of what it told: of people by key, of rounds by id, and of puzzles. A read that finds a copy asks
-/// the store nothing.
+/// A store, and copies of what it told: of people by key, of rounds by id, and of puzzles. A read that finds a copy
+/// asks the store nothing.
 ///
 /// There are at most 5,000 copies of people, and 1,000 of either other kind. All are forgotten before a write that may
 /// change one, and where the store refuses a call, which may have shut it.

@@ -10,8 +10,8 @@ HaveThrice unit n candidates thrice = (a b c v : ℕ) → a < b → b < c → c 
 
 -- of the first n cells that are in the cell's unit, the cell and the other alone may have the value
 abbrev pub IsTheirs : (ℕ → ℕ) → ℕ → List ℕ → ℕ → ℕ → ℕ → Type 0
-IsTheirs unit n candidates cell other value = (c : ℕ) → c < n → unit c ≡ unit cell → Has (slice_index candidates c) value
-    → (c ≡ cell) ⊎ (c ≡ other)
+IsTheirs unit n candidates cell other value =
+    (c : ℕ) → c < n → unit c ≡ unit cell → Has (slice_index candidates c) value → (c ≡ cell) ⊎ (c ≡ other)
 
 -- the cell and another alone may have two values of their unit, and the value is neither
 pub record IsBesidePair (unit : ℕ → ℕ) (n : ℕ) (candidates : List ℕ) (cell value : ℕ) : Type 0 where

@@ -6,7 +6,8 @@ use Rattle.hall_solve.specs.Question.{Solves}
 use Rattle.hall_sudoku.specs.Values.{Has}
 use Rattle.hall_sudoku.specs.Units.{units_question}
 
--- the number of the part in which the cell is: parts have numbers as cells have, the unit for the row and the other unit for the column
+-- the number of the part in which the cell is: parts have numbers as cells have, the unit for the row and the other
+-- unit for the column
 abbrev pub part_of : Size → (ℕ → ℕ) → (ℕ → ℕ) → ℕ → ℕ
 part_of size unit other cell = unit cell * size.cols + other cell
 
@@ -17,8 +18,9 @@ AreGathered size unit other n candidates parts = (cell v : ℕ) → cell < n →
 
 -- each part's set has only values that the unit may have in this part alone
 abbrev pub AreConfined : Size → (ℕ → ℕ) → (ℕ → ℕ) → List ℕ → List ℕ → Type 0
-AreConfined size unit other candidates confined = (part cell v : ℕ) → part < cells size → Has (slice_index confined part) v
-    → cell < cells size → unit cell ≡ row size part → Has (slice_index candidates cell) v → other cell ≡ col size part
+AreConfined size unit other candidates confined =
+    (part cell v : ℕ) → part < cells size → Has (slice_index confined part) v → cell < cells size
+    → unit cell ≡ row size part → Has (slice_index candidates cell) v → other cell ≡ col size part
 
 -- a unit in which the cell isn't may have the value only where the cell's other unit is
 pub record IsElsewhere (size : Size) (unit other : ℕ → ℕ) (candidates : List ℕ) (cell value : ℕ) : Type 0 where

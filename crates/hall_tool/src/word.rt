@@ -3,7 +3,8 @@ ghost use Rattle.std.specs.Prelude.{◌≡◌, string_bytes};
 
 use std::marker::Model;
 
-/// A word that the command line gives: the path of a file, or the name of a round; a contract sees the list of its bytes.
+/// A word that the command line gives: the path of a file, or the name of a round; a contract sees the list of its
+/// bytes.
 #[derive(Debug, Drop)]
 pub struct Word {
     text: String,
