@@ -11,13 +11,15 @@ use Rattle.hall_policy.specs.Ranges.{IsPerson}
 use Rattle.hall_policy.specs.Rules.{HasConflict}
 use Rattle.hall_policy.specs.declared.record.Person.{Person}
 use Rattle.hall_policy.specs.declared.request.Action.TheVariants.{Import}
-use Rattle.hall_store.specs.Store.{Content, Kept, KeptWorld, Leads, LeavesOneOf, MakesInWorld}
+use Rattle.hall_store.specs.Store.{Content, Fails, Kept, KeptWorld, Leads, LeavesOneOf, MakesInWorld}
+use Rattle.hall_store.specs.declared.fault.StoreFault.{StoreFault}
 use Rattle.hall_store.specs.Change.{changed, CanMake}
 use Rattle.hall_store.specs.declared.change.Change.{Change}
 use Rattle.hall_store.specs.declared.change.Change.TheVariants.{Nothing}
+use Rattle.hall_store.specs.declared.change.Change.TheVariants as change
 use Rattle.hall_desk.specs.Step.{Seed}
 use Rattle.hall_desk.specs.Sane.{Sane}
-use Rattle.hall_desk.specs.Plans.{IsMadePlan, IsImportPlan, IsSeedPlan, IsSeedReply, Seeds, StopsInSeed}
+use Rattle.hall_desk.specs.Plans.{IsMadePlan, IsImportPlan, IsSeedPlan, IsSeedReply, SeedCanFail, Seeds, StopsInSeed}
 use Rattle.hall_desk.specs.declared.reply.Reply.{Reply}
 use Rattle.hall_desk.specs.declared.reply.Reply.TheVariants.{Denied}
 use Rattle.hall_desk.specs.declared.plan.Plan.{Plan}
@@ -41,6 +43,15 @@ import_plan world facts t people plan told clear is = record {
   quiet = λ nothing. absurd nothing;
   searched = tt;
 }
+
+-- a plan of theirs that was refused was refused as the import is
+pub seed_fails : {R : Type 0} (result : Result R StoreFault) (people : List Person) (planned : Change) (new : Content)
+    → (planned ≡ Nothing) ⊎ (planned ≡ change.Import people) → (planned ≡ Nothing → IsOk result)
+    → Fails (new.can_refuse planned) result → Fails (SeedCanFail people new) result
+seed_fails (Ok x) people planned new plans idle cause = tt
+seed_fails (Err e) people planned new (inl none) idle cause = absurd (idle none)
+seed_fails (Err e) people planned new (inr is) idle cause =
+    λ failed. inr (subst (λ (c : Change). new.can_refuse c) is (cause failed))
 
 -- a store that has made a plan's change served before it, and so it did where a plan without one was asked of it
 pub seeded_serves : {R : Type 0} (E : Type 0) (mid new : Content) (change : Change) (done : R) → (change ≡ Nothing → mid.honest → mid.serves) → Leads mid new

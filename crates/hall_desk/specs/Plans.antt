@@ -119,6 +119,11 @@ pub record IsSeedPlan (world : World) (people : List Person) (plan : Plan) : Typ
   pub seeded : Seed world people plan.reply (changed plan.change world)
   pub can : CanMake plan.change world
 
+-- an import of the people may be refused for another cause than being out of memory: as one of its reads may be, or as
+-- the change itself
+abbrev pub SeedCanFail : List Person → Content → Type 0
+SeedCanFail people content = content.can_fail ⊎ content.can_refuse (change.Import people)
+
 -- the request has no key and asks for no table, so nobody may make it
 abbrev pub IsNobodys : Request → Type 0
 IsNobodys request = (request.key ≡ None) × ((round : List ℕ) → request.action ≢ Table round)

@@ -13,7 +13,7 @@ ghost use Rattle.hall_desk.specs.Plan.{planned_reply, planned_change};
 ghost use Rattle.hall_desk.specs.Plans.{Planned, IsStepOver, Seeds, Runs, FailsIn, IsNobodys, AreNobodys, IsAvailable};
 ghost use Rattle.hall_desk.specs.Wanted.{MayWait};
 ghost use Rattle.hall_desk.specs.Plans.{IsQuietPlan, IsSeedReply, AreStepped, NobodysAreAnswered, WritesIfAny};
-ghost use Rattle.hall_desk.specs.Plans.{StopsWithin, StopsInSeed, LeavesRun};
+ghost use Rattle.hall_desk.specs.Plans.{StopsWithin, StopsInSeed, LeavesRun, SeedCanFail};
 
 use crate::census::Census;
 use crate::copies::Copies;
@@ -150,7 +150,8 @@ impl<S: ReadStore> Desk<S> {
 
 impl<S: Store> Desk<S> {
     /// Makes the plan's change by one write at most, and answers its reply. Refused, it has consumed the plan and,
-    /// while the store serves, left the world; a plan without a change is never refused, and makes no write.
+    /// while the store serves, left the world; a plan without a change is never refused, and makes no write. Unless
+    /// out of memory, it is refused only by a store that can refuse this change.
     pub fn commit(&mut self, alloc: Global, plan: Plan) -> Result<Reply, StoreFault>
         requires { Asks (S.content (kept_by self.old)) (CanMake (planned_change plan)) }
         ensures leads { Leads (S.content (kept_by self.old)) (S.content (kept_by self.new)) }
@@ -160,7 +161,7 @@ impl<S: Store> Desk<S> {
             (S.content (kept_by self.old)) (S.content (kept_by self.new)) }
         ensures made { (planned_change plan ≡ Change.Nothing) ⊎ MakesInWorld (planned_change plan)
             (S.content (kept_by self.old)) (S.content (kept_by self.new)) result }
-        ensures fault { Fails (S.content (kept_by self.new)).can_fail result }
+        ensures fault { Fails ((S.content (kept_by self.new)).can_refuse (planned_change plan)) result }
         ensures nothing { planned_change plan ≡ Change.Nothing → IsOk result × (kept_by self.new ≡ kept_by self.old) }
         ensures reply { IfOk result (λ reply. reply ≡ planned_reply plan) }
     {
@@ -203,7 +204,8 @@ impl<S: Store> Desk<S> {
 
     /// Imports the people before any request: the rule on lists alone is asked. It answers `Reply::Import`, or
     /// `Reply::Denied` by that rule. It makes at most one write, and none where it denies. Refused, it has left the
-    /// world while the store serves; unless out of memory, it fails only over a store that can.
+    /// world while the store serves; unless out of memory, it fails only over a store that can fail a read of it or
+    /// refuse the import.
     pub fn try_seed(&mut self, alloc: Global, people: &People) -> Result<Reply, StoreFault>
         ensures leads { Leads (S.content (kept_by self.old)) (S.content (kept_by self.new)) }
         ensures once { WritesOnce (S.content (kept_by self.old)) (S.content (kept_by self.new)) }
@@ -215,7 +217,7 @@ impl<S: Store> Desk<S> {
         ensures left { OnErr result (KeptWorld (S.content (kept_by self.old)) (S.content (kept_by self.new))) }
         ensures stops { StopsInSeed (S.content (kept_by self.old)) people.now (S.content (kept_by self.new)) }
         ensures settled { IsSettled (S.content (kept_by self.new)) }
-        ensures fault { Fails (S.content (kept_by self.new)).can_fail result }
+        ensures fault { Fails (SeedCanFail people.now (S.content (kept_by self.new))) result }
         ensures sane { SaneThen Sane (S.content (kept_by self.old)) (S.content (kept_by self.new)) }
     {
         self.copies = Copies::none();

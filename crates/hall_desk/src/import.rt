@@ -60,6 +60,7 @@ pub(crate) fn plan_import<S: ReadStore>(
     ensures kept { Kept (S.content store.old) (S.content store.new) }
     ensures fault { Fails (S.content store.new).can_fail result }
     ensures answered { IfOk result (λ plan. IsSeedReply plan.reply × (plan.change ≢ Change.Nothing)) }
+    ensures imports { IfOk result (λ plan. plan.change ≡ Change.Import people.now) }
     ensures allowed { IfOk result (λ plan. plan.reply ≢ Reply.Denied 20) }
     ensures told { Told (S.content store.old) (S.content store.new) result
         (λ world plan. IsImportPlan world people.now plan) }

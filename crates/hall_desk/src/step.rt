@@ -31,7 +31,7 @@ pub(crate) fn commit<S: Store>(
         (S.content store.old) (S.content store.new) }
     ensures made { (plan.change ≡ Change.Nothing)
         ⊎ MakesInWorld plan.change (S.content store.old) (S.content store.new) result }
-    ensures fault { Fails (S.content store.new).can_fail result }
+    ensures fault { Fails ((S.content store.new).can_refuse plan.change) result }
     ensures nothing { plan.change ≡ Change.Nothing → IsOk result × (store.new ≡ store.old) }
     ensures reply { IfOk result (λ reply. reply ≡ plan.reply) }
 {
@@ -48,7 +48,7 @@ fn make<S: Store>(alloc: Global, store: &mut S, change: Change) -> Result<(), St
     ensures stops { (S.content store.old).serves → LeavesOneOf (λ before left. left ≡ changed change before)
         (S.content store.old) (S.content store.new) }
     ensures made { (change ≡ Change.Nothing) ⊎ MakesInWorld change (S.content store.old) (S.content store.new) result }
-    ensures fault { Fails (S.content store.new).can_fail result }
+    ensures fault { Fails ((S.content store.new).can_refuse change) result }
     ensures nothing { change ≡ Change.Nothing → IsOk result × (store.new ≡ store.old) }
 {
     match change {

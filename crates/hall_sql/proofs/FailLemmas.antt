@@ -2,7 +2,7 @@
 use Rattle.std.proofs.Common.{◌≡◌, ◌⊎◌, ◌<◌, inl, inr, ℕ, suc, nat_eq, Bool, true, false, List, [], ◌∷◌, ◌++◌, append_assoc, length, option_to_list, filter, Option, Some, None, Result, Ok, Err, IsTrue, IfErr, OnErr, refl, sym, ap, subst, ◌∙◌, arith}
 use Rattle.std.proofs.lemmas.Bool.{cases_Bool, eq-eqb, eqb-true}
 use Rattle.std.proofs.lemmas.Grind.{flat_map-append}
-use Rattle.std.specs.Prelude.{All, Contains}
+use Rattle.std.specs.Prelude.{Contains}
 use Rattle.sqlite_trees.specs.View.{doubt}
 use Rattle.sqlite_trees.specs.declared.store.Store.{Ghosts}
 use Rattle.sqlite_value.specs.declared.keys.Key.{Key}
@@ -17,7 +17,6 @@ use Rattle.sqlite.specs.State.{State, HasCleanDisk}
 use Rattle.sqlite.specs.Term.{Term}
 use Rattle.sqlite.specs.Tree.{Trees}
 use Rattle.sqlite.proofs.Callers.{IsPlain, command_of, begins_as}
-use Rattle.hall_policy.specs.Ranges.{IsAnswerRow, IsPerson, IsProtestRow, IsPuzzleRow, IsRoundRow, IsRuling, IsState}
 use Rattle.hall_policy.specs.World.{World}
 use Rattle.hall_policy.specs.declared.record.AnswerRow.{AnswerRow}
 use Rattle.hall_policy.specs.declared.record.Person.{Person}
@@ -28,14 +27,13 @@ use Rattle.hall_policy.specs.declared.record.PuzzleRow.{PuzzleRow}
 use Rattle.hall_policy.specs.declared.record.PuzzleState.{PuzzleState}
 use Rattle.hall_policy.specs.declared.record.RoundRow.{RoundRow}
 use Rattle.hall_policy.specs.declared.record.Ruling.{Ruling}
-use Rattle.hall_store.specs.Change.{CanAddAnswer, CanAddProtest, CanImport, CanMake, CanPutPuzzle, CanPutRound, CanRuleProtest, CanSetFlag, CanSetState}
-use Rattle.hall_store.specs.Store.{Asks, Fails, IsRefusedNext}
+use Rattle.hall_store.specs.Store.{Fails, IsRefusedNext}
 use Rattle.hall_store.specs.declared.change.Change.{Change}
 use Rattle.hall_store.specs.declared.change.Change.TheVariants.{Import, PutPuzzle, SetState, PutRound, SetRoundFlag, AddAnswer, AddProtest, RuleProtest}
 use Rattle.hall_store.specs.declared.change.RoundFlag.{RoundFlag}
 use Rattle.hall_store.specs.declared.fault.StoreFault.{StoreFault}
 use Rattle.hall_store.specs.declared.fault.StoreFault.TheVariants.{Failed}
-use Rattle.hall_sql.specs.CanFail.{CanFail, IsChangeInRange, KeepsNoWorld, RefusesAllowed, RefusesChange, RefusesPuzzle}
+use Rattle.hall_sql.specs.CanFail.{CanFail, CanRefuse, HasReason, KeepsNoWorld, RefusesChange, RefusesPuzzle}
 use Rattle.hall_sql.specs.Cause.{FeedFails, FindFails, IsAnyUnread, IsStoreCause, ReadFails, RoundFails, StopsAtRow}
 use Rattle.hall_sql.specs.Columns.{answer_params, person_params, protest_params}
 use Rattle.hall_sql.specs.Content.{content_of}
@@ -62,35 +60,30 @@ use Rattle.hall_sql.proofs.Wordings.{Wording, hall_in, worded}
 
 -- ---- reasons
 
--- what `CanFail` says of a connection with a clean disk
-abbrev Reason : State → Type 0
-Reason s = (0 < s.faults) ⊎ ((s.is_open ≡ false) ⊎ (KeepsNoWorld s.now.trees ⊎ RefusesAllowed s.now))
-
 -- one that is shut needs no other
-while_open : (s : State) → (IsTrue s.is_open → Reason s) → Reason s
-while_open s why = go s.is_open refl
+while_open : (Bad : Database → Type 0) (s : State) → (IsTrue s.is_open → HasReason Bad s) → HasReason Bad s
+while_open Bad s why = go s.is_open refl
   where
-    go : (b : Bool) → s.is_open ≡ b → Reason s
+    go : (b : Bool) → s.is_open ≡ b → HasReason Bad s
     go true is = why is
     go false is = inr (inl is)
 
-module _ (old new : State) (stayed : KeptRows old new) (clean : HasCleanDisk new) where
-  by_store : IsStoreCause old new → Reason new
+module _ (Bad : Database → Type 0) (old new : State) (stayed : KeptRows old new) (clean : HasCleanDisk new) where
+  by_store : IsStoreCause old new → HasReason Bad new
   by_store (inl (inl more)) = inl (omega (arith, more))
   by_store (inl (inr many)) = inl (omega (arith, many))
-  by_store (inr shut) = while_open new (λ opens. absurd (let no : false ≡ true = sym shut ∙ stayed.follows.opened clean opens in cc))
+  by_store (inr shut) = while_open Bad new (λ opens. absurd (let no : false ≡ true = sym shut ∙ stayed.follows.opened clean opens in cc))
 
-  by_tables : KeepsNoWorld old.now.trees → Reason new
-  by_tables bad =
-      while_open new (λ opens. inr (inr (inl (subst (λ (d : Database). KeepsNoWorld d.trees) (sym (stayed.same clean opens)) bad))))
+  by_tables : Bad old.now → HasReason Bad new
+  by_tables bad = while_open Bad new (λ opens. inr (inr (subst Bad (sym (stayed.same clean opens)) bad)))
 
-  by_refusal : (IsTrue old.is_open → RefusesAllowed old.now) → Reason new
-  by_refusal refused =
-      while_open new (λ opens. inr (inr (inr (subst RefusesAllowed (sym (stayed.same clean opens)) (refused (stayed.follows.opened clean opens))))))
+-- what reads call bad of the tables
+abbrev KeepsNone : Database → Type 0
+KeepsNone db = KeepsNoWorld db.trees
 
 -- where a call failed, the state says why
 by_reason : {R : Type 0} (result : Result R StoreFault) (Why : Type 0) (new : State) → (HasCleanDisk new → Fails Why result)
-    → (HasCleanDisk new → Why → Reason new) → Fails (CanFail new) result
+    → (HasCleanDisk new → Why → HasReason KeepsNone new) → Fails (CanFail new) result
 by_reason (Ok x) Why new cause why = tt
 by_reason (Err e) Why new cause why = λ failed clean. why clean (cause clean failed)
 
@@ -123,9 +116,9 @@ of_round id old new hall clean (inr (inl places)) = of_read place_in PLACES_OF.n
 of_round id old new hall clean (inr (inr (inl testers))) = of_read tester_in TESTERS_OF.now (Text id ∷ []) (testers_of_unread id) old new hall clean testers
 of_round id old new hall clean (inr (inr (inr none))) = inr (inr (inr (id, none)))
 
-by_read : (old new : State) → KeptRows old new → HasCleanDisk new → IsRead old new → Reason new
-by_read old new stayed clean (inl cause) = by_store old new stayed clean cause
-by_read old new stayed clean (inr bad) = by_tables old new stayed clean bad
+by_read : (old new : State) → KeptRows old new → HasCleanDisk new → IsRead old new → HasReason KeepsNone new
+by_read old new stayed clean (inl cause) = by_store KeepsNone old new stayed clean cause
+by_read old new stayed clean (inr bad) = by_tables KeepsNone old new stayed clean bad
 
 module _ {R : Type 0} (result : Result R StoreFault) {old new : State} (hall : IsHall old) (rested : KeptTables old new) where
   by_rest : (Why : Type 0) → (HasCleanDisk old → Why → IsRead old new) → (HasCleanDisk new → Fails Why result) → Fails (CanFail new) result
@@ -194,7 +187,7 @@ module _ {X : Type 0} (read : Row → Option X) (sql : List ℕ) (params : Row) 
 
     of_feed : HasCleanDisk new → FeedFails read Takes Refuses sql params old new before after
         → CanFail new ⊎ IsRefusedNext Takes Refuses AreRows (content_of old) (content_of new) before after
-    of_feed clean (inl cause) = inl (λ late. by_store old new (rested_stayed rested) late cause)
+    of_feed clean (inl cause) = inl (λ late. by_store KeepsNone old new (rested_stayed rested) late cause)
     of_feed clean (inr it) = at_open new.is_open refl
       where
         was : HasCleanDisk old
@@ -204,7 +197,7 @@ module _ {X : Type 0} (read : Row → Option X) (sql : List ℕ) (params : Row) 
             → CanFail new ⊎ IsRefusedNext Takes Refuses AreRows (content_of old) (content_of new) before after
         turned opens (inl none) =
             let has = of_hall old hall was (rested.follows.opened clean opens) in
-            inl (λ late. by_tables old new (rested_stayed rested) late
+            inl (λ late. by_tables KeepsNone old new (rested_stayed rested) late
             (inl (unread old (it.rows ++ it.row ∷ []) has it.begun (it.row, last_there it.rows it.row, none))))
         turned opens (inr refused) =
             let opened = rested.follows.opened clean opens in
@@ -230,19 +223,20 @@ module _ {X : Type 0} (read : Row → Option X) (sql : List ℕ) (params : Row) 
 abbrev IsTold : Change → State → State → Type 0
 IsTold change old new = IsStoreCause old new ⊎ (KeepsNoWorld old.now.trees ⊎ RefusesChange change old.now)
 
-change_fault : {R : Type 0} (change : Change) (old new : State) (result : Result R StoreFault) (Why : Type 0) → IsChangeInRange change
-    → Asks (content_of old) (CanMake change) → OnErr result (KeptRows old new) → (HasCleanDisk new → Fails Why result)
-    → (HasCleanDisk old → Why → IsTold change old new) → Fails (CanFail new) result
-change_fault change old new (Ok x) Why ranged can stayed cause told = tt
-change_fault change old new (Err e) Why ranged can stayed cause told = λ failed clean.
+change_fault : {R : Type 0} (change : Change) (old new : State) (result : Result R StoreFault) (Why : Type 0)
+    → OnErr result (KeptRows old new) → (HasCleanDisk new → Fails Why result)
+    → (HasCleanDisk old → Why → IsTold change old new) → Fails (CanRefuse change new) result
+change_fault change old new (Ok x) Why stayed cause told = tt
+change_fault change old new (Err e) Why stayed cause told = λ failed clean.
     let was : HasCleanDisk old = omega (arith, stayed.follows.lasts.clean, clean) in
-    go was clean (told was (cause clean failed))
+    go clean (told was (cause clean failed))
   where
-    go : HasCleanDisk old → HasCleanDisk new → IsTold change old new → Reason new
-    go was clean (inl store) = by_store old new stayed clean store
-    go was clean (inr (inl bad)) = by_tables old new stayed clean bad
-    go was clean (inr (inr refused)) =
-        by_refusal old new stayed clean (λ opens. record { change = change; ranged = ranged; allowed = can was opens; refused = refused })
+    IsBad : Database → Type 0
+    IsBad db = KeepsNoWorld db.trees ⊎ RefusesChange change db
+
+    go : HasCleanDisk new → IsTold change old new → HasReason IsBad new
+    go clean (inl store) = by_store IsBad old new stayed clean store
+    go clean (inr bad) = by_tables IsBad old new stayed clean bad
 
 -- one statement, or several of which one is refused
 refused_told : {A B C : Type 0} → A ⊎ C → A ⊎ (B ⊎ C)
@@ -267,10 +261,10 @@ person_told person mid left has (inl it) = inl (go it.2)
 person_told person mid left has (inr it) = inr it
 
 module _ {R : Type 0} (old new : State) (result : Result R StoreFault) (hall : IsHall old) where
-  pub import_fault : {S : Type 0} (g : Ghosts S) (people : List Person) → All IsPerson people → Asks (content_of old) (λ world. CanImport world people)
-      → OnErr result (KeptRows old new) → (HasCleanDisk new → Fails (ImportFails g people old new) result) → Fails (CanFail new) result
-  import_fault g people ranged can stayed cause =
-      change_fault (Import people) old new result (ImportFails g people old new) ranged can stayed cause (λ was. go)
+  pub import_fault : {S : Type 0} (g : Ghosts S) (people : List Person)
+      → OnErr result (KeptRows old new) → (HasCleanDisk new → Fails (ImportFails g people old new) result) → Fails (CanRefuse (Import people) new) result
+  import_fault g people stayed cause =
+      change_fault (Import people) old new result (ImportFails g people old new) stayed cause (λ was. go)
     where
       go : ImportFails g people old new → IsTold (Import people) old new
       go (inl cause) = inl cause
@@ -284,15 +278,15 @@ module _ {R : Type 0} (old new : State) (result : Result R StoreFault) (hall : I
         refused = person_told it.person (state g it.mid) (state g it.left) it.hall.schema it.refused;
       }))
 
-  pub puzzle_fault : (row : PuzzleRow) → IsPuzzleRow row → Asks (content_of old) (λ world. CanPutPuzzle world row)
-      → OnErr result (KeptRows old new) → (HasCleanDisk new → Fails (PutPuzzleFails row old new) result) → Fails (CanFail new) result
-  puzzle_fault row ranged can stayed cause =
-      change_fault (PutPuzzle row) old new result (PutPuzzleFails row old new) ranged can stayed cause (λ was why. refused_told (put_told row old new why))
+  pub puzzle_fault : (row : PuzzleRow)
+      → OnErr result (KeptRows old new) → (HasCleanDisk new → Fails (PutPuzzleFails row old new) result) → Fails (CanRefuse (PutPuzzle row) new) result
+  puzzle_fault row stayed cause =
+      change_fault (PutPuzzle row) old new result (PutPuzzleFails row old new) stayed cause (λ was why. refused_told (put_told row old new why))
 
-  pub state_fault : (key : PuzzleKey) (known : PuzzleState) → IsState known → Asks (content_of old) (λ world. CanSetState world key)
-      → OnErr result (KeptRows old new) → (HasCleanDisk new → Fails (SetStateFails key known old new) result) → Fails (CanFail new) result
-  state_fault key known ranged can stayed cause =
-      change_fault (SetState key known) old new result (SetStateFails key known old new) ranged can stayed cause go
+  pub state_fault : (key : PuzzleKey) (known : PuzzleState)
+      → OnErr result (KeptRows old new) → (HasCleanDisk new → Fails (SetStateFails key known old new) result) → Fails (CanRefuse (SetState key known) new) result
+  state_fault key known stayed cause =
+      change_fault (SetState key known) old new result (SetStateFails key known old new) stayed cause go
     where
       go : HasCleanDisk old → SetStateFails key known old new → IsTold (SetState key known) old new
       go was (inl find) =
@@ -303,37 +297,37 @@ module _ {R : Type 0} (old new : State) (result : Result R StoreFault) (hall : I
           put (inl cause) = inl cause
           put (inr refused) = inr (inr (it.0, it.1, refused))
 
-  pub put_round_fault : (row : RoundRow) → IsRoundRow row → Asks (content_of old) (λ world. CanPutRound world row)
-      → OnErr result (KeptRows old new) → (HasCleanDisk new → Fails (PutRoundFails row old new) result) → Fails (CanFail new) result
-  put_round_fault row ranged can stayed cause =
-      change_fault (PutRound row) old new result (PutRoundFails row old new) ranged can stayed cause (λ was. refused_told)
+  pub put_round_fault : (row : RoundRow)
+      → OnErr result (KeptRows old new) → (HasCleanDisk new → Fails (PutRoundFails row old new) result) → Fails (CanRefuse (PutRound row) new) result
+  put_round_fault row stayed cause =
+      change_fault (PutRound row) old new result (PutRoundFails row old new) stayed cause (λ was. refused_told)
 
-  pub flag_fault : (id : List ℕ) (flag : RoundFlag) → Asks (content_of old) (λ world. CanSetFlag world id)
-      → OnErr result (KeptRows old new) → (HasCleanDisk new → Fails (SetFlagFails id flag old new) result) → Fails (CanFail new) result
-  flag_fault id flag can stayed cause =
-      change_fault (SetRoundFlag id flag) old new result (SetFlagFails id flag old new) tt can stayed cause go
+  pub flag_fault : (id : List ℕ) (flag : RoundFlag)
+      → OnErr result (KeptRows old new) → (HasCleanDisk new → Fails (SetFlagFails id flag old new) result) → Fails (CanRefuse (SetRoundFlag id flag) new) result
+  flag_fault id flag stayed cause =
+      change_fault (SetRoundFlag id flag) old new result (SetFlagFails id flag old new) stayed cause go
     where
       go : HasCleanDisk old → SetFlagFails id flag old new → IsTold (SetRoundFlag id flag) old new
       go was (inl find) = read_told (of_find round_in HEAD.now (Text id ∷ []) (head_unread id) old new hall was (head_twice id) find)
       go was (inr (round, kept, inl cause)) = inl cause
       go was (inr (round, kept, inr refused)) = inr (inr (round, kept, refused))
 
-  pub answer_fault : (row : AnswerRow) → IsAnswerRow row → Asks (content_of old) (λ world. CanAddAnswer world row)
+  pub answer_fault : (row : AnswerRow)
       → OnErr result (KeptRows old new) → (HasCleanDisk new → Fails (RunFails ADD_ANSWER.now (answer_params row) old new) result)
-      → Fails (CanFail new) result
-  answer_fault row ranged can stayed cause =
-      change_fault (AddAnswer row) old new result (RunFails ADD_ANSWER.now (answer_params row) old new) ranged can stayed cause (λ was. refused_told)
+      → Fails (CanRefuse (AddAnswer row) new) result
+  answer_fault row stayed cause =
+      change_fault (AddAnswer row) old new result (RunFails ADD_ANSWER.now (answer_params row) old new) stayed cause (λ was. refused_told)
 
-  pub protest_fault : (row : ProtestRow) → IsProtestRow row → Asks (content_of old) (λ world. CanAddProtest world row)
+  pub protest_fault : (row : ProtestRow)
       → OnErr result (KeptRows old new) → (HasCleanDisk new → Fails (RunFails ADD_PROTEST.now (protest_params row) old new) result)
-      → Fails (CanFail new) result
-  protest_fault row ranged can stayed cause =
-      change_fault (AddProtest row) old new result (RunFails ADD_PROTEST.now (protest_params row) old new) ranged can stayed cause (λ was. refused_told)
+      → Fails (CanRefuse (AddProtest row) new) result
+  protest_fault row stayed cause =
+      change_fault (AddProtest row) old new result (RunFails ADD_PROTEST.now (protest_params row) old new) stayed cause (λ was. refused_told)
 
-  pub ruling_fault : (key : ProtestKey) (ruling : Ruling) → IsRuling ruling → Asks (content_of old) (λ world. CanRuleProtest world key)
-      → OnErr result (KeptRows old new) → (HasCleanDisk new → Fails (RuleFails key ruling old new) result) → Fails (CanFail new) result
-  ruling_fault key ruling ranged can stayed cause =
-      change_fault (RuleProtest key ruling) old new result (RuleFails key ruling old new) ranged can stayed cause go
+  pub ruling_fault : (key : ProtestKey) (ruling : Ruling)
+      → OnErr result (KeptRows old new) → (HasCleanDisk new → Fails (RuleFails key ruling old new) result) → Fails (CanRefuse (RuleProtest key ruling) new) result
+  ruling_fault key ruling stayed cause =
+      change_fault (RuleProtest key ruling) old new result (RuleFails key ruling old new) stayed cause go
     where
       go : HasCleanDisk old → RuleFails key ruling old new → IsTold (RuleProtest key ruling) old new
       go was (inl find) =

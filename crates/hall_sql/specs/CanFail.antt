@@ -1,4 +1,4 @@
--- Why a connection may refuse a call, beside want of memory: as its state alone tells.
+-- Why a connection may refuse a call, other than out of memory: as its state alone tells.
 use Rattle.std.specs.Prelude.{◌≡◌, ◌⊎◌, ◌<◌, ◌+◌, ℕ, false, List, [], ◌∷◌, All, Contains, drop, take, length, Some}
 use Rattle.std.specs.List.{filter, list_all}
 use Rattle.std.specs.FinMap.{get}
@@ -7,12 +7,11 @@ use Rattle.sqlite.specs.Order.{Row}
 use Rattle.sqlite.specs.State.{State, HasCleanDisk}
 use Rattle.sqlite.specs.Term.{Term, holds}
 use Rattle.sqlite.specs.Tree.{Trees}
-use Rattle.hall_policy.specs.Ranges.{IsPerson, IsPuzzleRow, IsState, IsRoundRow, IsAnswerRow, IsProtestRow, IsRuling}
 use Rattle.hall_policy.specs.declared.record.Person.{Person}
 use Rattle.hall_policy.specs.declared.record.ProtestRow.{ProtestRow}
 use Rattle.hall_policy.specs.declared.record.PuzzleRow.{PuzzleRow}
 use Rattle.hall_policy.specs.declared.record.Round.{Round}
-use Rattle.hall_store.specs.Change.{CanMake, flagged}
+use Rattle.hall_store.specs.Change.{flagged}
 use Rattle.hall_store.specs.declared.change.Change.{Change}
 use Rattle.hall_store.specs.declared.change.Change.TheVariants.{Nothing, Import, PutPuzzle, SetState}
 use Rattle.hall_store.specs.declared.change.Change.TheVariants.{PutRound, SetRoundFlag, AddAnswer}
@@ -59,18 +58,6 @@ KeepsNoWorld trees =
 
 -- ---- what is refused
 
--- what the change writes lies in the ranges of its types
-abbrev pub IsChangeInRange : Change → Type 0
-IsChangeInRange Nothing = Unit {0}
-IsChangeInRange (Import people) = All IsPerson people
-IsChangeInRange (PutPuzzle row) = IsPuzzleRow row
-IsChangeInRange (SetState key known) = IsState known
-IsChangeInRange (PutRound row) = IsRoundRow row
-IsChangeInRange (SetRoundFlag id flag) = Unit {0}
-IsChangeInRange (AddAnswer row) = IsAnswerRow row
-IsChangeInRange (AddProtest row) = IsProtestRow row
-IsChangeInRange (RuleProtest key ruling) = IsRuling ruling
-
 -- Those before one person of the list are imported, and what the tables then keep is no world, or that one's name is
 -- unknown, and the statement that adds the person is refused.
 pub record RefusesPerson (people : List Person) (old : Database) : Type 0 where
@@ -105,17 +92,18 @@ RefusesChange (RuleProtest key ruling) db =
     (row : ProtestRow) × (get (world_of db.trees).protests key ≡ Some row)
     × IsStatementRefused RULE_PROTEST.now (ruling_params key (Some ruling)) db
 
--- a change that the world allows is refused
-pub record RefusesAllowed (db : Database) : Type 0 where
-  pub change : Change
-  pub ranged : IsChangeInRange change
-  pub allowed : CanMake change (world_of db.trees)
-  pub refused : RefusesChange change db
-
 -- ---- all of it
 
--- A call may be refused for another cause than want of memory, where the disk is clean: a fault of the device has been
--- counted, or the connection is shut, or what the tables keep is no world, or they refuse a change that it allows.
+-- A call was refused for another cause than being out of memory: a fault of the device has been counted, or the
+-- connection is shut, or its tables are bad in this sense.
+abbrev pub HasReason : (Database → Type 0) → State → Type 0
+HasReason Bad s = (0 < s.faults) ⊎ ((s.is_open ≡ false) ⊎ Bad s.now)
+
+-- A call that reads may be refused for another cause than being out of memory, where the disk is clean: what the tables
+-- keep is no world, or the connection has a reason.
 abbrev pub CanFail : State → Type 0
-CanFail s =
-    HasCleanDisk s → (0 < s.faults) ⊎ ((s.is_open ≡ false) ⊎ (KeepsNoWorld s.now.trees ⊎ RefusesAllowed s.now))
+CanFail s = HasCleanDisk s → HasReason (λ db. KeepsNoWorld db.trees) s
+
+-- A call that makes the change may: so, or the tables refuse this change.
+abbrev pub CanRefuse : Change → State → Type 0
+CanRefuse change s = HasCleanDisk s → HasReason (λ db. KeepsNoWorld db.trees ⊎ RefusesChange change db) s

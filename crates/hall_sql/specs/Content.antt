@@ -4,7 +4,7 @@ use Rattle.sqlite.specs.State.{State, HasCleanDisk}
 use Rattle.sqlite.specs.Tree.{Trees}
 use Rattle.hall_store.specs.Store.{Content, Makes}
 use Rattle.hall_store.specs.declared.change.Change.{Change}
-use Rattle.hall_sql.specs.CanFail.{CanFail}
+use Rattle.hall_sql.specs.CanFail.{CanFail, CanRefuse}
 use Rattle.hall_sql.specs.Rows.{world_of}
 use Rattle.hall_sql.specs.Spared.{may_write, KeptOtherRows}
 use Rattle.hall_sql.specs.Standing.{IsHall, KeptRows}
@@ -22,6 +22,7 @@ content_of s = record {
   world = world_of s.now.trees;
   may_leave = λ left. (db : Trees) × s.may_leave db × OpensTo StandsFor db left;
   can_fail = CanFail s;
+  can_refuse = λ change. CanRefuse change s;
 }
 
 -- A call that writes: the hall stands, and it made the change and left each row that the change may not write, or it

@@ -243,7 +243,7 @@ pub(crate) fn all_answers<S: Alter>(
 }
 
 /// Tells a proof that the answer lies in the ranges of its types.
-pub(crate) fn in_range(row: &AnswerRow)
+fn in_range(row: &AnswerRow)
     ensures { IsAnswerRow row.now }
 {
     let _entrant = row.key.entrant.as_str();

@@ -223,7 +223,7 @@ fn points_of(ruling: &Option<Ruling>) -> i32
 }
 
 /// Tells a proof that the protest lies in the ranges of its types.
-pub(crate) fn in_range(row: &ProtestRow)
+fn in_range(row: &ProtestRow)
     ensures { IsProtestRow row.now }
 {
     let _entrant = row.key.entrant.as_str();
@@ -232,15 +232,6 @@ pub(crate) fn in_range(row: &ProtestRow)
     let _number = row.number.get();
     let _text = row.text.as_str();
     let _points = points_of(&row.ruling);
-}
-
-/// Tells a proof that the ruling lies in the range of its type.
-pub(crate) fn ruling_in_range(ruling: &Ruling)
-    ensures { IsRuling ruling.now }
-{
-    if let Ruling::Upheld(points) = ruling {
-        let _points = points.get();
-    }
 }
 
 /// One more protest.

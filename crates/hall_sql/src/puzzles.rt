@@ -7,7 +7,7 @@ ghost use Rattle.hall_policy.specs.Rules.{puzzles_put};
 ghost use Rattle.sqlite.specs.State.{HasCleanDisk, Survives, CommitsBy};
 ghost use Rattle.hall_grid.specs.Text.{SpellsText};
 ghost use Rattle.hall_grid.specs.Canonical.{CanonicalText};
-ghost use Rattle.hall_policy.specs.Ranges.{IsPuzzleKey, IsPuzzleRow, IsState};
+ghost use Rattle.hall_policy.specs.Ranges.{IsPuzzleKey, IsState};
 ghost use Rattle.hall_store.specs.declared.change.Change.TheVariants.{PutPuzzle, SetState};
 ghost use Rattle.sqlite.specs.Values.{bound};
 ghost use Rattle.hall_sql.specs.Fill.{AddsPuzzle};
@@ -161,22 +161,6 @@ fn in_range(key: &PuzzleKey)
 {
     let _author = key.author.as_str();
     let _label = key.label.as_str();
-}
-
-/// Tells a proof that the state lies in the ranges of its type.
-pub(crate) fn state_in_range(state: &PuzzleState)
-    ensures { IsState state.now }
-{
-    let _solution = solution_of(state);
-}
-
-/// Tells a proof that the puzzle lies in the ranges of its types.
-pub(crate) fn row_in_range(row: &PuzzleRow)
-    ensures { IsPuzzleRow row.now }
-{
-    in_range(&row.key);
-    let _kind = row.puzzle.kind();
-    state_in_range(&row.state);
 }
 
 /// The rows under a puzzle's key.

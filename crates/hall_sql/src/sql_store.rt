@@ -17,7 +17,7 @@ ghost use Rattle.hall_sql.specs.WholeRows.{AreRowsOf};
 use crate::adoption::adopt;
 use crate::answers::{
     add_answer, all_answers, answer, answers_given, answers_in, answers_of, has_answered,
-    in_range as answer_in_range, is_number_taken,
+    is_number_taken,
 };
 use crate::bad_rows::{BadRows, bad_rows};
 use crate::calls::live;
@@ -25,12 +25,11 @@ use crate::feed::{feed_answers, feed_protests};
 use crate::migration::{Migrated, take_rows};
 use crate::people::{all_people, import, person, person_by_key};
 use crate::protests::{
-    add_protest, all_protests, has_open_protest, in_range as protest_in_range, protest,
-    protests_in, protests_made, protests_of, rule_protest, ruling_in_range,
+    add_protest, all_protests, has_open_protest, protest, protests_in, protests_made, protests_of,
+    rule_protest,
 };
 use crate::puzzles::{
-    all_puzzles, put_puzzle, puzzle, puzzles_of, puzzles_put, row_in_range, set_state,
-    state_in_range,
+    all_puzzles, put_puzzle, puzzle, puzzles_of, puzzles_put, set_state,
 };
 use crate::record::{Place, Tester};
 use crate::round_writes::{put_round, set_round_flag};
@@ -669,8 +668,7 @@ impl<S: Alter + Drop> Store for SqlStore<S> {
     ghost use Rattle.sqlite.specs.Held.{state};
     ghost use Rattle.sqlite.specs.State.{HasCleanDisk};
     ghost use Rattle.hall_store.specs.Store.{Fails, Asks};
-    ghost use Rattle.hall_store.specs.Change.{CanAddAnswer, CanAddProtest, CanImport, CanPutPuzzle, CanPutRound};
-    ghost use Rattle.hall_store.specs.Change.{CanRuleProtest, CanSetFlag, CanSetState};
+    ghost use Rattle.hall_store.specs.Change.{CanAddAnswer, CanAddProtest};
     ghost use Rattle.hall_store.specs.declared.change.Change.TheVariants.{Import, PutPuzzle, SetState, PutRound};
     ghost use Rattle.hall_store.specs.declared.change.Change.TheVariants.{SetRoundFlag, AddAnswer, AddProtest};
     ghost use Rattle.hall_store.specs.declared.change.Change.TheVariants.{RuleProtest};
@@ -681,17 +679,15 @@ impl<S: Alter + Drop> Store for SqlStore<S> {
     ghost use Rattle.hall_sql.specs.WriteCause.{ImportFails, PutPuzzleFails, PutRoundFails, RuleFails, RunFails};
     ghost use Rattle.hall_sql.specs.WriteCause.{SetFlagFails, SetStateFails};
     ghost use Rattle.hall_sql.specs.RoundPuts.{PutsRows};
-    ghost use Rattle.hall_sql.specs.CanFail.{CanFail};
+    ghost use Rattle.hall_sql.specs.CanFail.{CanRefuse};
     ghost use Rattle.hall_sql.specs.Content.{MakesInTables, content_of};
 
     fn import(&mut self, alloc: Global, people: &People) -> Result<(), StoreFault>
         ensures wrote { MakesInTables (Import people.now) (state S.Store self.old) (state S.Store self.new) result }
-        ensures fault { Asks (content_of (state S.Store self.old)) (λ world. CanImport world people.now)
-            → Fails (CanFail (state S.Store self.new)) result }
+        ensures fault { Fails (CanRefuse (Import people.now) (state S.Store self.new)) result }
         ensures cause { HasCleanDisk (state S.Store self.new) → Fails
             (ImportFails S.Store people.now (state S.Store self.old) (state S.Store self.new)) result }
     {
-        people.in_range();
         import(&mut self.conn, alloc, people)
     }
 
@@ -699,12 +695,10 @@ impl<S: Alter + Drop> Store for SqlStore<S> {
         ensures wrote { MakesInTables (PutPuzzle row) (state S.Store self.old) (state S.Store self.new) result }
         ensures text { HasCleanDisk (state S.Store self.new)
             → OnOk result (HasPuzzleRow row (state S.Store self.new).now) }
-        ensures fault { Asks (content_of (state S.Store self.old)) (λ world. CanPutPuzzle world row)
-            → Fails (CanFail (state S.Store self.new)) result }
+        ensures fault { Fails (CanRefuse (PutPuzzle row) (state S.Store self.new)) result }
         ensures cause { HasCleanDisk (state S.Store self.new) → Fails
             (PutPuzzleFails row (state S.Store self.old) (state S.Store self.new)) result }
     {
-        row_in_range(&row);
         put_puzzle(&mut self.conn, alloc, &row)
     }
 
@@ -716,12 +710,10 @@ impl<S: Alter + Drop> Store for SqlStore<S> {
     ) -> Result<(), StoreFault>
         ensures wrote { MakesInTables (SetState key.now known) (state S.Store self.old) (state S.Store self.new)
             result }
-        ensures fault { Asks (content_of (state S.Store self.old)) (λ world. CanSetState world key.now)
-            → Fails (CanFail (state S.Store self.new)) result }
+        ensures fault { Fails (CanRefuse (SetState key.now known) (state S.Store self.new)) result }
         ensures cause { HasCleanDisk (state S.Store self.new) → Fails
             (SetStateFails key.now known (state S.Store self.old) (state S.Store self.new)) result }
     {
-        state_in_range(&known);
         set_state(&mut self.conn, alloc, key, known)
     }
 
@@ -729,12 +721,10 @@ impl<S: Alter + Drop> Store for SqlStore<S> {
         ensures wrote { MakesInTables (PutRound row) (state S.Store self.old) (state S.Store self.new) result }
         ensures rows { HasCleanDisk (state S.Store self.new) → OnOk result
             (PutsRows row (state S.Store self.old).now (state S.Store self.new).now) }
-        ensures fault { Asks (content_of (state S.Store self.old)) (λ world. CanPutRound world row)
-            → Fails (CanFail (state S.Store self.new)) result }
+        ensures fault { Fails (CanRefuse (PutRound row) (state S.Store self.new)) result }
         ensures cause { HasCleanDisk (state S.Store self.new) → Fails
             (PutRoundFails row (state S.Store self.old) (state S.Store self.new)) result }
     {
-        row.in_range();
         put_round(&mut self.conn, &row)
     }
 
@@ -746,8 +736,7 @@ impl<S: Alter + Drop> Store for SqlStore<S> {
     ) -> Result<(), StoreFault>
         ensures wrote { MakesInTables (SetRoundFlag id.now flag) (state S.Store self.old) (state S.Store self.new)
             result }
-        ensures fault { Asks (content_of (state S.Store self.old)) (λ world. CanSetFlag world id.now)
-            → Fails (CanFail (state S.Store self.new)) result }
+        ensures fault { Fails (CanRefuse (SetRoundFlag id.now flag) (state S.Store self.new)) result }
         ensures cause { HasCleanDisk (state S.Store self.new) → Fails
             (SetFlagFails id.now flag (state S.Store self.old) (state S.Store self.new)) result }
     {
@@ -757,22 +746,20 @@ impl<S: Alter + Drop> Store for SqlStore<S> {
     fn add_answer(&mut self, _alloc: Global, row: AnswerRow) -> Result<(), StoreFault>
         requires { Asks (content_of (state S.Store self.old)) (λ world. CanAddAnswer world row) }
         ensures wrote { MakesInTables (AddAnswer row) (state S.Store self.old) (state S.Store self.new) result }
-        ensures fault { Fails (CanFail (state S.Store self.new)) result }
+        ensures fault { Fails (CanRefuse (AddAnswer row) (state S.Store self.new)) result }
         ensures cause { HasCleanDisk (state S.Store self.new) → Fails
             (RunFails ADD_ANSWER.now (answer_params row) (state S.Store self.old) (state S.Store self.new)) result }
     {
-        answer_in_range(&row);
         add_answer(&mut self.conn, &row)
     }
 
     fn add_protest(&mut self, _alloc: Global, row: ProtestRow) -> Result<(), StoreFault>
         requires { Asks (content_of (state S.Store self.old)) (λ world. CanAddProtest world row) }
         ensures wrote { MakesInTables (AddProtest row) (state S.Store self.old) (state S.Store self.new) result }
-        ensures fault { Fails (CanFail (state S.Store self.new)) result }
+        ensures fault { Fails (CanRefuse (AddProtest row) (state S.Store self.new)) result }
         ensures cause { HasCleanDisk (state S.Store self.new) → Fails
             (RunFails ADD_PROTEST.now (protest_params row) (state S.Store self.old) (state S.Store self.new)) result }
     {
-        protest_in_range(&row);
         add_protest(&mut self.conn, &row)
     }
 
@@ -784,12 +771,10 @@ impl<S: Alter + Drop> Store for SqlStore<S> {
     ) -> Result<(), StoreFault>
         ensures wrote { MakesInTables (RuleProtest key.now ruling) (state S.Store self.old) (state S.Store self.new)
             result }
-        ensures fault { Asks (content_of (state S.Store self.old)) (λ world. CanRuleProtest world key.now)
-            → Fails (CanFail (state S.Store self.new)) result }
+        ensures fault { Fails (CanRefuse (RuleProtest key.now ruling) (state S.Store self.new)) result }
         ensures cause { HasCleanDisk (state S.Store self.new) → Fails
             (RuleFails key.now ruling (state S.Store self.old) (state S.Store self.new)) result }
     {
-        ruling_in_range(&ruling);
         rule_protest(&mut self.conn, alloc, key, ruling)
     }
 }

@@ -237,8 +237,8 @@ pub trait ReadStore: Drop {
 
 /// The hall's world, however it is kept, as those see it who also write: who makes a planned change gets this.
 ///
-/// A write makes its change, or is refused, and has then left the world. When that holds, and why a call is refused,
-/// is as of a `ReadStore`.
+/// A write makes its change, or is refused, and has then left the world. When that holds is as of a `ReadStore`; why a
+/// call is refused, other than out of memory, is as the content tells of its change (`can_refuse`).
 pub trait Store: ReadStore {
     ghost use Rattle.hall_store.specs.Store.{Fails, Asks, Makes};
     ghost use Rattle.hall_store.specs.Change.{CanImport, CanPutPuzzle, CanSetState, CanPutRound, CanSetFlag};
@@ -252,13 +252,13 @@ pub trait Store: ReadStore {
     fn import(&mut self, alloc: Global, people: &People) -> Result<(), StoreFault>
         requires { Asks (Self.content self.old) (λ world. CanImport world people.now) }
         ensures makes { Makes (Import people.now) (Self.content self.old) (Self.content self.new) result }
-        ensures fault { Fails (Self.content self.new).can_fail result };
+        ensures fault { Fails ((Self.content self.new).can_refuse (Import people.now)) result };
 
     /// Stores the puzzle, in the place of the one under its key.
     fn put_puzzle(&mut self, alloc: Global, row: PuzzleRow) -> Result<(), StoreFault>
         requires { Asks (Self.content self.old) (λ world. CanPutPuzzle world row) }
         ensures makes { Makes (PutPuzzle row) (Self.content self.old) (Self.content self.new) result }
-        ensures fault { Fails (Self.content self.new).can_fail result };
+        ensures fault { Fails ((Self.content self.new).can_refuse (PutPuzzle row)) result };
 
     /// Sets the state of the puzzle under the key.
     fn set_state(
@@ -269,13 +269,13 @@ pub trait Store: ReadStore {
     ) -> Result<(), StoreFault>
         requires { Asks (Self.content self.old) (λ world. CanSetState world key.now) }
         ensures makes { Makes (SetState key.now state) (Self.content self.old) (Self.content self.new) result }
-        ensures fault { Fails (Self.content self.new).can_fail result };
+        ensures fault { Fails ((Self.content self.new).can_refuse (SetState key.now state)) result };
 
     /// Stores the round with its list and its testers, in the place of the one under its id.
     fn put_round(&mut self, alloc: Global, row: RoundRow) -> Result<(), StoreFault>
         requires { Asks (Self.content self.old) (λ world. CanPutRound world row) }
         ensures makes { Makes (PutRound row) (Self.content self.old) (Self.content self.new) result }
-        ensures fault { Fails (Self.content self.new).can_fail result };
+        ensures fault { Fails ((Self.content self.new).can_refuse (PutRound row)) result };
 
     /// Sets a flag of the round.
     fn set_round_flag(
@@ -286,19 +286,19 @@ pub trait Store: ReadStore {
     ) -> Result<(), StoreFault>
         requires { Asks (Self.content self.old) (λ world. CanSetFlag world id.now) }
         ensures makes { Makes (SetRoundFlag id.now flag) (Self.content self.old) (Self.content self.new) result }
-        ensures fault { Fails (Self.content self.new).can_fail result };
+        ensures fault { Fails ((Self.content self.new).can_refuse (SetRoundFlag id.now flag)) result };
 
     /// Stores one more answer.
     fn add_answer(&mut self, alloc: Global, row: AnswerRow) -> Result<(), StoreFault>
         requires { Asks (Self.content self.old) (λ world. CanAddAnswer world row) }
         ensures makes { Makes (AddAnswer row) (Self.content self.old) (Self.content self.new) result }
-        ensures fault { Fails (Self.content self.new).can_fail result };
+        ensures fault { Fails ((Self.content self.new).can_refuse (AddAnswer row)) result };
 
     /// Stores one more protest.
     fn add_protest(&mut self, alloc: Global, row: ProtestRow) -> Result<(), StoreFault>
         requires { Asks (Self.content self.old) (λ world. CanAddProtest world row) }
         ensures makes { Makes (AddProtest row) (Self.content self.old) (Self.content self.new) result }
-        ensures fault { Fails (Self.content self.new).can_fail result };
+        ensures fault { Fails ((Self.content self.new).can_refuse (AddProtest row)) result };
 
     /// Rules the protest under the key.
     fn rule_protest(
@@ -309,5 +309,5 @@ pub trait Store: ReadStore {
     ) -> Result<(), StoreFault>
         requires { Asks (Self.content self.old) (λ world. CanRuleProtest world key.now) }
         ensures makes { Makes (RuleProtest key.now ruling) (Self.content self.old) (Self.content self.new) result }
-        ensures fault { Fails (Self.content self.new).can_fail result };
+        ensures fault { Fails ((Self.content self.new).can_refuse (RuleProtest key.now ruling)) result };
 }

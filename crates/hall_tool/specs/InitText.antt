@@ -12,7 +12,7 @@ use Rattle.hall_tool.specs.declared.seed.Seeded.{Seeded}
 use Rattle.hall_tool.specs.declared.seed.Seeded.TheVariants.{Refused, Denied, Added}
 use Rattle.hall_tool.specs.JudgeText.{on_own_line}
 use Rattle.hall_tool.specs.Machine.{Kinds}
-use Rattle.hall_tool.specs.SeedText.{IsSeeded, StopsInList, seeded_line, seeded_status}
+use Rattle.hall_tool.specs.SeedText.{IsSeeded, StopsInList, ListCanFail, seeded_line, seeded_status}
 
 -- how many people were added, on a line
 abbrev pub added_line : ℕ → List ℕ
@@ -30,7 +30,7 @@ InitText list old new line status =
     (seeded : Seeded) × IsSeeded list old new seeded × (line ≡ init_line seeded) × (status ≡ seeded_status seeded)
 
 -- what came of the list was written on a line; at a device's fault, a first part of it; another fault left the world
--- and the writer, and the store is one only where it can fail
+-- and the writer, and the store is one only where the import can fail
 pub record IsInitRun {S R W : Type 0} (k : Kinds S R W) (list : List ℕ) (old new : Content) (writer written : Tally W)
     (result : Result ℕ ToolFault) : Type 0 where
   pub leads : Leads old new
@@ -45,4 +45,4 @@ pub record IsInitRun {S R W : Type 0} (k : Kinds S R W) (list : List ℕ) (old n
   pub part : IsErrOf result tool.Device → (line : List ℕ) × (status : ℕ) × InitText list old new line status
       × WritesPart (k.streams.contents writer.device) (k.streams.contents written.device) line
   pub memory : IsErrOf result tool.Memory → KeptWorld old new × (written ≡ writer)
-  pub store : IsErrOf result tool.Store → new.can_fail × KeptWorld old new × (written ≡ writer)
+  pub store : IsErrOf result tool.Store → ListCanFail list new × KeptWorld old new × (written ≡ writer)

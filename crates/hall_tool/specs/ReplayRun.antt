@@ -8,12 +8,12 @@ use Rattle.hall_http.specs.Replay.{IsReplayed}
 use Rattle.hall_http.specs.declared.fault.ReplayFault.{ReplayFault}
 use Rattle.hall_http.specs.declared.fault.ReplayFault.TheVariants as replay
 use Rattle.hall_tool.specs.Machine.{Kinds, Stand}
-use Rattle.hall_tool.specs.SeedText.{SeedText, StopsInList}
+use Rattle.hall_tool.specs.SeedText.{SeedText, StopsInList, ListCanFail}
 use Rattle.hall_tool.specs.declared.fault.ToolFault.{ToolFault}
 use Rattle.hall_tool.specs.declared.fault.ToolFault.TheVariants as tool
 
 -- an entry list was imported before any request, or was refused or denied on a line; or a fault left the world, and
--- perhaps a first part of the line, and the store is one only where it can fail
+-- perhaps a first part of the line, and the store is one only where the import can fail
 pub record IsSeedRun {S R W : Type 0} (k : Kinds S R W) (list : List ℕ) (old new : Content) (writer written : Tally W)
     (result : Result ℕ ToolFault) : Type 0 where
   pub leads : Leads old new
@@ -29,7 +29,7 @@ pub record IsSeedRun {S R W : Type 0} (k : Kinds S R W) (list : List ℕ) (old n
       × WritesPart (k.streams.contents writer.device) (k.streams.contents written.device) line
   pub memory : IsErrOf result tool.Memory → written ≡ writer
   pub store : IsErrOf result tool.Store → written ≡ writer
-  pub cause : IsErrOf result tool.Store → new.can_fail
+  pub cause : IsErrOf result tool.Store → ListCanFail list new
 
 -- 0 exactly where the records ended well, 2 where what was left is none; a fault is a fault
 abbrev pub replay_end : {U : Type 0} → Result U ReplayFault → Result ℕ ToolFault

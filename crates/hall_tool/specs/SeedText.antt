@@ -2,7 +2,7 @@
 use Rattle.std.specs.Prelude.{◌≡◌, ◌≤◌, ◌⊎◌, ℕ, ⊤, List, [], ◌++◌, codes, decimal, Ok, Err}
 use Rattle.hall_policy.specs.declared.record.Person.{Person}
 use Rattle.hall_store.specs.Store.{Content, Kept, LeavesNoOther}
-use Rattle.hall_desk.specs.Plans.{Seeds, StopsInSeed}
+use Rattle.hall_desk.specs.Plans.{Seeds, SeedCanFail, StopsInSeed}
 use Rattle.hall_desk.specs.declared.reply.Reply.{Reply}
 use Rattle.hall_desk.specs.declared.reply.Reply.TheVariants as reply
 use Rattle.hall_sheet.specs.Fault.{refusal_text}
@@ -21,6 +21,10 @@ abbrev pub IsSeeded : List ℕ → Content → Content → Seeded → Type 0
 IsSeeded list old new (Refused refusal) = (people_in list ≡ Err refusal) × Kept old new
 IsSeeded list old new (Denied rule) = IsListAnswered list old new (reply.Denied rule) × (new.writes ≤ old.writes)
 IsSeeded list old new (Added count) = IsListAnswered list old new (reply.Import count)
+
+-- the list's import may be refused for another cause than being out of memory
+abbrev pub ListCanFail : List ℕ → Content → Type 0
+ListCanFail list content = (people : List Person) × (people_in list ≡ Ok people) × SeedCanFail people content
 
 -- What a stop in the import of a list, or after it, leaves: what is left in the import of the people that it spells, so
 -- all of them or none; or a world that a stop before it could leave.

@@ -11,7 +11,7 @@ ghost use Rattle.hall_sheet.specs.People.{people_in};
 ghost use Rattle.hall_sheet.specs.declared.fault.Refusal.{Refusal};
 ghost use Rattle.std.specs.Prelude.{Err};
 ghost use Rattle.hall_tool.specs.InitText.{InitText, init_line};
-ghost use Rattle.hall_tool.specs.SeedText.{AddsNobody, StopsInList, seeded_status};
+ghost use Rattle.hall_tool.specs.SeedText.{AddsNobody, ListCanFail, StopsInList, seeded_status};
 
 use crate::ending::{Ending, ROOM, counted};
 use crate::fault::ToolFault;
@@ -64,7 +64,7 @@ pub fn init_run<S: Store, W: Write>(
     // Another fault leaves the world and the writer.
     ensures memory { IsErrOf result ToolFault.Memory → KeptWorld (S.content (kept_by desk.old))
         (S.content (kept_by desk.new)) × (writer.new ≡ writer.old) }
-    ensures store { IsErrOf result ToolFault.Store → (S.content (kept_by desk.new)).can_fail
+    ensures store { IsErrOf result ToolFault.Store → ListCanFail list.now (S.content (kept_by desk.new))
         × KeptWorld (S.content (kept_by desk.old)) (S.content (kept_by desk.new)) × (writer.new ≡ writer.old) }
 {
     desk.at_rest();

@@ -1,5 +1,5 @@
 use Rattle.hall_desk.proofs.Stepping.{once_after}
-use Rattle.hall_desk.proofs.Seeding.{seed_made, seed_refused, seed_quiet, seed_stops, seed_answered}
+use Rattle.hall_desk.proofs.Seeding.{seed_fails, seed_made, seed_refused, seed_quiet, seed_stops, seed_answered}
 use Rattle.hall_desk.proofs.seed.make_seed.Goals as goal
 
 pub returns-clause-seeds : goal.returns-clause-seeds
@@ -35,3 +35,8 @@ returns-clause-stops g c =
     let plan = c.in_ok-plan.ensures in
     seed_stops g.S.ReadStore.content (g.S.ReadStore.content c.args.store.now) c.plan_seed.new.store c.commit.new.store c.args.people.now c.in_ok-plan.plan plan.kept c.commit.ensures.leads
     plan.told.0 plan.told.1 c.commit.ensures.stops
+
+pub returns-clause-fault : goal.returns-clause-fault
+returns-clause-fault g c =
+    seed_fails c.commit.result c.args.people.now c.in_ok-plan.plan.change (g.S.ReadStore.content c.commit.new.store)
+    c.in_ok-plan.ensures.changes (λ none. (c.commit.ensures.nothing none).0) c.commit.ensures.fault

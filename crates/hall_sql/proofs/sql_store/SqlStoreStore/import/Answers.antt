@@ -3,4 +3,4 @@ use Rattle.hall_sql.proofs.sql_store.SqlStoreStore.import.Goals as goal
 
 pub returns-clause-fault : goal.returns-clause-fault
 returns-clause-fault g c =
-    rw (← c.self.view_is) (λ can. import_fault _ _ c.import.result c.self.invariant g.S.Store c.args.people.now c.in_range.ensures.each can c.import.ensures.wrote.refused c.import.ensures.cause)
+    import_fault _ _ c.import.result c.self.invariant g.S.Store c.args.people.now c.import.ensures.wrote.refused c.import.ensures.cause

@@ -6,4 +6,4 @@ returns-clause-cause g c = rw (← c.self.view_is) c.rule_protest.ensures.cause
 
 pub returns-clause-fault : goal.returns-clause-fault
 returns-clause-fault g c =
-    rw (← c.self.view_is) (λ can. ruling_fault _ _ c.rule_protest.result c.self.invariant c.args.key.now c.args.ruling c.ruling_in_range.ensures can c.rule_protest.ensures.wrote.refused c.rule_protest.ensures.cause)
+    ruling_fault _ _ c.rule_protest.result c.self.invariant c.args.key.now c.args.ruling c.rule_protest.ensures.wrote.refused c.rule_protest.ensures.cause

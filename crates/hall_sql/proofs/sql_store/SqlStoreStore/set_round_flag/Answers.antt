@@ -6,4 +6,4 @@ returns-clause-cause g c = rw (← c.self.view_is) c.set_round_flag.ensures.caus
 
 pub returns-clause-fault : goal.returns-clause-fault
 returns-clause-fault g c =
-    rw (← c.self.view_is) (λ can. flag_fault _ _ c.set_round_flag.result c.self.invariant c.args.id.now c.args.flag can c.set_round_flag.ensures.wrote.refused c.set_round_flag.ensures.cause)
+    flag_fault _ _ c.set_round_flag.result c.self.invariant c.args.id.now c.args.flag c.set_round_flag.ensures.wrote.refused c.set_round_flag.ensures.cause
