@@ -96,5 +96,6 @@ abbrev pub IsRegularWith : ℤ → Option DstText → Type 0
 IsRegularWith std None = Unit {0}
 IsRegularWith std (Some dst) = BeginsFirst std dst ⊎ EndsFirst std dst
 
+-- the zone has no daylight saving time, or it is so in each year
 abbrev pub IsRegular : TzText → Type 0
 IsRegular zone = IsRegularWith zone.std_seconds zone.dst

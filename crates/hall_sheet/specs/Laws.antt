@@ -33,6 +33,7 @@ pub record IsSeason (dst : DstText) : Type 0 where
   pub ends_within : IsInRange 2 11 ends
   pub apart : (begins + 2 ≤ ends) ⊎ (ends + 2 ≤ begins)
 
+-- there is no daylight saving time, or it is such a season
 abbrev pub IsSeasonal : Option DstText → Type 0
 IsSeasonal None = Unit {0}
 IsSeasonal (Some dst) = IsSeason dst
