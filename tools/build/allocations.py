@@ -194,7 +194,7 @@ def main():
     for path, text in sources.items():
         for fault in faults_of(path, text):
             failed += 1
-            print(f"{path}: want of memory or 503 without the call that was refused: {fault}")
+            print(f"{path}: out of memory or 503 without the call that was refused: {fault}")
     for name, (path, old, new) in INVENTED.items():
         text = sources[path]
         if text.count(old) < 1:

@@ -42,7 +42,7 @@ pub struct Desk<S: ReadStore> {
     copies: Copies,
     memo: Option<Memo>,
     searches: Option<Searches>,
-    /// The device failed when the last write was to be made.
+    /// The last write that was to be made failed, and not for memory.
     refuses_writes: bool,
 }
 
@@ -117,7 +117,8 @@ impl<S: ReadStore> Desk<S> {
         }
     }
 
-    /// Whether the device failed when the last write was to be made, as a full one does. No clause speaks of it.
+    /// Whether the last write that was to be made failed, and not for memory, as on a full device. No clause speaks of
+    /// it.
     pub fn refuses_writes(&self) -> bool {
         self.refuses_writes
     }

@@ -47,12 +47,12 @@ pub fn law_bytes()
 {}
 
 /// What the bytes hide in a run they hide over a life of the hall: lists of people that come by no request may stand
-/// between the requests, and a request may get 503 in both lives. An entrant alone is told under a key, without one or
-/// under one that nobody holds, and so is what is no request. The bytes of all these replies together, in their order,
-/// are the same where the requests of others who are entrants alone don't come, if no round is published to which they
-/// hand in; and until a sealed round's end, where two answers to the round are exchanged, they are those of the same
-/// replies with the two exchanged where answers to the round are listed. Each request to certify that is served in both
-/// is answered alike. Each run over bytes is such a life.
+/// between the requests, and what stands in both may get 503, in both or in neither. An entrant alone is told under a
+/// key, without one or under one that nobody holds, and so is what is no request. The bytes of all these replies
+/// together, in their order, are the same where the requests of others who are entrants alone don't come, if no round
+/// is published to which they hand in; and until a sealed round's end, where two answers to the round are exchanged,
+/// they are those of the same replies with the two exchanged where answers to the round are listed. Each request to
+/// certify that is served in both is answered alike. Each run over bytes is such a life.
 pub fn law_lives()
     ensures runs { RunsOverAreLives }
     ensures others { BytesOfLivesHideOthers }

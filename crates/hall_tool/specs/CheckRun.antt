@@ -58,7 +58,7 @@ abbrev pub FoundText : {S : Type 0} → Ghosts S → Option ℕ → FoundHall S 
 FoundText g budget (Present held) last = PresentText budget (state g held) (state g last)
 FoundText g budget (Old held) last = OldText budget (state g held) (state g last)
 
--- a text was found and written, with which its status goes; or none was, for want of memory or as the store failed, and
+-- a text was found and written, with which its status goes; or none was, out of memory or as the store failed, and
 -- nothing was written
 abbrev pub IsFoundWritten : {W : Type 0} → (List ℕ → ℕ → Type 0) → (W → Option (List ℕ)) → Tally W → Tally W
     → Result ℕ ToolFault → Type 0
