@@ -5,7 +5,7 @@ use Rattle.hall_policy.specs.declared.request.Request.{Request}
 use Rattle.hall_store.specs.Store.{Content, Kept, Leads, LeavesNoOther, LeavesOneOf, MakesInWorld, WritesOnce}
 use Rattle.hall_store.specs.Change.{changed}
 use Rattle.hall_desk.specs.Step.{Step}
-use Rattle.hall_desk.specs.Plans.{IsPlanFor, IsQuiet, Planned, IsStepOver, StopsWithin, WritesIfAny}
+use Rattle.hall_desk.specs.Plans.{IsPlanFor, IsQuiet, Planned, IsStepOver, StepCanFail, StopsWithin, WritesIfAny}
 use Rattle.hall_store.specs.declared.change.Change.{Change}
 use Rattle.hall_store.specs.declared.change.Change.TheVariants.{Nothing}
 use Rattle.hall_desk.specs.declared.reply.Reply.{Reply}
@@ -64,6 +64,19 @@ module _ (t : ℕ) (request : Request) where
 -- what leaves the number of writes, and then at most one
 pub once_after : (old mid new : Content) → Kept old mid → WritesOnce mid new → WritesOnce old new
 once_after old mid new kept once = omega (arith, kept.writes, once)
+
+-- the step of a plan whose change was refused may be refused for that
+pub refused_step : (E : Type 0) (old mid new : Content) (t : ℕ) (request : Request) (plan : Plan) → Kept old mid
+    → Leads mid new → Planned {E = E} mid t request (Ok plan) → (plan.change ≡ Nothing → ⊥) → new.can_refuse plan.change
+    → StepCanFail old t request new
+refused_step E old mid new t request plan kept leads (inr none) never refused = absurd (never none.0)
+refused_step E old mid new t request plan kept leads (inl made) never refused = inr (plan, is, refused)
+  where
+    is : new.honest → old.serves × IsPlanFor old.world t request plan
+    is h =
+        let before = leads.honest h in
+        let p = made before in
+        (kept.serves before p.0, subst (λ (w : World). IsPlanFor w t request plan) (kept.world before p.0) p.1)
 
 -- a plan for a request that has nothing to write changes nothing
 pub quiet_plan : (world : World) (t : ℕ) (request : Request) (plan : Plan) → IsPlanFor world t request plan → IsQuiet world t request → plan.change ≡ Nothing

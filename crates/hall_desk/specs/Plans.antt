@@ -154,6 +154,14 @@ abbrev pub FailsIn : {R : Type 0} → Content → Result R StoreFault → Type 0
 FailsIn new result =
     IfErr result (λ fault. fault ≡ Failed → new.can_fail ⊎ (new.honest → new.serves × ¬ (Sane new.world)))
 
+-- A step of the request may be refused for another cause than being out of memory: as a read may be, or since the world
+-- isn't sane, or as the change of a plan for the request over the world before it may be.
+abbrev pub StepCanFail : Content → ℕ → Request → Content → Type 0
+StepCanFail old t request new =
+    (new.can_fail ⊎ (new.honest → new.serves × ¬ (Sane new.world)))
+    ⊎ ((plan : Plan) × (new.honest → old.serves × IsPlanFor old.world t request plan)
+    × new.can_refuse (planned_change plan))
+
 -- the entries' puzzles are kept
 abbrev pub AreKept : World → List Entry → Type 0
 AreKept world entries = (entry : Entry) → Contains entries entry → get world.puzzles entry.puzzle ≢ None

@@ -1,5 +1,5 @@
 //! The desk: requests, answered over the world of a store.
-ghost use Rattle.std.specs.Prelude.{◌≡◌, ◌⊎◌, ◌≤◌, ◌+◌, length, IfOk, IfSome, IsOk, IsTrue, OnErr};
+ghost use Rattle.std.specs.Prelude.{◌≡◌, ◌⊎◌, ◌≤◌, ◌+◌, length, IfOk, IfSome, IsOk, IsTrue, OnErr, false};
 ghost use Rattle.hall_store.specs.Store.{Kept, Served, KeptWorld, Leads, LeavesOneOf, IsSettled, MakesInWorld};
 ghost use Rattle.hall_store.specs.Store.{WritesOnce, Asks};
 ghost use Rattle.hall_store.specs.Store.{Told, Fails};
@@ -139,11 +139,12 @@ impl<S: ReadStore> Desk<S> {
         self.store.at_rest();
     }
 
-    /// Whether no fault of its device has shut the store. It looks up one person; without memory for that it says no.
-    pub fn still_serves(&mut self, alloc: Global) -> bool
+    /// Whether the store still serves, as a look-up of one person tells: it says no only over a store that can fail.
+    pub fn still_serves(&mut self, alloc: Global) -> Result<bool, AllocError>
         ensures kept { Kept (S.content (kept_by self.old)) (S.content (kept_by self.new)) }
-        ensures serves { (S.content (kept_by self.new)).honest → IsTrue result
-            → (S.content (kept_by self.new)).serves }
+        ensures serves { IfOk result (λ yes. (S.content (kept_by self.new)).honest → IsTrue yes
+            → (S.content (kept_by self.new)).serves) }
+        ensures shut { IfOk result (λ yes. yes ≡ false → (S.content (kept_by self.new)).can_fail) }
     {
         still_serves(alloc, &mut self.store)
     }

@@ -1,22 +1,24 @@
 //! Whether a store still serves.
-ghost use Rattle.std.specs.Prelude.{IsTrue, ⊤};
-ghost use Rattle.hall_store.specs.Store.{Kept, Served};
+ghost use Rattle.std.specs.Prelude.{◌≡◌, IfOk, IsTrue, false, ⊤};
+ghost use Rattle.hall_store.specs.Store.{Fails, Kept, Served};
 
 use hall_policy::Key;
 use hall_store::{ReadStore, StoreFault};
-use std::alloc::Global;
+use std::alloc::{AllocError, Global};
 
 /// A key to ask for. Whether somebody has it doesn't matter.
 const PROBE: &str = "whether-the-store-serves";
 
-/// Whether no fault of its device has shut the store. It looks up one person; without memory for that it says no.
-pub(crate) fn still_serves<S: ReadStore>(alloc: Global, store: &mut S) -> bool
+/// Whether the store still serves, as a look-up of one person tells: it says no only over a store that can fail.
+pub(crate) fn still_serves<S: ReadStore>(alloc: Global, store: &mut S) -> Result<bool, AllocError>
     ensures kept { Kept (S.content store.old) (S.content store.new) }
-    ensures serves { (S.content store.new).honest → IsTrue result → (S.content store.new).serves }
+    ensures serves { IfOk result (λ yes. (S.content store.new).honest → IsTrue yes → (S.content store.new).serves) }
+    ensures shut { IfOk result (λ yes. yes ≡ false → (S.content store.new).can_fail) }
 {
     match probe(alloc, store) {
-        Ok(()) => true,
-        Err(_) => false,
+        Ok(()) => Ok(true),
+        Err(StoreFault::Failed) => Ok(false),
+        Err(StoreFault::Memory) => Err(AllocError),
     }
 }
 
@@ -24,9 +26,10 @@ pub(crate) fn still_serves<S: ReadStore>(alloc: Global, store: &mut S) -> bool
 fn probe<S: ReadStore>(alloc: Global, store: &mut S) -> Result<(), StoreFault>
     ensures kept { Kept (S.content store.old) (S.content store.new) }
     ensures served { Served (S.content store.new) result (λ _ _. ⊤) }
+    ensures fault { Fails (S.content store.new).can_fail result }
 {
     let Some(key) = Key::new(String::from_str(alloc, PROBE)?) else {
-        return Err(StoreFault::Failed);
+        unreachable!()
     };
     let _ = store.person_by_key(alloc, &key)?;
     Ok(())

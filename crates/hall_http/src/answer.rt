@@ -1,8 +1,8 @@
 //! Bytes to bytes: a request is read, a step of the hall made, and its reply written.
 ghost use Rattle.std.specs.Prelude.{◌≡◌, ◌≢◌, ◌⊎◌, ℕ, List, Ok, IfOk, OnErr, string_bytes, true, false};
-ghost use Rattle.hall_store.specs.Store.{Kept, Leads, LeavesOneOf, WritesOnce};
+ghost use Rattle.hall_store.specs.Store.{Fails, Kept, Leads, LeavesOneOf, WritesOnce};
 ghost use Rattle.hall_desk.specs.Desk.{kept_by, SaneThen};
-ghost use Rattle.hall_desk.specs.Plans.{IsNobodys, WritesIfAny};
+ghost use Rattle.hall_desk.specs.Plans.{IsNobodys, StepCanFail, WritesIfAny};
 ghost use Rattle.hall_desk.specs.Promises.{HasUniqueSolutions, RightAnswersAreSolutions};
 ghost use Rattle.hall_desk.specs.Run.{IsTimed};
 ghost use Rattle.hall_desk.specs.Sane.{Sane};
@@ -177,7 +177,8 @@ fn answer_request<S: Store>(
     }
 }
 
-/// The answer to a request that was refused. Where it asks anything of the store, that is asked whether it serves on.
+/// The answer to a request that was refused. Where it asks anything of the store, that is asked whether it serves on;
+/// out of memory for that, it is taken for shut.
 fn unavailable<S: Store>(alloc: Global, desk: &mut Desk<S>, request: &Request) -> Answer
     ensures kept { Kept (S.content (kept_by desk.old)) (S.content (kept_by desk.new)) }
     ensures text { answer_text result ≡ answer_text Answer.Unavailable }
@@ -189,10 +190,9 @@ fn unavailable<S: Store>(alloc: Global, desk: &mut Desk<S>, request: &Request) -
     if is_nobodys(request) {
         return Answer::Unavailable;
     }
-    if desk.still_serves(alloc) {
-        Answer::Unavailable
-    } else {
-        Answer::Shut
+    match desk.still_serves(alloc) {
+        Ok(true) => Answer::Unavailable,
+        Ok(false) | Err(_) => Answer::Shut,
     }
 }
 
@@ -207,7 +207,7 @@ fn is_nobodys(request: &Request) -> bool
     }
 }
 
-/// The bytes of a request's reply, once its change is made.
+/// The bytes of a request's reply, once its change is made. Unless out of memory, it fails only where its step can.
 fn step_bytes<S: Store>(
     alloc: Global,
     desk: &mut Desk<S>,
@@ -225,6 +225,8 @@ fn step_bytes<S: Store>(
         × IsStepReply before moment request.now made left)
         (S.content (kept_by desk.old)) (S.content (kept_by desk.new)) }
     ensures untouched { IsNobodys request.now → desk.new ≡ desk.old }
+    ensures fault { Fails (StepCanFail (S.content (kept_by desk.old)) moment request.now
+        (S.content (kept_by desk.new))) result }
 {
     let plan = desk.plan(alloc, moment, request)?;
     let text = reply_bytes(alloc, plan.reply())?;

@@ -9,7 +9,8 @@ use Rattle.hall_desk.specs.Desk.{kept_by}
 use Rattle.hall_desk.specs.Plan.{planned_reply, planned_change}
 use Rattle.hall_desk.specs.Step.{Step}
 use Rattle.hall_desk.specs.declared.reply.Reply.{Reply}
-use Rattle.hall_desk.proofs.Stepping.{committed, same_stops, planned_steps, planned_quiet, once_after}
+use Rattle.hall_desk.proofs.Stepping.{committed, same_stops, planned_steps, planned_quiet, once_after, refused_step}
+use Rattle.hall_desk.proofs.Totalled.{fails_as}
 use Rattle.hall_http.specs.Reply.{BytesOf}
 use Rattle.hall_http.specs.Answered.{IsStepReply}
 use Rattle.hall_store.proofs.Knowing.{kept_leads, leads_then, over_turn}
@@ -112,3 +113,19 @@ returns-in_err-_reply-clause-stops g c =
     (λ before left step. (text, (if_err c.from_residual-in_err-_reply.result _ _ c.from_residual-in_err-_reply.ensures.1), (planned_reply plan, step, written)))
     (planned_leaves StoreFault c.args.moment c.args.request.now old mid new plan planned.kept planned.planned made.leads
     (λ none. same_stops g.S.ReadStore.content (kept_by c.plan.new.self) (kept_by c.commit.new.self) (made.nothing none).1) made.stops)
+
+pub returns-in_err-plan-clause-fault : goal.returns-in_err-plan-clause-fault
+returns-in_err-plan-clause-fault g c =
+    fails_as c.from_residual-in_err-plan.result _ _ c.from_residual-in_err-plan.ensures.1
+    (λ failed. inl (c.in_err-plan.ensures.fault failed))
+
+pub returns-in_err-_reply-clause-fault : goal.returns-in_err-_reply-clause-fault
+returns-in_err-_reply-clause-fault g c =
+    let planned = c.in_ok-plan.ensures in
+    let made = c.in_err-_reply.ensures in
+    fails_as c.from_residual-in_err-_reply.result _ _ c.from_residual-in_err-_reply.ensures.1
+    (λ failed.
+        refused_step StoreFault (g.S.ReadStore.content (kept_by c.args.desk.now))
+        (g.S.ReadStore.content (kept_by c.plan.new.self)) (g.S.ReadStore.content (kept_by c.commit.new.self))
+        c.args.moment c.args.request.now c.in_ok-plan.plan planned.kept made.leads planned.planned
+        (λ none. let ok = (made.nothing none).0 in cc) (made.fault failed))
