@@ -49,7 +49,7 @@ pub seed_fails : {R : Type 0} (result : Result R StoreFault) (people : List Pers
     → (planned ≡ Nothing) ⊎ (planned ≡ change.Import people) → (planned ≡ Nothing → IsOk result)
     → Fails (new.can_refuse planned) result → Fails (SeedCanFail people new) result
 seed_fails (Ok x) people planned new plans idle cause = tt
-seed_fails (Err e) people planned new (inl none) idle cause = absurd (idle none)
+seed_fails (Err e) people planned new (inl none) idle cause = absurd (let no = idle none in cc)
 seed_fails (Err e) people planned new (inr is) idle cause =
     λ failed. inr (subst (λ (c : Change). new.can_refuse c) is (cause failed))
 
