@@ -6,7 +6,8 @@
 A contract lets each call that takes memory say that there was none, and can't see whether that is so. So a body that
 answers 503 to one entrant alone would be proved, and tells that entrant something. Here each place that writes a fault
 of memory or the reply 503 must have one of the forms below, in which a growth, or a call that answers such a fault, was
-refused right there. What it can't see: a fault that is kept for later, and a growth that asks for more than there can
+refused right there. Above the desk's plans no clause asks a failure of the store for its cause; so there it looks where
+that is written too. What it can't see: a fault that is kept for later, and a growth that asks for more than there can
 be, unless it asks by a number. Invented faults (INVENTED) are put into the sources' text as well, each of which it must
 find. It ends with 1 where one isn't, or the sources hold another.
 """
@@ -20,13 +21,17 @@ TESTS = ("hall_tests", "store_tests", "puzzle_tests", "probe", "test_harness")
 
 # What is looked for: a fault of memory, and what is answered by 503.
 MADE = r"(?:AllocError|(?:\w+Fault|Self)::Memory|(?:Reply|Answer|Self)::Unavailable|(?:Answer|Self)::Shut|UNAVAILABLE)"
+# Above the desk's plans, that the store failed.
+FAILED = r"(?:StoreFault::Failed|ToolFault::Store)"
+ABOVE = re.compile(r"hall_http/|hall_tool/|hall_desk/src/(?:step|serving|desk)\.rt")
 FOUND = re.compile(rf"\b{MADE}\b")
+FOUND_ABOVE = re.compile(rf"\b(?:{MADE}|{FAILED})\b")
 # It may stand in a type, in an import, or in a pattern.
 READ = [
     r"\buse [\w:]+(?:\{[^{}]*\})?;",
     r"\bAllocError>",
     r"\w+: AllocError\)",
-    rf"(?:\w+\()*\b{MADE}\)* (?:=>|\|)",
+    rf"(?:\w+\()*\b(?:{MADE}|{FAILED})\)* (?:=>|\|)",
 ]
 # A fault of memory as a value, and inside the result of a call.
 GIVEN = rf"(?:return )?(?:Err\()?(?:CommandFault::Tool\()?\b{MADE}\b"
@@ -39,6 +44,8 @@ FORMS = [
     r"fn from\(_\w*: Alloc(?:Error|Failed<T>)\) -> (\w+) \{ \1::Memory\b",
     # a fault of memory is handed on
     rf"\b(?:\w+Fault::Memory|AllocError)\)* => (?:\{{ desk\.at_rest\(\); )?{GIVEN}",
+    # a store's failure is handed on
+    r"\bStoreFault::Failed\)* => (?:Err\()?ToolFault::Store\b",
     # the kit tells that memory was wanting
     rf"\.is_memory\(\) (?:=>|\{{) {GIVEN}",
     rf"\bError(?:Code|Kind)::OutOfMemory\)* => {GIVEN}",
@@ -79,17 +86,26 @@ PLACES = {
         "Answer::Unavailable | Answer::Shut => UNAVAILABLE.as_bytes(),",
         "Err(RequestFault::Memory) => Answer::Unavailable,",
         "if is_nobodys(request) { return Answer::Unavailable; }"
-        " if desk.still_serves(alloc) { Answer::Unavailable } else { Answer::Shut }",
+        " match desk.still_serves(alloc) { Ok(true) => Answer::Unavailable, Ok(false) | Err(_) => Answer::Shut,",
         "if is_unavailable(text.as_str()) { return Answer::Shut; }",
         "text.as_bytes() == Answer::Unavailable.as_bytes()",
     ],
-    "hall_http/src/responder.rt": ["None => { self.at_rest(); Answer::Unavailable }"],
+    "hall_http/src/responder.rt": [
+        "-> Answer { match moment {"
+        " Some(moment) => { let answer = answer_raw_request(alloc, routes, self, moment, request); self.at_rest();"
+        " answer } None => { self.at_rest(); Answer::Unavailable } } }",
+    ],
     # How a command ends for which there is no memory.
     "hall_tool/src/commands.rt": [
         "match open_in_memory(alloc) { Ok(store) => {"
         " let (left, ended) = task_over(alloc, host, store, &task, reader, writer); drop(left); ended }"
         " Err(_) => Err(CommandFault::Tool(ToolFault::Memory)),",
     ],
+    # A server ends so once a request was answered Shut; a desk answers a table by a table or a denial; and memory that
+    # was just opened holds nothing.
+    "hall_tool/src/task.rt": ["ServeAllEnd::Shut => Err(CommandFault::Tool(ToolFault::Store)),"],
+    "hall_tool/src/table.rt": ["_ => Err(ToolFault::Store),"],
+    "hall_tool/src/check.rt": ["Ok(Migrated::Occupied) => Err(ToolFault::Store),"],
     "hall_tool/src/program.rt": ["end(Err(CommandFault::Tool(ToolFault::Memory)), error)"],
 }
 # Calls that answer 503 stand where a call of the desk was refused.
@@ -131,6 +147,16 @@ INVENTED = {
     "refusal_of_a_look_up": (
         "hall_policy/src/list.rt", "match seen.insert(text.clone()?) {", "match is_new(seen, text) {",
     ),
+    "failed_to_one_caller": (
+        "hall_http/src/answer.rt", "let text = reply_bytes(alloc, plan.reply())?;",
+        "if is_of_one(request) { return Err(StoreFault::Failed); } let text = reply_bytes(alloc, plan.reply())?;",
+    ),
+    "step_failed_to_one_caller": (
+        "hall_desk/src/step.rt", "match made { Ok(plan) =>", "let made = Err(StoreFault::Failed); match made { Ok(plan) =>",
+    ),
+    "moment_hidden_from_a_request": (
+        "hall_http/src/responder.rt", "-> Answer { match moment {", "-> Answer { let moment = None; match moment {",
+    ),
     "answered_503_unasked": (
         "hall_http/src/answer.rt", "match read_raw_request(bytes) {",
         "if bytes.is_empty() { return unavailable(alloc, desk, request); }",
@@ -153,13 +179,13 @@ def stands_in(known, found):
     return any(first <= found.start() and found.end() <= last for first, last in known)
 
 
-def written_in(text):
-    """Where a fault of memory or 503 is made: in no type, import or pattern."""
+def written_in(text, looked_for=FOUND):
+    """Where what is looked for is made: in no type, import or pattern."""
     read = spans(READ, text)
-    return [it for it in FOUND.finditer(text) if not stands_in(read, it)]
+    return [it for it in looked_for.finditer(text) if not stands_in(read, it)]
 
 
-def strange_places(text, places=()):
+def strange_places(text, places=(), looked_for=FOUND):
     """The places of the text at which a fault of memory or 503 is written in none of the forms, and the listed places
     that aren't there."""
     known = []
@@ -169,14 +195,14 @@ def strange_places(text, places=()):
             yield f"this doesn't stand once any more: {place}"
         known.append((at, at + len(place)))
     known += spans(FORMS, text)
-    for found in [*written_in(text), *ROOM.finditer(text)]:
+    for found in [*written_in(text, looked_for), *ROOM.finditer(text)]:
         if not stands_in(known, found):
             yield text[max(0, found.start() - 80):found.end() + 20].strip()
 
 
 def faults_of(path, text):
     """What is strange in a file of sources."""
-    yield from strange_places(text, PLACES.get(path, ()))
+    yield from strange_places(text, PLACES.get(path, ()), FOUND_ABOVE if ABOVE.match(path) else FOUND)
     yield from (f"another name: {it[0]}" for it in RENAMED.finditer(text))
     if path in ANSWERS:
         call, before = ANSWERS[path]
