@@ -116,7 +116,7 @@ returns-in_err-_reply-clause-stops g c =
 
 pub returns-in_err-plan-clause-fault : goal.returns-in_err-plan-clause-fault
 returns-in_err-plan-clause-fault g c =
-    fails_as c.from_residual-in_err-plan.result _ _ c.from_residual-in_err-plan.ensures.1
+    fails_as c.from_residual.result _ _ c.from_residual.ensures.1
     (λ failed. inl (c.in_err-plan.ensures.fault failed))
 
 pub returns-in_err-_reply-clause-fault : goal.returns-in_err-_reply-clause-fault
@@ -125,7 +125,7 @@ returns-in_err-_reply-clause-fault g c =
     let made = c.in_err-_reply.ensures in
     fails_as c.from_residual-in_err-_reply.result _ _ c.from_residual-in_err-_reply.ensures.1
     (λ failed.
-        refused_step StoreFault (g.S.ReadStore.content (kept_by c.args.desk.now))
-        (g.S.ReadStore.content (kept_by c.plan.new.self)) (g.S.ReadStore.content (kept_by c.commit.new.self))
-        c.args.moment c.args.request.now c.in_ok-plan.plan planned.kept made.leads planned.planned
-        (λ none. let ok = (made.nothing none).0 in cc) (made.fault failed))
+    refused_step StoreFault (g.S.ReadStore.content (kept_by c.args.desk.now))
+    (g.S.ReadStore.content (kept_by c.plan.new.self)) (g.S.ReadStore.content (kept_by c.commit.new.self))
+    c.args.moment c.args.request.now c.in_ok-plan.plan planned.kept made.leads planned.planned
+    (λ none. let ok = (made.nothing none).0 in cc) (made.fault failed))
