@@ -93,3 +93,4 @@ pub mod BadRowLemmas
 pub mod OpenedRead
 pub mod UnreadRows
 pub mod FailLemmas
+pub mod ReadLemmas

@@ -24,6 +24,7 @@ pub mod Counts
 pub mod WriteCause
 pub mod CanFail
 pub mod Content
+pub mod Reads
 pub mod AdoptCause
 pub mod Versions
 pub mod Laws

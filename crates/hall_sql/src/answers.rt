@@ -1,9 +1,8 @@
 //! The table of answers.
-ghost use Rattle.std.specs.Prelude.{◌≡◌, ◌↔◌, IsTrue, IfOk, OnOk, OnErr, [], ◌∷◌, pos};
-ghost use Rattle.std.specs.FinMap.{get, values};
+ghost use Rattle.std.specs.Prelude.{◌≡◌, IsTrue, OnOk, OnErr, []};
+ghost use Rattle.std.specs.FinMap.{values};
 ghost use Rattle.sqlite.specs.Held.{state};
-ghost use Rattle.hall_store.specs.Store.{Served, Fails, IsListing, is_of, is_in, IsNumberTaken, HasSubmitted, Asks};
-ghost use Rattle.hall_policy.specs.Rules.{answers_given};
+ghost use Rattle.hall_store.specs.Store.{Fails, Asks};
 ghost use Rattle.hall_store.specs.Change.{CanAddAnswer};
 ghost use Rattle.hall_store.specs.declared.change.Change.TheVariants.{AddAnswer};
 ghost use Rattle.hall_policy.specs.Ranges.{IsAnswerRow};
@@ -12,211 +11,46 @@ ghost use Rattle.sqlite.specs.Values.{bound};
 ghost use Rattle.hall_sql.specs.Columns.{answer_params};
 ghost use Rattle.hall_sql.specs.Fill.{AddsAnswer};
 ghost use Rattle.hall_sql.specs.Inside.{LeadsUncommitted, MakesInside};
-ghost use Rattle.hall_sql.specs.Standing.{IsHall, KeptTables, KeptRows, KeptAnyTables, LeadsConnection};
+ghost use Rattle.hall_sql.specs.Standing.{IsHall, KeptRows, LeadsConnection};
 ghost use Rattle.hall_sql.specs.Content.{MakesInTables, content_of};
-ghost use Rattle.sqlite.specs.declared.types.Value.TheVariants.{Text, Int};
 ghost use Rattle.hall_sql.specs.Rows.{answer_in};
-ghost use Rattle.hall_sql.specs.Whole.{AreRecords};
-ghost use Rattle.hall_sql.specs.Cause.{ReadFails, FindFails};
+ghost use Rattle.hall_sql.specs.Reads.{ReadsTable};
 ghost use Rattle.hall_sql.specs.Versions.{IsAnyHall};
 ghost use Rattle.hall_sql.specs.WriteCause.{ExecutesOrRefuses, RunFails};
 
 use crate::calls::{run, run_in};
 use crate::counts::count;
-use crate::reads::{find, read, read_any};
-use hall_policy::{AnswerKey, AnswerNumber, AnswerRow, Name, PuzzleNumber, RoundId};
+use crate::reads::read_any;
+use hall_policy::AnswerRow;
 use hall_store::StoreFault;
 use sqlite::types::{ToSql, ValueRef};
-use sqlite::{Alter, Connection, Transaction, params};
+use sqlite::{Alter, Connection, Transaction};
 use std::alloc::Global;
 
 /// The answer under a key.
-const ANSWER: &str =
+pub(crate) const ANSWER: &str =
     "SELECT entrant, round, number, token, n, moment, answer, verdict FROM answers \
     WHERE entrant = ?1 AND round = ?2 AND number = ?3 AND token = ?4";
 
-/// The answer under the key.
-pub(crate) fn answer<S: Alter>(
-    conn: &mut Connection<S>,
-    alloc: Global,
-    key: &AnswerKey,
-) -> Result<Option<AnswerRow>, StoreFault>
-    requires hall { IsHall (state S.Store conn.old) }
-    ensures rested { KeptTables (state S.Store conn.old) (state S.Store conn.new) }
-    ensures served { Served (content_of (state S.Store conn.new)) result
-        (λ world found. found ≡ get world.answers key.now) }
-    ensures whole { HasCleanDisk (state S.Store conn.new) → IfOk result (λ _.
-        AreRecords answer_in ANSWER.now
-        (Text key.now.entrant ∷ Text key.now.round ∷ Int (pos key.now.number) ∷ Text key.now.token ∷ [])
-        (state S.Store conn.old) (state S.Store conn.new)) }
-    ensures cause { HasCleanDisk (state S.Store conn.new) → Fails
-        (FindFails answer_in ANSWER.now
-        (Text key.now.entrant ∷ Text key.now.round ∷ Int (pos key.now.number) ∷ Text key.now.token ∷ [])
-        (state S.Store conn.old) (state S.Store conn.new)) result }
-{
-    find(
-        conn,
-        alloc,
-        ANSWER,
-        params![
-            key.entrant.as_str(),
-            key.round.as_str(),
-            key.number.get() as u32,
-            key.token.as_str()
-        ],
-    )
-}
-
 /// The entrant's answers in the round, in the order of listings.
-const ANSWERS_OF: &str =
+pub(crate) const ANSWERS_OF: &str =
     "SELECT entrant, round, number, token, n, moment, answer, verdict FROM answers \
     WHERE round = ?2 AND entrant = ?1 ORDER BY entrant, number, n, token";
-
-/// The entrant's answers in the round, by number, then n.
-pub(crate) fn answers_of<S: Alter>(
-    conn: &mut Connection<S>,
-    alloc: Global,
-    entrant: &Name,
-    round: &RoundId,
-) -> Result<Vec<AnswerRow>, StoreFault>
-    requires hall { IsHall (state S.Store conn.old) }
-    ensures rested { KeptTables (state S.Store conn.old) (state S.Store conn.new) }
-    ensures served { Served (content_of (state S.Store conn.new)) result
-        (λ world rows. IsListing world (is_of entrant.now round.now) rows.items) }
-    ensures whole { HasCleanDisk (state S.Store conn.new) → IfOk result (λ _.
-        AreRecords answer_in ANSWERS_OF.now (Text entrant.now ∷ Text round.now ∷ []) (state S.Store conn.old)
-        (state S.Store conn.new)) }
-    ensures cause { HasCleanDisk (state S.Store conn.new) → Fails
-        (ReadFails answer_in ANSWERS_OF.now (Text entrant.now ∷ Text round.now ∷ []) (state S.Store conn.old)
-        (state S.Store conn.new)) result }
-{
-    let _schema = conn.schema();
-    read(
-        conn,
-        alloc,
-        ANSWERS_OF,
-        params![entrant.as_str(), round.as_str()],
-    )
-}
 
 /// The answers of the round, in the order of listings.
 pub(crate) const ANSWERS_IN: &str =
     "SELECT entrant, round, number, token, n, moment, answer, verdict FROM answers \
     WHERE round = ?1 ORDER BY entrant, number, n, token";
 
-/// The answers of the round, by entrant, number, then n.
-pub(crate) fn answers_in<S: Alter>(
-    conn: &mut Connection<S>,
-    alloc: Global,
-    round: &RoundId,
-) -> Result<Vec<AnswerRow>, StoreFault>
-    requires hall { IsHall (state S.Store conn.old) }
-    ensures rested { KeptTables (state S.Store conn.old) (state S.Store conn.new) }
-    ensures served { Served (content_of (state S.Store conn.new)) result
-        (λ world rows. IsListing world (is_in round.now) rows.items) }
-    ensures whole { HasCleanDisk (state S.Store conn.new) → IfOk result (λ _.
-        AreRecords answer_in ANSWERS_IN.now (Text round.now ∷ []) (state S.Store conn.old)
-        (state S.Store conn.new)) }
-    ensures cause { HasCleanDisk (state S.Store conn.new) → Fails
-        (ReadFails answer_in ANSWERS_IN.now (Text round.now ∷ []) (state S.Store conn.old)
-        (state S.Store conn.new)) result }
-{
-    let _schema = conn.schema();
-    read(conn, alloc, ANSWERS_IN, params![round.as_str()])
-}
-
 /// The entrant's answers to the round's puzzle of the number.
-const ANSWERS_GIVEN: &str =
+pub(crate) const ANSWERS_GIVEN: &str =
     "SELECT entrant, round, number, token, n, moment, answer, verdict FROM answers \
     WHERE entrant = ?1 AND round = ?2 AND number = ?3";
 
-/// How many answers the entrant gave to the round's puzzle of that number.
-pub(crate) fn answers_given<S: Alter>(
-    conn: &mut Connection<S>,
-    entrant: &Name,
-    round: &RoundId,
-    number: PuzzleNumber,
-) -> Result<u64, StoreFault>
-    requires hall { IsHall (state S.Store conn.old) }
-    ensures rested { KeptTables (state S.Store conn.old) (state S.Store conn.new) }
-    ensures served { Served (content_of (state S.Store conn.new)) result
-        (λ world count. count ≡ answers_given world entrant.now round.now number) }
-    ensures whole { HasCleanDisk (state S.Store conn.new) → IfOk result (λ _.
-        AreRecords answer_in ANSWERS_GIVEN.now
-        (Text entrant.now ∷ Text round.now ∷ Int (pos number) ∷ []) (state S.Store conn.old)
-        (state S.Store conn.new)) }
-    ensures cause { HasCleanDisk (state S.Store conn.new) → Fails
-        (ReadFails answer_in ANSWERS_GIVEN.now (Text entrant.now ∷ Text round.now ∷ Int (pos number) ∷ [])
-        (state S.Store conn.old) (state S.Store conn.new)) result }
-{
-    let _schema = conn.schema();
-    count::<S, AnswerRow>(
-        conn,
-        ANSWERS_GIVEN,
-        params![entrant.as_str(), round.as_str(), number.get() as u32],
-    )
-}
-
 /// The entrant's n-th answer to the round's puzzle of the number.
-const NUMBER_TAKEN: &str =
+pub(crate) const NUMBER_TAKEN: &str =
     "SELECT entrant, round, number, token, n, moment, answer, verdict FROM answers \
     WHERE entrant = ?1 AND round = ?2 AND number = ?3 AND n = ?4";
-
-/// Whether an answer of the entrant to the round's puzzle of that number is the n-th.
-pub(crate) fn is_number_taken<S: Alter>(
-    conn: &mut Connection<S>,
-    entrant: &Name,
-    round: &RoundId,
-    number: PuzzleNumber,
-    n: AnswerNumber,
-) -> Result<bool, StoreFault>
-    requires hall { IsHall (state S.Store conn.old) }
-    ensures rested { KeptTables (state S.Store conn.old) (state S.Store conn.new) }
-    ensures served { Served (content_of (state S.Store conn.new)) result
-        (λ world taken. IsTrue taken ↔ IsNumberTaken world entrant.now round.now number n) }
-    ensures whole { HasCleanDisk (state S.Store conn.new) → IfOk result (λ _.
-        AreRecords answer_in NUMBER_TAKEN.now (Text entrant.now ∷ Text round.now ∷ Int (pos number) ∷ Int (pos n) ∷ [])
-        (state S.Store conn.old) (state S.Store conn.new)) }
-    ensures cause { HasCleanDisk (state S.Store conn.new) → Fails
-        (ReadFails answer_in NUMBER_TAKEN.now
-        (Text entrant.now ∷ Text round.now ∷ Int (pos number) ∷ Int (pos n) ∷ []) (state S.Store conn.old)
-        (state S.Store conn.new)) result }
-{
-    let _schema = conn.schema();
-    let count = count::<S, AnswerRow>(
-        conn,
-        NUMBER_TAKEN,
-        params![
-            entrant.as_str(),
-            round.as_str(),
-            number.get() as u32,
-            n.get() as u32
-        ],
-    )?;
-    Ok(count != 0)
-}
-
-/// Whether the entrant has an answer in the round.
-pub(crate) fn has_answered<S: Alter>(
-    conn: &mut Connection<S>,
-    entrant: &Name,
-    round: &RoundId,
-) -> Result<bool, StoreFault>
-    requires hall { IsHall (state S.Store conn.old) }
-    ensures rested { KeptTables (state S.Store conn.old) (state S.Store conn.new) }
-    ensures served { Served (content_of (state S.Store conn.new)) result
-        (λ world found. IsTrue found ↔ HasSubmitted world entrant.now round.now) }
-    ensures whole { HasCleanDisk (state S.Store conn.new) → IfOk result (λ _.
-        AreRecords answer_in ANSWERS_OF.now (Text entrant.now ∷ Text round.now ∷ []) (state S.Store conn.old)
-        (state S.Store conn.new)) }
-    ensures cause { HasCleanDisk (state S.Store conn.new) → Fails
-        (ReadFails answer_in ANSWERS_OF.now (Text entrant.now ∷ Text round.now ∷ []) (state S.Store conn.old)
-        (state S.Store conn.new)) result }
-{
-    let _schema = conn.schema();
-    let count = count::<S, AnswerRow>(conn, ANSWERS_OF, params![entrant.as_str(), round.as_str()])?;
-    Ok(count != 0)
-}
 
 /// All answers, in the order of their keys.
 const ALL_ANSWERS: &str =
@@ -229,14 +63,8 @@ pub(crate) fn all_answers<S: Alter>(
     alloc: Global,
 ) -> Result<Vec<AnswerRow>, StoreFault>
     requires hall { IsAnyHall (state S.Store conn.old) }
-    ensures rested { KeptAnyTables (state S.Store conn.old) (state S.Store conn.new) }
-    ensures served { Served (content_of (state S.Store conn.new)) result
+    ensures { ReadsTable answer_in ALL_ANSWERS.now (state S.Store conn.old) (state S.Store conn.new) result
         (λ world rows. rows.items ≡ values world.answers) }
-    ensures whole { HasCleanDisk (state S.Store conn.new) → IfOk result (λ _.
-        AreRecords answer_in ALL_ANSWERS.now [] (state S.Store conn.old)
-        (state S.Store conn.new)) }
-    ensures cause { HasCleanDisk (state S.Store conn.new) → Fails
-        (ReadFails answer_in ALL_ANSWERS.now [] (state S.Store conn.old) (state S.Store conn.new)) result }
 {
     let _schema = conn.schema();
     read_any(conn, alloc, ALL_ANSWERS, &[])

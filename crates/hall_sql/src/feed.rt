@@ -1,28 +1,20 @@
-//! The rows of a round, given to a sink one at a time.
-ghost use Rattle.std.specs.Prelude.{◌≡◌, ◌⊎◌, IfOk, IfErr, OnOk, OnErr, [], ◌∷◌};
-ghost use Rattle.sqlite.specs.declared.types.Value.TheVariants.{Text};
+//! The rows of a query, given to a sink one at a time.
+ghost use Rattle.std.specs.Prelude.{◌≡◌, IfOk, OnOk, OnErr};
 ghost use Rattle.sqlite.specs.Values.{bound};
 ghost use Rattle.sqlite.specs.Held.{state};
 ghost use Rattle.sqlite.specs.State.{HasCleanDisk};
-ghost use Rattle.hall_store.specs.Store.{Fails, Fed, IsListing, IsRefusedNext, is_in, protests_in};
-ghost use Rattle.hall_store.specs.declared.fault.StoreFault.TheVariants.{Failed};
-ghost use Rattle.hall_sql.specs.CanFail.{CanFail};
+ghost use Rattle.hall_store.specs.Store.{Fails};
 ghost use Rattle.hall_sql.specs.Asked.{IsAsked};
 ghost use Rattle.hall_sql.specs.Cause.{FeedFails};
 ghost use Rattle.hall_sql.specs.Standing.{AddsNoOutcome, IsHall, KeptOrRolledBack, KeptTables, LeadsConnection};
-ghost use Rattle.hall_sql.specs.Content.{content_of};
 ghost use Rattle.hall_sql.specs.Feed.{Steps, StepFails, FedRows};
-ghost use Rattle.hall_sql.specs.Rows.{answer_in, protest_in};
-ghost use Rattle.hall_sql.specs.Whole.{AreRecords};
 
-use crate::answers::ANSWERS_IN;
 use crate::calls::fault_of;
-use crate::protests::PROTESTS_IN;
 use crate::record::Record;
-use hall_policy::{AnswerRow, ProtestRow, RoundId, Sink};
+use hall_policy::Sink;
 use hall_store::StoreFault;
 use sqlite::types::ValueRef;
-use sqlite::{Alter, Connection, Rows, params};
+use sqlite::{Alter, Connection, Rows};
 use std::alloc::Global;
 
 /// Gives the sink the record. Refused, the sink stays as it was.
@@ -62,7 +54,7 @@ fn step<S: Alter, K: Sink<T>, T: Record + Drop>(
 }
 
 /// Gives the sink the records that the rows of a query are, one after another.
-fn feed<S: Alter, K: Sink<T>, T: Record + Drop>(
+pub(crate) fn feed<S: Alter, K: Sink<T>, T: Record + Drop>(
     conn: &mut Connection<S>,
     alloc: Global,
     sql: &str,
@@ -88,53 +80,4 @@ fn feed<S: Alter, K: Sink<T>, T: Record + Drop>(
     }
     // As many rows as the loop has rounds have no room anywhere.
     Err(StoreFault::Memory)
-}
-
-/// Gives the sink the answers of the round, by entrant, number, then n. Where it refuses one, it has taken those
-/// before.
-pub(crate) fn feed_answers<S: Alter, K: Sink<AnswerRow>>(
-    conn: &mut Connection<S>,
-    alloc: Global,
-    round: &RoundId,
-    sink: &mut K,
-) -> Result<(), StoreFault>
-    requires hall { IsHall (state S.Store conn.old) }
-    ensures rested { KeptTables (state S.Store conn.old) (state S.Store conn.new) }
-    ensures fed { Fed K.takes (λ world rows. IsListing world (is_in round.now) rows)
-        (content_of (state S.Store conn.old)) (content_of (state S.Store conn.new)) sink.old result sink.new }
-    ensures fault { IfErr result (λ fault. fault ≡ Failed → CanFail (state S.Store conn.new)
-        ⊎ IsRefusedNext K.takes K.refuses (λ world rows. IsListing world (is_in round.now) rows)
-        (content_of (state S.Store conn.old)) (content_of (state S.Store conn.new)) sink.old sink.new) }
-    ensures whole { HasCleanDisk (state S.Store conn.new) → IfOk result (λ _.
-        AreRecords answer_in ANSWERS_IN.now (Text round.now ∷ []) (state S.Store conn.old) (state S.Store conn.new)) }
-    ensures cause { HasCleanDisk (state S.Store conn.new) → Fails
-        (FeedFails answer_in K.takes K.refuses ANSWERS_IN.now (Text round.now ∷ []) (state S.Store conn.old)
-        (state S.Store conn.new) sink.old sink.new) result }
-{
-    let _schema = conn.schema();
-    feed::<S, K, AnswerRow>(conn, alloc, ANSWERS_IN, params![round.as_str()], sink)
-}
-
-/// Gives the sink the protests of the round, by entrant, then token. Where it refuses one, it has taken those before.
-pub(crate) fn feed_protests<S: Alter, K: Sink<ProtestRow>>(
-    conn: &mut Connection<S>,
-    alloc: Global,
-    round: &RoundId,
-    sink: &mut K,
-) -> Result<(), StoreFault>
-    requires hall { IsHall (state S.Store conn.old) }
-    ensures rested { KeptTables (state S.Store conn.old) (state S.Store conn.new) }
-    ensures fed { Fed K.takes (λ world rows. rows ≡ protests_in world round.now)
-        (content_of (state S.Store conn.old)) (content_of (state S.Store conn.new)) sink.old result sink.new }
-    ensures fault { IfErr result (λ fault. fault ≡ Failed → CanFail (state S.Store conn.new)
-        ⊎ IsRefusedNext K.takes K.refuses (λ world rows. rows ≡ protests_in world round.now)
-        (content_of (state S.Store conn.old)) (content_of (state S.Store conn.new)) sink.old sink.new) }
-    ensures whole { HasCleanDisk (state S.Store conn.new) → IfOk result (λ _.
-        AreRecords protest_in PROTESTS_IN.now (Text round.now ∷ []) (state S.Store conn.old) (state S.Store conn.new)) }
-    ensures cause { HasCleanDisk (state S.Store conn.new) → Fails
-        (FeedFails protest_in K.takes K.refuses PROTESTS_IN.now (Text round.now ∷ []) (state S.Store conn.old)
-        (state S.Store conn.new) sink.old sink.new) result }
-{
-    let _schema = conn.schema();
-    feed::<S, K, ProtestRow>(conn, alloc, PROTESTS_IN, params![round.as_str()], sink)
 }

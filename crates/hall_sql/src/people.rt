@@ -3,75 +3,32 @@ ghost use Rattle.std.specs.Prelude.{◌≡◌, ◌⊎◌, IsTrue, IfOk, OnOk, []
 ghost use Rattle.std.specs.FinMap.{get, values};
 ghost use Rattle.sqlite.specs.Held.{state};
 ghost use Rattle.sqlite.specs.State.{HasCleanDisk};
-ghost use Rattle.hall_store.specs.Store.{Served, Fails};
-ghost use Rattle.hall_store.specs.Caller.{IsKeyHolder};
+ghost use Rattle.hall_store.specs.Store.{Fails};
 ghost use Rattle.hall_store.specs.declared.change.Change.TheVariants.{Import};
 ghost use Rattle.hall_sql.specs.Columns.{person_params, roles_code};
-ghost use Rattle.hall_sql.specs.Standing.{IsHall, KeptTables, KeptAnyTables};
-ghost use Rattle.hall_sql.specs.Content.{MakesInTables, content_of};
+ghost use Rattle.hall_sql.specs.Standing.{IsHall};
+ghost use Rattle.hall_sql.specs.Content.{MakesInTables};
 ghost use Rattle.hall_sql.specs.Inside.{LeadsUncommitted, MakesInside, Changes, ToldByQuery, AddsPerson};
-ghost use Rattle.sqlite.specs.declared.types.Value.TheVariants.{Text};
 ghost use Rattle.hall_sql.specs.Rows.{person_in};
-ghost use Rattle.hall_sql.specs.Whole.{AreRecords};
-ghost use Rattle.hall_sql.specs.Cause.{IsStoreCause, FindFails, ReadFails};
+ghost use Rattle.hall_sql.specs.Reads.{ReadsTable};
+ghost use Rattle.hall_sql.specs.Cause.{IsStoreCause};
 ghost use Rattle.hall_sql.specs.Versions.{IsAnyHall};
 ghost use Rattle.hall_sql.specs.WriteCause.{RunFails, IsUnfound, ImportsOne, PersonIsRefused, ImportFails};
 ghost use Rattle.hall_sql.specs.WriteCause.{InsideFails};
 
 use crate::calls::{ask_in, fault_of, live, run_in};
-use crate::reads::{find, read_any};
+use crate::reads::read_any;
 use crate::record::{at_most_one, read_all};
-use hall_policy::{Key, Name, People, Person, SomeRoles};
+use hall_policy::{Name, People, Person, SomeRoles};
 use hall_store::StoreFault;
 use sqlite::{Alter, Connection, Transaction, params};
 use std::alloc::Global;
 
 /// The person of a name.
-const PERSON: &str = "SELECT name, pass, roles FROM people WHERE name = ?1";
-
-/// The person of the name.
-pub(crate) fn person<S: Alter>(
-    conn: &mut Connection<S>,
-    alloc: Global,
-    name: &Name,
-) -> Result<Option<Person>, StoreFault>
-    requires hall { IsHall (state S.Store conn.old) }
-    ensures rested { KeptTables (state S.Store conn.old) (state S.Store conn.new) }
-    ensures served { Served (content_of (state S.Store conn.new)) result
-        (λ world found. found ≡ get world.people name.now) }
-    ensures whole { HasCleanDisk (state S.Store conn.new) → IfOk result (λ _.
-        AreRecords person_in PERSON.now (Text name.now ∷ []) (state S.Store conn.old)
-        (state S.Store conn.new)) }
-    ensures cause { HasCleanDisk (state S.Store conn.new) → Fails
-        (FindFails person_in PERSON.now (Text name.now ∷ []) (state S.Store conn.old)
-        (state S.Store conn.new)) result }
-{
-    find(conn, alloc, PERSON, params![name.as_str()])
-}
+pub(crate) const PERSON: &str = "SELECT name, pass, roles FROM people WHERE name = ?1";
 
 /// Who has a key.
-const PERSON_BY_KEY: &str = "SELECT name, pass, roles FROM people WHERE pass = ?1";
-
-/// The person with the key.
-pub(crate) fn person_by_key<S: Alter>(
-    conn: &mut Connection<S>,
-    alloc: Global,
-    key: &Key,
-) -> Result<Option<Person>, StoreFault>
-    requires hall { IsHall (state S.Store conn.old) }
-    ensures rested { KeptTables (state S.Store conn.old) (state S.Store conn.new) }
-    ensures served { Served (content_of (state S.Store conn.new)) result
-        (λ world found. IsKeyHolder world key.now found) }
-    ensures whole { HasCleanDisk (state S.Store conn.new) → IfOk result (λ _.
-        AreRecords person_in PERSON_BY_KEY.now (Text key.now ∷ []) (state S.Store conn.old)
-        (state S.Store conn.new)) }
-    ensures cause { HasCleanDisk (state S.Store conn.new) → Fails
-        (FindFails person_in PERSON_BY_KEY.now (Text key.now ∷ []) (state S.Store conn.old)
-        (state S.Store conn.new)) result }
-{
-    let _schema = conn.schema();
-    find(conn, alloc, PERSON_BY_KEY, params![key.as_str()])
-}
+pub(crate) const PERSON_BY_KEY: &str = "SELECT name, pass, roles FROM people WHERE pass = ?1";
 
 /// All people, in the order of their names.
 const ALL_PEOPLE: &str = "SELECT name, pass, roles FROM people ORDER BY name";
@@ -82,14 +39,8 @@ pub(crate) fn all_people<S: Alter>(
     alloc: Global,
 ) -> Result<Vec<Person>, StoreFault>
     requires hall { IsAnyHall (state S.Store conn.old) }
-    ensures rested { KeptAnyTables (state S.Store conn.old) (state S.Store conn.new) }
-    ensures served { Served (content_of (state S.Store conn.new)) result
+    ensures { ReadsTable person_in ALL_PEOPLE.now (state S.Store conn.old) (state S.Store conn.new) result
         (λ world people. people.items ≡ values world.people) }
-    ensures whole { HasCleanDisk (state S.Store conn.new) → IfOk result (λ _.
-        AreRecords person_in ALL_PEOPLE.now [] (state S.Store conn.old)
-        (state S.Store conn.new)) }
-    ensures cause { HasCleanDisk (state S.Store conn.new) → Fails
-        (ReadFails person_in ALL_PEOPLE.now [] (state S.Store conn.old) (state S.Store conn.new)) result }
 {
     let _schema = conn.schema();
     read_any(conn, alloc, ALL_PEOPLE, &[])

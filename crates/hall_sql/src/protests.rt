@@ -4,9 +4,8 @@ ghost use Rattle.std.specs.FinMap.{get, values};
 ghost use Rattle.sqlite.specs.Held.{state};
 ghost use Rattle.sqlite.specs.State.{HasCleanDisk, Survives, CommitsBy};
 ghost use Rattle.hall_policy.specs.Ranges.{IsProtestRow, IsRuling};
-ghost use Rattle.hall_policy.specs.Rules.{protests_made};
 ghost use Rattle.hall_policy.specs.World.{ruling_points};
-ghost use Rattle.hall_store.specs.Store.{Served, Fails, IsProtestOpen, Asks, protests_of, protests_in};
+ghost use Rattle.hall_store.specs.Store.{Served, Fails, IsProtestOpen, Asks, protests_in};
 ghost use Rattle.hall_policy.specs.declared.record.ProtestRow.{ProtestRow};
 ghost use Rattle.hall_store.specs.Change.{CanAddProtest};
 ghost use Rattle.hall_store.specs.declared.change.Change.TheVariants.{AddProtest, RuleProtest};
@@ -14,19 +13,20 @@ ghost use Rattle.sqlite.specs.Values.{bound};
 ghost use Rattle.hall_sql.specs.Fill.{AddsProtest};
 ghost use Rattle.hall_sql.specs.Inside.{LeadsUncommitted, MakesInside};
 ghost use Rattle.hall_sql.specs.Columns.{protest_params, ruling_code, ruling_params, IsAlone};
-ghost use Rattle.hall_sql.specs.Standing.{IsHall, KeptTables, KeptRows, KeptAnyTables, LeadsConnection};
+ghost use Rattle.hall_sql.specs.Standing.{IsHall, KeptTables, KeptRows, LeadsConnection};
 ghost use Rattle.hall_sql.specs.Content.{MakesInTables, content_of};
 ghost use Rattle.sqlite.specs.declared.types.Value.TheVariants.{Text};
 ghost use Rattle.hall_sql.specs.Rows.{protest_in};
+ghost use Rattle.hall_sql.specs.Reads.{FindsRow, ReadsRows, ReadsTable};
 ghost use Rattle.hall_sql.specs.Whole.{AreRecords};
-ghost use Rattle.hall_sql.specs.Cause.{ReadFails, FindFails};
+ghost use Rattle.hall_sql.specs.Cause.{FindFails};
 ghost use Rattle.hall_sql.specs.Versions.{IsAnyHall};
 ghost use Rattle.hall_sql.specs.WriteCause.{ExecutesOrRefuses, RunFails, RuleFails};
 
 use crate::calls::{run, run_in};
 use crate::counts::count;
 use crate::reads::{find, read, read_any};
-use hall_policy::{Name, ProtestKey, ProtestRow, RoundId, Ruling};
+use hall_policy::{ProtestKey, ProtestRow, RoundId, Ruling};
 use hall_store::StoreFault;
 use sqlite::types::{ToSql, ValueRef};
 use sqlite::{Alter, Connection, Transaction, params};
@@ -43,18 +43,11 @@ pub(crate) fn protest<S: Alter>(
     key: &ProtestKey,
 ) -> Result<Option<ProtestRow>, StoreFault>
     requires hall { IsHall (state S.Store conn.old) }
-    ensures rested { KeptTables (state S.Store conn.old) (state S.Store conn.new) }
-    ensures served { Served (content_of (state S.Store conn.new)) result
-        (λ world found. found ≡ get world.protests key.now) }
+    ensures reads { FindsRow protest_in PROTEST.now
+        (Text key.now.entrant ∷ Text key.now.round ∷ Text key.now.token ∷ []) (state S.Store conn.old)
+        (state S.Store conn.new) result (λ world found. found ≡ get world.protests key.now) }
     ensures alone { HasCleanDisk (state S.Store conn.new) → IfOk result
         (λ found. IfSome found (IsAlone key.now (state S.Store conn.new))) }
-    ensures whole { HasCleanDisk (state S.Store conn.new) → IfOk result (λ _.
-        AreRecords protest_in PROTEST.now
-        (Text key.now.entrant ∷ Text key.now.round ∷ Text key.now.token ∷ []) (state S.Store conn.old)
-        (state S.Store conn.new)) }
-    ensures cause { HasCleanDisk (state S.Store conn.new) → Fails
-        (FindFails protest_in PROTEST.now (Text key.now.entrant ∷ Text key.now.round ∷ Text key.now.token ∷ [])
-        (state S.Store conn.old) (state S.Store conn.new)) result }
 {
     find(
         conn,
@@ -65,57 +58,9 @@ pub(crate) fn protest<S: Alter>(
 }
 
 /// The entrant's protests in the round, by token.
-const PROTESTS_OF: &str =
+pub(crate) const PROTESTS_OF: &str =
     "SELECT entrant, round, token, number, body, ruling, points FROM protests \
     WHERE round = ?2 AND entrant = ?1 ORDER BY entrant, round, token";
-
-/// The entrant's protests in the round, by token.
-pub(crate) fn protests_of<S: Alter>(
-    conn: &mut Connection<S>,
-    alloc: Global,
-    entrant: &Name,
-    round: &RoundId,
-) -> Result<Vec<ProtestRow>, StoreFault>
-    requires hall { IsHall (state S.Store conn.old) }
-    ensures rested { KeptTables (state S.Store conn.old) (state S.Store conn.new) }
-    ensures served { Served (content_of (state S.Store conn.new)) result
-        (λ world rows. rows.items ≡ protests_of world entrant.now round.now) }
-    ensures whole { HasCleanDisk (state S.Store conn.new) → IfOk result (λ _.
-        AreRecords protest_in PROTESTS_OF.now (Text entrant.now ∷ Text round.now ∷ []) (state S.Store conn.old)
-        (state S.Store conn.new)) }
-    ensures cause { HasCleanDisk (state S.Store conn.new) → Fails
-        (ReadFails protest_in PROTESTS_OF.now (Text entrant.now ∷ Text round.now ∷ []) (state S.Store conn.old)
-        (state S.Store conn.new)) result }
-{
-    let _schema = conn.schema();
-    read(
-        conn,
-        alloc,
-        PROTESTS_OF,
-        params![entrant.as_str(), round.as_str()],
-    )
-}
-
-/// How many protests of the entrant in the round are kept.
-pub(crate) fn protests_made<S: Alter>(
-    conn: &mut Connection<S>,
-    entrant: &Name,
-    round: &RoundId,
-) -> Result<u64, StoreFault>
-    requires hall { IsHall (state S.Store conn.old) }
-    ensures rested { KeptTables (state S.Store conn.old) (state S.Store conn.new) }
-    ensures served { Served (content_of (state S.Store conn.new)) result
-        (λ world count. count ≡ protests_made world entrant.now round.now) }
-    ensures whole { HasCleanDisk (state S.Store conn.new) → IfOk result (λ _.
-        AreRecords protest_in PROTESTS_OF.now (Text entrant.now ∷ Text round.now ∷ []) (state S.Store conn.old)
-        (state S.Store conn.new)) }
-    ensures cause { HasCleanDisk (state S.Store conn.new) → Fails
-        (ReadFails protest_in PROTESTS_OF.now (Text entrant.now ∷ Text round.now ∷ []) (state S.Store conn.old)
-        (state S.Store conn.new)) result }
-{
-    let _schema = conn.schema();
-    count::<S, ProtestRow>(conn, PROTESTS_OF, params![entrant.as_str(), round.as_str()])
-}
 
 /// The protests of the round, by entrant, then token.
 pub(crate) const PROTESTS_IN: &str =
@@ -129,15 +74,8 @@ pub(crate) fn protests_in<S: Alter>(
     round: &RoundId,
 ) -> Result<Vec<ProtestRow>, StoreFault>
     requires hall { IsHall (state S.Store conn.old) }
-    ensures rested { KeptTables (state S.Store conn.old) (state S.Store conn.new) }
-    ensures served { Served (content_of (state S.Store conn.new)) result
-        (λ world rows. rows.items ≡ protests_in world round.now) }
-    ensures whole { HasCleanDisk (state S.Store conn.new) → IfOk result (λ _.
-        AreRecords protest_in PROTESTS_IN.now (Text round.now ∷ []) (state S.Store conn.old)
-        (state S.Store conn.new)) }
-    ensures cause { HasCleanDisk (state S.Store conn.new) → Fails
-        (ReadFails protest_in PROTESTS_IN.now (Text round.now ∷ []) (state S.Store conn.old)
-        (state S.Store conn.new)) result }
+    ensures { ReadsRows protest_in PROTESTS_IN.now (Text round.now ∷ []) (state S.Store conn.old)
+        (state S.Store conn.new) result (λ world rows. rows.items ≡ protests_in world round.now) }
 {
     let _schema = conn.schema();
     read(conn, alloc, PROTESTS_IN, params![round.as_str()])
@@ -154,14 +92,8 @@ pub(crate) fn all_protests<S: Alter>(
     alloc: Global,
 ) -> Result<Vec<ProtestRow>, StoreFault>
     requires hall { IsAnyHall (state S.Store conn.old) }
-    ensures rested { KeptAnyTables (state S.Store conn.old) (state S.Store conn.new) }
-    ensures served { Served (content_of (state S.Store conn.new)) result
+    ensures { ReadsTable protest_in ALL_PROTESTS.now (state S.Store conn.old) (state S.Store conn.new) result
         (λ world rows. rows.items ≡ values world.protests) }
-    ensures whole { HasCleanDisk (state S.Store conn.new) → IfOk result (λ _.
-        AreRecords protest_in ALL_PROTESTS.now [] (state S.Store conn.old)
-        (state S.Store conn.new)) }
-    ensures cause { HasCleanDisk (state S.Store conn.new) → Fails
-        (ReadFails protest_in ALL_PROTESTS.now [] (state S.Store conn.old) (state S.Store conn.new)) result }
 {
     let _schema = conn.schema();
     read_any(conn, alloc, ALL_PROTESTS, &[])
@@ -186,15 +118,8 @@ pub(crate) fn has_open_protest<S: Alter>(
     round: &RoundId,
 ) -> Result<bool, StoreFault>
     requires hall { IsHall (state S.Store conn.old) }
-    ensures rested { KeptTables (state S.Store conn.old) (state S.Store conn.new) }
-    ensures served { Served (content_of (state S.Store conn.new)) result
-        (λ world found. IsTrue found ↔ IsProtestOpen world round.now) }
-    ensures whole { HasCleanDisk (state S.Store conn.new) → IfOk result (λ _.
-        AreRecords protest_in PROTESTS_IN.now (Text round.now ∷ []) (state S.Store conn.old)
-        (state S.Store conn.new)) }
-    ensures cause { HasCleanDisk (state S.Store conn.new) → Fails
-        (ReadFails protest_in PROTESTS_IN.now (Text round.now ∷ []) (state S.Store conn.old)
-        (state S.Store conn.new)) result }
+    ensures { ReadsRows protest_in PROTESTS_IN.now (Text round.now ∷ []) (state S.Store conn.old)
+        (state S.Store conn.new) result (λ world found. IsTrue found ↔ IsProtestOpen world round.now) }
 {
     let rows = protests_in(conn, alloc, round)?;
     Ok(is_any_open(&rows))

@@ -2,8 +2,7 @@
 ghost use Rattle.std.specs.Prelude.{◌≡◌, ◌⊎◌, IsTrue, IfOk, OnOk, OnErr, [], ◌∷◌};
 ghost use Rattle.std.specs.FinMap.{get, values};
 ghost use Rattle.sqlite.specs.Held.{state};
-ghost use Rattle.hall_store.specs.Store.{Served, Fails, puzzles_of};
-ghost use Rattle.hall_policy.specs.Rules.{puzzles_put};
+ghost use Rattle.hall_store.specs.Store.{Fails, puzzles_of};
 ghost use Rattle.sqlite.specs.State.{HasCleanDisk, Survives, CommitsBy};
 ghost use Rattle.hall_grid.specs.Text.{SpellsText};
 ghost use Rattle.hall_grid.specs.Canonical.{CanonicalText};
@@ -14,12 +13,12 @@ ghost use Rattle.hall_sql.specs.Fill.{AddsPuzzle};
 ghost use Rattle.hall_sql.specs.Inside.{LeadsUncommitted, MakesInside};
 ghost use Rattle.hall_sql.specs.PuzzleText.{HasPuzzleRow};
 ghost use Rattle.hall_sql.specs.Columns.{puzzle_params, HasSoMany, state_code, solution_of};
-ghost use Rattle.hall_sql.specs.Standing.{IsHall, KeptTables, KeptRows, KeptAnyTables, LeadsConnection};
-ghost use Rattle.hall_sql.specs.Content.{MakesInTables, content_of};
+ghost use Rattle.hall_sql.specs.Standing.{IsHall, KeptTables, KeptRows, LeadsConnection};
+ghost use Rattle.hall_sql.specs.Content.{MakesInTables};
 ghost use Rattle.sqlite.specs.declared.types.Value.TheVariants.{Text};
 ghost use Rattle.hall_sql.specs.Rows.{puzzle_row_in};
-ghost use Rattle.hall_sql.specs.Whole.{AreRecords};
-ghost use Rattle.hall_sql.specs.Cause.{IsStoreCause, ReadFails, FindFails};
+ghost use Rattle.hall_sql.specs.Reads.{FindsRow, ReadsRows, ReadsTable};
+ghost use Rattle.hall_sql.specs.Cause.{IsStoreCause};
 ghost use Rattle.hall_sql.specs.Versions.{IsAnyHall};
 ghost use Rattle.hall_sql.specs.WriteCause.{ExecutesOrRefuses, RunFails, PuzzleIsRefused, PutPuzzleFails};
 ghost use Rattle.hall_sql.specs.WriteCause.{SetStateFails};
@@ -44,15 +43,8 @@ pub(crate) fn puzzle<S: Alter>(
     key: &PuzzleKey,
 ) -> Result<Option<PuzzleRow>, StoreFault>
     requires hall { IsHall (state S.Store conn.old) }
-    ensures rested { KeptTables (state S.Store conn.old) (state S.Store conn.new) }
-    ensures served { Served (content_of (state S.Store conn.new)) result
-        (λ world found. found ≡ get world.puzzles key.now) }
-    ensures whole { HasCleanDisk (state S.Store conn.new) → IfOk result (λ _.
-        AreRecords puzzle_row_in PUZZLE.now (Text key.now.author ∷ Text key.now.label ∷ []) (state S.Store conn.old)
-        (state S.Store conn.new)) }
-    ensures cause { HasCleanDisk (state S.Store conn.new) → Fails
-        (FindFails puzzle_row_in PUZZLE.now (Text key.now.author ∷ Text key.now.label ∷ []) (state S.Store conn.old)
-        (state S.Store conn.new)) result }
+    ensures { FindsRow puzzle_row_in PUZZLE.now (Text key.now.author ∷ Text key.now.label ∷ []) (state S.Store conn.old)
+        (state S.Store conn.new) result (λ world found. found ≡ get world.puzzles key.now) }
 {
     find(
         conn,
@@ -72,14 +64,8 @@ pub(crate) fn all_puzzles<S: Alter>(
     alloc: Global,
 ) -> Result<Vec<PuzzleRow>, StoreFault>
     requires hall { IsAnyHall (state S.Store conn.old) }
-    ensures rested { KeptAnyTables (state S.Store conn.old) (state S.Store conn.new) }
-    ensures served { Served (content_of (state S.Store conn.new)) result
+    ensures { ReadsTable puzzle_row_in ALL_PUZZLES.now (state S.Store conn.old) (state S.Store conn.new) result
         (λ world rows. rows.items ≡ values world.puzzles) }
-    ensures whole { HasCleanDisk (state S.Store conn.new) → IfOk result (λ _.
-        AreRecords puzzle_row_in ALL_PUZZLES.now [] (state S.Store conn.old)
-        (state S.Store conn.new)) }
-    ensures cause { HasCleanDisk (state S.Store conn.new) → Fails
-        (ReadFails puzzle_row_in ALL_PUZZLES.now [] (state S.Store conn.old) (state S.Store conn.new)) result }
 {
     let _schema = conn.schema();
     read_any(conn, alloc, ALL_PUZZLES, &[])
@@ -97,38 +83,11 @@ pub(crate) fn puzzles_of<S: Alter>(
     author: &Name,
 ) -> Result<Vec<PuzzleRow>, StoreFault>
     requires hall { IsHall (state S.Store conn.old) }
-    ensures rested { KeptTables (state S.Store conn.old) (state S.Store conn.new) }
-    ensures served { Served (content_of (state S.Store conn.new)) result
-        (λ world rows. rows.items ≡ puzzles_of world author.now) }
-    ensures whole { HasCleanDisk (state S.Store conn.new) → IfOk result (λ _.
-        AreRecords puzzle_row_in PUZZLES_OF.now (Text author.now ∷ []) (state S.Store conn.old)
-        (state S.Store conn.new)) }
-    ensures cause { HasCleanDisk (state S.Store conn.new) → Fails
-        (ReadFails puzzle_row_in PUZZLES_OF.now (Text author.now ∷ []) (state S.Store conn.old)
-        (state S.Store conn.new)) result }
+    ensures { ReadsRows puzzle_row_in PUZZLES_OF.now (Text author.now ∷ []) (state S.Store conn.old)
+        (state S.Store conn.new) result (λ world rows. rows.items ≡ puzzles_of world author.now) }
 {
     let _schema = conn.schema();
     read(conn, alloc, PUZZLES_OF, params![author.as_str()])
-}
-
-/// How many puzzles of the author are kept.
-pub(crate) fn puzzles_put<S: Alter>(
-    conn: &mut Connection<S>,
-    alloc: Global,
-    author: &Name,
-) -> Result<u64, StoreFault>
-    requires hall { IsHall (state S.Store conn.old) }
-    ensures rested { KeptTables (state S.Store conn.old) (state S.Store conn.new) }
-    ensures served { Served (content_of (state S.Store conn.new)) result
-        (λ world count. count ≡ puzzles_put world author.now) }
-    ensures whole { HasCleanDisk (state S.Store conn.new) → IfOk result (λ _.
-        AreRecords puzzle_row_in PUZZLES_OF.now (Text author.now ∷ []) (state S.Store conn.old)
-        (state S.Store conn.new)) }
-    ensures cause { HasCleanDisk (state S.Store conn.new) → Fails
-        (ReadFails puzzle_row_in PUZZLES_OF.now (Text author.now ∷ []) (state S.Store conn.old)
-        (state S.Store conn.new)) result }
-{
-    Ok(puzzles_of(conn, alloc, author)?.len() as u64)
 }
 
 /// The code of a state.

@@ -2,20 +2,21 @@
 ghost use Rattle.std.specs.Prelude.{◌≡◌, ◌≢◌, ◌++◌, ◌∷◌, [], ℕ, List, length, map, suc, IfOk, IfErr, IfSome, OnOk};
 ghost use Rattle.std.specs.List.{dedup};
 ghost use Rattle.std.specs.FinMap.{get, values, entries};
-ghost use Rattle.sqlite.specs.Held.{state, Held};
+ghost use Rattle.sqlite.specs.Held.{state};
 ghost use Rattle.sqlite.specs.State.{HasCleanDisk};
 ghost use Rattle.hall_policy.specs.Lists.{AreEntries, AreTesters};
 ghost use Rattle.hall_policy.specs.World.{World, same_text};
 ghost use Rattle.hall_store.specs.Store.{Served, Fails, AreUsing, AreTestersOf, IsRoundKept};
 ghost use Rattle.hall_sql.specs.Places.{is_in_round, ArePlaces, ArePlacesWith, AreListed, AreNumbered};
 ghost use Rattle.hall_sql.specs.RoundColumns.{IsHead};
-ghost use Rattle.hall_sql.specs.Standing.{IsHall, KeptTables, KeptAnyTables};
+ghost use Rattle.hall_sql.specs.Standing.{IsHall, KeptTables};
 ghost use Rattle.hall_sql.specs.Content.{content_of};
 ghost use Rattle.hall_sql.specs.Versions.{IsAnyHall};
 ghost use Rattle.sqlite.specs.declared.types.Value.TheVariants.{Text};
 ghost use Rattle.hall_sql.specs.Rows.{place_in, round_in};
+ghost use Rattle.hall_sql.specs.Reads.{FindsRow, Reads, ReadsRows, ReadsTable};
 ghost use Rattle.hall_sql.specs.Whole.{AreRecords, IsRoundRead};
-ghost use Rattle.hall_sql.specs.Cause.{ReadFails, FindFails, RoundFails, AreNoRound};
+ghost use Rattle.hall_sql.specs.Cause.{FindFails, RoundFails, AreNoRound};
 ghost use Rattle.hall_store.specs.declared.fault.StoreFault.TheVariants.{Memory};
 
 use crate::reads::{find, read, read_any};
@@ -37,14 +38,8 @@ pub(crate) fn rounds<S: Alter>(
     alloc: Global,
 ) -> Result<Vec<Round>, StoreFault>
     requires hall { IsAnyHall (state S.Store conn.old) }
-    ensures rested { KeptAnyTables (state S.Store conn.old) (state S.Store conn.new) }
-    ensures served { Served (content_of (state S.Store conn.new)) result
+    ensures { ReadsTable round_in ALL_ROUNDS.now (state S.Store conn.old) (state S.Store conn.new) result
         (λ world rounds. rounds.items ≡ values world.rounds) }
-    ensures whole { HasCleanDisk (state S.Store conn.new) → IfOk result (λ _.
-        AreRecords round_in ALL_ROUNDS.now [] (state S.Store conn.old)
-        (state S.Store conn.new)) }
-    ensures cause { HasCleanDisk (state S.Store conn.new) → Fails
-        (ReadFails round_in ALL_ROUNDS.now [] (state S.Store conn.old) (state S.Store conn.new)) result }
 {
     let _schema = conn.schema();
     read_any(conn, alloc, ALL_ROUNDS, &[])
@@ -61,15 +56,9 @@ fn places_with<S: Alter>(
     key: &PuzzleKey,
 ) -> Result<Vec<Place>, StoreFault>
     requires hall { IsHall (state S.Store conn.old) }
-    ensures rested { KeptTables (state S.Store conn.old) (state S.Store conn.new) }
-    ensures served { Served (content_of (state S.Store conn.new)) result
+    ensures { ReadsRows place_in PLACES_WITH.now (Text key.now.author ∷ Text key.now.label ∷ [])
+        (state S.Store conn.old) (state S.Store conn.new) result
         (λ world places. ArePlacesWith world key.now places.items) }
-    ensures whole { HasCleanDisk (state S.Store conn.new) → IfOk result (λ _.
-        AreRecords place_in PLACES_WITH.now (Text key.now.author ∷ Text key.now.label ∷ []) (state S.Store conn.old)
-        (state S.Store conn.new)) }
-    ensures cause { HasCleanDisk (state S.Store conn.new) → Fails
-        (ReadFails place_in PLACES_WITH.now (Text key.now.author ∷ Text key.now.label ∷ []) (state S.Store conn.old)
-        (state S.Store conn.new)) result }
 {
     let _schema = conn.schema();
     read(
@@ -90,14 +79,8 @@ pub(crate) fn all_places<S: Alter>(
     alloc: Global,
 ) -> Result<Vec<Place>, StoreFault>
     requires hall { IsAnyHall (state S.Store conn.old) }
-    ensures rested { KeptAnyTables (state S.Store conn.old) (state S.Store conn.new) }
-    ensures served { Served (content_of (state S.Store conn.new)) result
+    ensures { ReadsTable place_in ALL_PLACES.now (state S.Store conn.old) (state S.Store conn.new) result
         (λ world places. places.items ≡ entries world.places) }
-    ensures whole { HasCleanDisk (state S.Store conn.new) → IfOk result (λ _.
-        AreRecords place_in ALL_PLACES.now [] (state S.Store conn.old)
-        (state S.Store conn.new)) }
-    ensures cause { HasCleanDisk (state S.Store conn.new) → Fails
-        (ReadFails place_in ALL_PLACES.now [] (state S.Store conn.old) (state S.Store conn.new)) result }
 {
     let _schema = conn.schema();
     read_any(conn, alloc, ALL_PLACES, &[])
@@ -135,15 +118,8 @@ pub(crate) fn rounds_using<S: Alter>(
     key: &PuzzleKey,
 ) -> Result<Vec<RoundId>, StoreFault>
     requires hall { IsHall (state S.Store conn.old) }
-    ensures rested { KeptTables (state S.Store conn.old) (state S.Store conn.new) }
-    ensures served { Served (content_of (state S.Store conn.new)) result
-        (λ world ids. AreUsing world key.now ids.items) }
-    ensures whole { HasCleanDisk (state S.Store conn.new) → IfOk result (λ _.
-        AreRecords place_in PLACES_WITH.now (Text key.now.author ∷ Text key.now.label ∷ []) (state S.Store conn.old)
-        (state S.Store conn.new)) }
-    ensures cause { HasCleanDisk (state S.Store conn.new) → Fails
-        (ReadFails place_in PLACES_WITH.now (Text key.now.author ∷ Text key.now.label ∷ []) (state S.Store conn.old)
-        (state S.Store conn.new)) result }
+    ensures { ReadsRows place_in PLACES_WITH.now (Text key.now.author ∷ Text key.now.label ∷ [])
+        (state S.Store conn.old) (state S.Store conn.new) result (λ world ids. AreUsing world key.now ids.items) }
 {
     let places = places_with(conn, alloc, key)?;
     rounds_of(alloc, places)
@@ -161,16 +137,10 @@ pub(crate) fn head<S: Alter>(
     id: &RoundId,
 ) -> Result<Option<Round>, StoreFault>
     requires hall { IsHall (state S.Store conn.old) }
-    ensures rested { KeptTables (state S.Store conn.old) (state S.Store conn.new) }
-    ensures served { Served (content_of (state S.Store conn.new)) result
-        (λ world found. found ≡ get world.rounds id.now) }
+    ensures reads { FindsRow round_in HEAD.now (Text id.now ∷ []) (state S.Store conn.old) (state S.Store conn.new)
+        result (λ world found. found ≡ get world.rounds id.now) }
     ensures alone { HasCleanDisk (state S.Store conn.new) → IfOk result
         (λ found. IfSome found (IsHead id.now (state S.Store conn.new))) }
-    ensures whole { HasCleanDisk (state S.Store conn.new) → IfOk result (λ _.
-        AreRecords round_in HEAD.now (Text id.now ∷ []) (state S.Store conn.old)
-        (state S.Store conn.new)) }
-    ensures cause { HasCleanDisk (state S.Store conn.new) → Fails
-        (FindFails round_in HEAD.now (Text id.now ∷ []) (state S.Store conn.old) (state S.Store conn.new)) result }
 {
     find(conn, alloc, HEAD, params![id.as_str()])
 }
@@ -186,15 +156,8 @@ fn places_of<S: Alter>(
     id: &RoundId,
 ) -> Result<Vec<Place>, StoreFault>
     requires hall { IsHall (state S.Store conn.old) }
-    ensures rested { KeptTables (state S.Store conn.old) (state S.Store conn.new) }
-    ensures served { Served (content_of (state S.Store conn.new)) result
-        (λ world places. AreListed world id.now places.items) }
-    ensures whole { HasCleanDisk (state S.Store conn.new) → IfOk result (λ _.
-        AreRecords place_in PLACES_OF.now (Text id.now ∷ []) (state S.Store conn.old)
-        (state S.Store conn.new)) }
-    ensures cause { HasCleanDisk (state S.Store conn.new) → Fails
-        (ReadFails place_in PLACES_OF.now (Text id.now ∷ []) (state S.Store conn.old)
-        (state S.Store conn.new)) result }
+    ensures { ReadsRows place_in PLACES_OF.now (Text id.now ∷ []) (state S.Store conn.old) (state S.Store conn.new)
+        result (λ world places. AreListed world id.now places.items) }
 {
     let _schema = conn.schema();
     read(conn, alloc, PLACES_OF, params![id.as_str()])
@@ -289,13 +252,10 @@ pub(crate) fn round<S: Alter>(
     id: &RoundId,
 ) -> Result<Option<RoundRow>, StoreFault>
     requires hall { IsHall (state S.Store conn.old) }
-    ensures rested { KeptTables (state S.Store conn.old) (state S.Store conn.new) }
-    ensures served { Served (content_of (state S.Store conn.new)) result
-        (λ world found. IsRoundKept world id.now found) }
-    ensures whole { HasCleanDisk (state S.Store conn.new) → IfOk result (λ _.
-        IsRoundRead S.Store id.now (state S.Store conn.old) (state S.Store conn.new)) }
-    ensures cause { HasCleanDisk (state S.Store conn.new) → Fails
-        (RoundFails id.now (state S.Store conn.old) (state S.Store conn.new)) result }
+    ensures { Reads (state S.Store conn.old) (state S.Store conn.new) result
+        (λ world found. IsRoundKept world id.now found)
+        (IsRoundRead S.Store id.now (state S.Store conn.old) (state S.Store conn.new))
+        (RoundFails id.now (state S.Store conn.old) (state S.Store conn.new)) }
 {
     let head = head(conn, alloc, id)?;
     let places = places_of(conn, alloc, id)?;

@@ -16,21 +16,20 @@ ghost use Rattle.hall_sql.specs.WholeRows.{AreRowsOf};
 
 use crate::adoption::adopt;
 use crate::answers::{
-    add_answer, all_answers, answer, answers_given, answers_in, answers_of, has_answered,
-    is_number_taken,
+    ANSWER, ANSWERS_GIVEN, ANSWERS_IN, ANSWERS_OF, NUMBER_TAKEN, add_answer, all_answers,
 };
 use crate::bad_rows::{BadRows, bad_rows};
 use crate::calls::live;
-use crate::feed::{feed_answers, feed_protests};
+use crate::counts::count;
+use crate::feed::feed;
 use crate::migration::{Migrated, take_rows};
-use crate::people::{all_people, import, person, person_by_key};
+use crate::people::{PERSON, PERSON_BY_KEY, all_people, import};
 use crate::protests::{
-    add_protest, all_protests, has_open_protest, protest, protests_in, protests_made, protests_of,
+    PROTESTS_IN, PROTESTS_OF, add_protest, all_protests, has_open_protest, protest, protests_in,
     rule_protest,
 };
-use crate::puzzles::{
-    all_puzzles, put_puzzle, puzzle, puzzles_of, puzzles_put, set_state,
-};
+use crate::puzzles::{all_puzzles, put_puzzle, puzzle, puzzles_of, set_state};
+use crate::reads::{find, read};
 use crate::record::{Place, Tester};
 use crate::round_writes::{put_round, set_round_flag};
 use crate::rounds::{all_places, round, rounds, rounds_using};
@@ -42,7 +41,7 @@ use hall_policy::{
     PuzzleKey, PuzzleNumber, PuzzleRow, PuzzleState, Round, RoundId, RoundRow, Ruling, Sink,
 };
 use hall_store::{ReadStore, RoundFlag, Store, StoreFault, WholeStore};
-use sqlite::{Alter, Connection};
+use sqlite::{Alter, Connection, params};
 use std::alloc::Global;
 use std::marker::Model;
 
@@ -134,7 +133,7 @@ impl<S: Alter + Drop> ReadStore for SqlStore<S> {
     ghost use Rattle.sqlite.specs.State.{HasCleanDisk};
     ghost use Rattle.hall_policy.specs.Rules.{answers_given, protests_made, puzzles_put};
     ghost use Rattle.hall_store.specs.Caller.{IsKeyHolder};
-    ghost use Rattle.hall_store.specs.Store.{Kept, Served, Fails, puzzles_of, IsRoundKept, AreUsing, IsNumberTaken};
+    ghost use Rattle.hall_store.specs.Store.{Kept, Fails, puzzles_of, IsRoundKept, AreUsing, IsNumberTaken};
     ghost use Rattle.hall_store.specs.Store.{AreTestersOf, IsListing, is_of, is_in};
     ghost use Rattle.hall_store.specs.Store.{HasSubmitted, IsProtestOpen, protests_of, protests_in};
     ghost use Rattle.hall_store.specs.Store.{Fed, IsRefusedNext};
@@ -148,8 +147,9 @@ impl<S: Alter + Drop> ReadStore for SqlStore<S> {
     ghost use Rattle.hall_sql.specs.declared.answers.TheConstants.{ANSWERS_OF, ANSWERS_IN};
     ghost use Rattle.hall_sql.specs.declared.protests.TheConstants.{PROTEST, PROTESTS_OF, PROTESTS_IN};
     ghost use Rattle.hall_sql.specs.declared.testers.TheConstants.{TESTERS_OF};
+    ghost use Rattle.hall_sql.specs.Reads.{FindsRow, Reads, ReadsRows};
     ghost use Rattle.hall_sql.specs.Whole.{AreRecords, IsRoundRead};
-    ghost use Rattle.hall_sql.specs.Cause.{ReadFails, FeedFails, FindFails, RoundFails};
+    ghost use Rattle.hall_sql.specs.Cause.{FeedFails, RoundFails};
     ghost use Rattle.hall_sql.specs.CanFail.{CanFail};
     ghost use Rattle.hall_sql.specs.Content.{content_of};
     ghost use Rattle.hall_sql.specs.Standing.{KeptTables};
@@ -162,194 +162,103 @@ impl<S: Alter + Drop> ReadStore for SqlStore<S> {
     }
 
     fn person_by_key(&mut self, alloc: Global, key: &Key) -> Result<Option<Person>, StoreFault>
-        ensures kept { Kept (content_of (state S.Store self.old)) (content_of (state S.Store self.new)) }
-        ensures rested { KeptTables (state S.Store self.old) (state S.Store self.new) }
-        ensures served { Served (content_of (state S.Store self.new)) result
-            (λ world found. IsKeyHolder world key.now found) }
-        ensures fault { Fails (CanFail (state S.Store self.new)) result }
-        ensures whole { HasCleanDisk (state S.Store self.new) → IfOk result (λ _.
-            AreRecords person_in PERSON_BY_KEY.now (Text key.now ∷ []) (state S.Store self.old)
-            (state S.Store self.new)) }
-        ensures cause { HasCleanDisk (state S.Store self.new) → Fails
-            (FindFails person_in PERSON_BY_KEY.now (Text key.now ∷ []) (state S.Store self.old)
-            (state S.Store self.new)) result }
+        ensures { FindsRow person_in PERSON_BY_KEY.now (Text key.now ∷ []) (state S.Store self.old)
+            (state S.Store self.new) result (λ world found. IsKeyHolder world key.now found) }
     {
-        person_by_key(&mut self.conn, alloc, key)
+        let _schema = self.conn.schema();
+        find(&mut self.conn, alloc, PERSON_BY_KEY, params![key.as_str()])
     }
 
     fn person(&mut self, alloc: Global, name: &Name) -> Result<Option<Person>, StoreFault>
-        ensures kept { Kept (content_of (state S.Store self.old)) (content_of (state S.Store self.new)) }
-        ensures rested { KeptTables (state S.Store self.old) (state S.Store self.new) }
-        ensures served { Served (content_of (state S.Store self.new)) result
-            (λ world found. found ≡ get world.people name.now) }
-        ensures fault { Fails (CanFail (state S.Store self.new)) result }
-        ensures whole { HasCleanDisk (state S.Store self.new) → IfOk result (λ _.
-            AreRecords person_in PERSON.now (Text name.now ∷ []) (state S.Store self.old)
-            (state S.Store self.new)) }
-        ensures cause { HasCleanDisk (state S.Store self.new) → Fails
-            (FindFails person_in PERSON.now (Text name.now ∷ []) (state S.Store self.old)
-            (state S.Store self.new)) result }
+        ensures { FindsRow person_in PERSON.now (Text name.now ∷ []) (state S.Store self.old) (state S.Store self.new)
+            result (λ world found. found ≡ get world.people name.now) }
     {
-        person(&mut self.conn, alloc, name)
+        find(&mut self.conn, alloc, PERSON, params![name.as_str()])
     }
 
     fn people(&mut self, alloc: Global) -> Result<Vec<Person>, StoreFault>
-        ensures kept { Kept (content_of (state S.Store self.old)) (content_of (state S.Store self.new)) }
-        ensures rested { KeptTables (state S.Store self.old) (state S.Store self.new) }
-        ensures served { Served (content_of (state S.Store self.new)) result
+        ensures { ReadsRows person_in ALL_PEOPLE.now [] (state S.Store self.old) (state S.Store self.new) result
             (λ world people. people.items ≡ values world.people) }
-        ensures fault { Fails (CanFail (state S.Store self.new)) result }
-        ensures whole { HasCleanDisk (state S.Store self.new) → IfOk result (λ _.
-            AreRecords person_in ALL_PEOPLE.now [] (state S.Store self.old)
-            (state S.Store self.new)) }
-        ensures cause { HasCleanDisk (state S.Store self.new) → Fails
-            (ReadFails person_in ALL_PEOPLE.now [] (state S.Store self.old) (state S.Store self.new)) result }
     {
         all_people(&mut self.conn, alloc)
     }
 
     fn puzzle(&mut self, alloc: Global, key: &PuzzleKey) -> Result<Option<PuzzleRow>, StoreFault>
-        ensures kept { Kept (content_of (state S.Store self.old)) (content_of (state S.Store self.new)) }
-        ensures rested { KeptTables (state S.Store self.old) (state S.Store self.new) }
-        ensures served { Served (content_of (state S.Store self.new)) result
+        ensures { FindsRow puzzle_row_in PUZZLE.now (Text key.now.author ∷ Text key.now.label ∷ [])
+            (state S.Store self.old) (state S.Store self.new) result
             (λ world found. found ≡ get world.puzzles key.now) }
-        ensures fault { Fails (CanFail (state S.Store self.new)) result }
-        ensures whole { HasCleanDisk (state S.Store self.new) → IfOk result (λ _.
-            AreRecords puzzle_row_in PUZZLE.now
-            (Text key.now.author ∷ Text key.now.label ∷ []) (state S.Store self.old)
-            (state S.Store self.new)) }
-        ensures cause { HasCleanDisk (state S.Store self.new) → Fails
-            (FindFails puzzle_row_in PUZZLE.now (Text key.now.author ∷ Text key.now.label ∷ [])
-            (state S.Store self.old) (state S.Store self.new)) result }
     {
         puzzle(&mut self.conn, alloc, key)
     }
 
     fn puzzles_of(&mut self, alloc: Global, author: &Name) -> Result<Vec<PuzzleRow>, StoreFault>
-        ensures kept { Kept (content_of (state S.Store self.old)) (content_of (state S.Store self.new)) }
-        ensures rested { KeptTables (state S.Store self.old) (state S.Store self.new) }
-        ensures served { Served (content_of (state S.Store self.new)) result
-            (λ world rows. rows.items ≡ puzzles_of world author.now) }
-        ensures fault { Fails (CanFail (state S.Store self.new)) result }
-        ensures whole { HasCleanDisk (state S.Store self.new) → IfOk result (λ _.
-            AreRecords puzzle_row_in PUZZLES_OF.now (Text author.now ∷ []) (state S.Store self.old)
-            (state S.Store self.new)) }
-        ensures cause { HasCleanDisk (state S.Store self.new) → Fails
-            (ReadFails puzzle_row_in PUZZLES_OF.now (Text author.now ∷ []) (state S.Store self.old)
-            (state S.Store self.new)) result }
+        ensures { ReadsRows puzzle_row_in PUZZLES_OF.now (Text author.now ∷ []) (state S.Store self.old)
+            (state S.Store self.new) result (λ world rows. rows.items ≡ puzzles_of world author.now) }
     {
         puzzles_of(&mut self.conn, alloc, author)
     }
 
     fn all_puzzles(&mut self, alloc: Global) -> Result<Vec<PuzzleRow>, StoreFault>
-        ensures kept { Kept (content_of (state S.Store self.old)) (content_of (state S.Store self.new)) }
-        ensures rested { KeptTables (state S.Store self.old) (state S.Store self.new) }
-        ensures served { Served (content_of (state S.Store self.new)) result
+        ensures { ReadsRows puzzle_row_in ALL_PUZZLES.now [] (state S.Store self.old) (state S.Store self.new) result
             (λ world rows. rows.items ≡ values world.puzzles) }
-        ensures fault { Fails (CanFail (state S.Store self.new)) result }
-        ensures whole { HasCleanDisk (state S.Store self.new) → IfOk result (λ _.
-            AreRecords puzzle_row_in ALL_PUZZLES.now [] (state S.Store self.old)
-            (state S.Store self.new)) }
-        ensures cause { HasCleanDisk (state S.Store self.new) → Fails
-            (ReadFails puzzle_row_in ALL_PUZZLES.now [] (state S.Store self.old) (state S.Store self.new)) result }
     {
         all_puzzles(&mut self.conn, alloc)
     }
 
     fn puzzles_put(&mut self, alloc: Global, author: &Name) -> Result<u64, StoreFault>
-        ensures kept { Kept (content_of (state S.Store self.old)) (content_of (state S.Store self.new)) }
-        ensures rested { KeptTables (state S.Store self.old) (state S.Store self.new) }
-        ensures served { Served (content_of (state S.Store self.new)) result
-            (λ world count. count ≡ puzzles_put world author.now) }
-        ensures fault { Fails (CanFail (state S.Store self.new)) result }
-        ensures whole { HasCleanDisk (state S.Store self.new) → IfOk result (λ _.
-            AreRecords puzzle_row_in PUZZLES_OF.now (Text author.now ∷ []) (state S.Store self.old)
-            (state S.Store self.new)) }
-        ensures cause { HasCleanDisk (state S.Store self.new) → Fails
-            (ReadFails puzzle_row_in PUZZLES_OF.now (Text author.now ∷ []) (state S.Store self.old)
-            (state S.Store self.new)) result }
+        ensures { ReadsRows puzzle_row_in PUZZLES_OF.now (Text author.now ∷ []) (state S.Store self.old)
+            (state S.Store self.new) result (λ world count. count ≡ puzzles_put world author.now) }
     {
-        puzzles_put(&mut self.conn, alloc, author)
+        Ok(puzzles_of(&mut self.conn, alloc, author)?.len() as u64)
     }
 
     fn round(&mut self, alloc: Global, id: &RoundId) -> Result<Option<RoundRow>, StoreFault>
-        ensures kept { Kept (content_of (state S.Store self.old)) (content_of (state S.Store self.new)) }
-        ensures rested { KeptTables (state S.Store self.old) (state S.Store self.new) }
-        ensures served { Served (content_of (state S.Store self.new)) result
-            (λ world found. IsRoundKept world id.now found) }
-        ensures fault { Fails (CanFail (state S.Store self.new)) result }
-        ensures whole { HasCleanDisk (state S.Store self.new) → IfOk result (λ _.
-            IsRoundRead S.Store id.now (state S.Store self.old) (state S.Store self.new)) }
-        ensures cause { HasCleanDisk (state S.Store self.new) → Fails
-            (RoundFails id.now (state S.Store self.old) (state S.Store self.new)) result }
+        ensures { Reads (state S.Store self.old) (state S.Store self.new) result
+            (λ world found. IsRoundKept world id.now found)
+            (IsRoundRead S.Store id.now (state S.Store self.old) (state S.Store self.new))
+            (RoundFails id.now (state S.Store self.old) (state S.Store self.new)) }
     {
         round(&mut self.conn, alloc, id)
     }
 
     fn testers_of(&mut self, alloc: Global, id: &RoundId) -> Result<Vec<Name>, StoreFault>
-        ensures kept { Kept (content_of (state S.Store self.old)) (content_of (state S.Store self.new)) }
-        ensures rested { KeptTables (state S.Store self.old) (state S.Store self.new) }
-        ensures served { Served (content_of (state S.Store self.new)) result
-            (λ world names. AreTestersOf world id.now names.items) }
-        ensures fault { Fails (CanFail (state S.Store self.new)) result }
-        ensures whole { HasCleanDisk (state S.Store self.new) → IfOk result (λ _.
-            AreRecords tester_in TESTERS_OF.now (Text id.now ∷ []) (state S.Store self.old)
-            (state S.Store self.new)) }
-        ensures cause { HasCleanDisk (state S.Store self.new) → Fails
-            (ReadFails tester_in TESTERS_OF.now (Text id.now ∷ []) (state S.Store self.old)
-            (state S.Store self.new)) result }
+        ensures { ReadsRows tester_in TESTERS_OF.now (Text id.now ∷ []) (state S.Store self.old)
+            (state S.Store self.new) result (λ world names. AreTestersOf world id.now names.items) }
     {
         testers_of(&mut self.conn, alloc, id)
     }
 
     fn rounds(&mut self, alloc: Global) -> Result<Vec<Round>, StoreFault>
-        ensures kept { Kept (content_of (state S.Store self.old)) (content_of (state S.Store self.new)) }
-        ensures rested { KeptTables (state S.Store self.old) (state S.Store self.new) }
-        ensures served { Served (content_of (state S.Store self.new)) result
+        ensures { ReadsRows round_in ALL_ROUNDS.now [] (state S.Store self.old) (state S.Store self.new) result
             (λ world rounds. rounds.items ≡ values world.rounds) }
-        ensures fault { Fails (CanFail (state S.Store self.new)) result }
-        ensures whole { HasCleanDisk (state S.Store self.new) → IfOk result (λ _.
-            AreRecords round_in ALL_ROUNDS.now [] (state S.Store self.old)
-            (state S.Store self.new)) }
-        ensures cause { HasCleanDisk (state S.Store self.new) → Fails
-            (ReadFails round_in ALL_ROUNDS.now [] (state S.Store self.old) (state S.Store self.new)) result }
     {
         rounds(&mut self.conn, alloc)
     }
 
     fn rounds_using(&mut self, alloc: Global, key: &PuzzleKey) -> Result<Vec<RoundId>, StoreFault>
-        ensures kept { Kept (content_of (state S.Store self.old)) (content_of (state S.Store self.new)) }
-        ensures rested { KeptTables (state S.Store self.old) (state S.Store self.new) }
-        ensures served { Served (content_of (state S.Store self.new)) result
-            (λ world ids. AreUsing world key.now ids.items) }
-        ensures fault { Fails (CanFail (state S.Store self.new)) result }
-        ensures whole { HasCleanDisk (state S.Store self.new) → IfOk result (λ _.
-            AreRecords place_in PLACES_WITH.now
-            (Text key.now.author ∷ Text key.now.label ∷ []) (state S.Store self.old)
-            (state S.Store self.new)) }
-        ensures cause { HasCleanDisk (state S.Store self.new) → Fails
-            (ReadFails place_in PLACES_WITH.now (Text key.now.author ∷ Text key.now.label ∷ [])
-            (state S.Store self.old) (state S.Store self.new)) result }
+        ensures { ReadsRows place_in PLACES_WITH.now (Text key.now.author ∷ Text key.now.label ∷ [])
+            (state S.Store self.old) (state S.Store self.new) result (λ world ids. AreUsing world key.now ids.items) }
     {
         rounds_using(&mut self.conn, alloc, key)
     }
 
     fn answer(&mut self, alloc: Global, key: &AnswerKey) -> Result<Option<AnswerRow>, StoreFault>
-        ensures kept { Kept (content_of (state S.Store self.old)) (content_of (state S.Store self.new)) }
-        ensures rested { KeptTables (state S.Store self.old) (state S.Store self.new) }
-        ensures served { Served (content_of (state S.Store self.new)) result
+        ensures { FindsRow answer_in ANSWER.now
+            (Text key.now.entrant ∷ Text key.now.round ∷ Int (pos key.now.number) ∷ Text key.now.token ∷ [])
+            (state S.Store self.old) (state S.Store self.new) result
             (λ world found. found ≡ get world.answers key.now) }
-        ensures fault { Fails (CanFail (state S.Store self.new)) result }
-        ensures whole { HasCleanDisk (state S.Store self.new) → IfOk result (λ _.
-            AreRecords answer_in ANSWER.now
-            (Text key.now.entrant ∷ Text key.now.round ∷ Int (pos key.now.number) ∷ Text key.now.token ∷ [])
-            (state S.Store self.old) (state S.Store self.new)) }
-        ensures cause { HasCleanDisk (state S.Store self.new) → Fails
-            (FindFails answer_in ANSWER.now
-            (Text key.now.entrant ∷ Text key.now.round ∷ Int (pos key.now.number) ∷ Text key.now.token ∷ [])
-            (state S.Store self.old) (state S.Store self.new)) result }
     {
-        answer(&mut self.conn, alloc, key)
+        find(
+            &mut self.conn,
+            alloc,
+            ANSWER,
+            params![
+                key.entrant.as_str(),
+                key.round.as_str(),
+                key.number.get() as u32,
+                key.token.as_str()
+            ],
+        )
     }
 
     fn answers_given(
@@ -359,20 +268,16 @@ impl<S: Alter + Drop> ReadStore for SqlStore<S> {
         round: &RoundId,
         number: PuzzleNumber,
     ) -> Result<u64, StoreFault>
-        ensures kept { Kept (content_of (state S.Store self.old)) (content_of (state S.Store self.new)) }
-        ensures rested { KeptTables (state S.Store self.old) (state S.Store self.new) }
-        ensures served { Served (content_of (state S.Store self.new)) result
+        ensures { ReadsRows answer_in ANSWERS_GIVEN.now (Text entrant.now ∷ Text round.now ∷ Int (pos number) ∷ [])
+            (state S.Store self.old) (state S.Store self.new) result
             (λ world count. count ≡ answers_given world entrant.now round.now number) }
-        ensures fault { Fails (CanFail (state S.Store self.new)) result }
-        ensures whole { HasCleanDisk (state S.Store self.new) → IfOk result (λ _.
-            AreRecords answer_in ANSWERS_GIVEN.now
-            (Text entrant.now ∷ Text round.now ∷ Int (pos number) ∷ []) (state S.Store self.old)
-            (state S.Store self.new)) }
-        ensures cause { HasCleanDisk (state S.Store self.new) → Fails
-            (ReadFails answer_in ANSWERS_GIVEN.now (Text entrant.now ∷ Text round.now ∷ Int (pos number) ∷ [])
-            (state S.Store self.old) (state S.Store self.new)) result }
     {
-        answers_given(&mut self.conn, entrant, round, number)
+        let _schema = self.conn.schema();
+        count::<S, AnswerRow>(
+            &mut self.conn,
+            ANSWERS_GIVEN,
+            params![entrant.as_str(), round.as_str(), number.get() as u32],
+        )
     }
 
     fn is_number_taken(
@@ -383,21 +288,23 @@ impl<S: Alter + Drop> ReadStore for SqlStore<S> {
         number: PuzzleNumber,
         n: AnswerNumber,
     ) -> Result<bool, StoreFault>
-        ensures kept { Kept (content_of (state S.Store self.old)) (content_of (state S.Store self.new)) }
-        ensures rested { KeptTables (state S.Store self.old) (state S.Store self.new) }
-        ensures served { Served (content_of (state S.Store self.new)) result
-            (λ world taken. IsTrue taken ↔ IsNumberTaken world entrant.now round.now number n) }
-        ensures fault { Fails (CanFail (state S.Store self.new)) result }
-        ensures whole { HasCleanDisk (state S.Store self.new) → IfOk result (λ _.
-            AreRecords answer_in NUMBER_TAKEN.now
-            (Text entrant.now ∷ Text round.now ∷ Int (pos number) ∷ Int (pos n) ∷ [])
-            (state S.Store self.old) (state S.Store self.new)) }
-        ensures cause { HasCleanDisk (state S.Store self.new) → Fails
-            (ReadFails answer_in NUMBER_TAKEN.now
+        ensures { ReadsRows answer_in NUMBER_TAKEN.now
             (Text entrant.now ∷ Text round.now ∷ Int (pos number) ∷ Int (pos n) ∷ []) (state S.Store self.old)
-            (state S.Store self.new)) result }
+            (state S.Store self.new) result
+            (λ world taken. IsTrue taken ↔ IsNumberTaken world entrant.now round.now number n) }
     {
-        is_number_taken(&mut self.conn, entrant, round, number, n)
+        let _schema = self.conn.schema();
+        let count = count::<S, AnswerRow>(
+            &mut self.conn,
+            NUMBER_TAKEN,
+            params![
+                entrant.as_str(),
+                round.as_str(),
+                number.get() as u32,
+                n.get() as u32
+            ],
+        )?;
+        Ok(count != 0)
     }
 
     fn answers_of(
@@ -406,35 +313,24 @@ impl<S: Alter + Drop> ReadStore for SqlStore<S> {
         entrant: &Name,
         round: &RoundId,
     ) -> Result<Vec<AnswerRow>, StoreFault>
-        ensures kept { Kept (content_of (state S.Store self.old)) (content_of (state S.Store self.new)) }
-        ensures rested { KeptTables (state S.Store self.old) (state S.Store self.new) }
-        ensures served { Served (content_of (state S.Store self.new)) result
-            (λ world rows. IsListing world (is_of entrant.now round.now) rows.items) }
-        ensures fault { Fails (CanFail (state S.Store self.new)) result }
-        ensures whole { HasCleanDisk (state S.Store self.new) → IfOk result (λ _.
-            AreRecords answer_in ANSWERS_OF.now (Text entrant.now ∷ Text round.now ∷ []) (state S.Store self.old)
-            (state S.Store self.new)) }
-        ensures cause { HasCleanDisk (state S.Store self.new) → Fails
-            (ReadFails answer_in ANSWERS_OF.now (Text entrant.now ∷ Text round.now ∷ []) (state S.Store self.old)
-            (state S.Store self.new)) result }
+        ensures { ReadsRows answer_in ANSWERS_OF.now (Text entrant.now ∷ Text round.now ∷ []) (state S.Store self.old)
+            (state S.Store self.new) result (λ world rows. IsListing world (is_of entrant.now round.now) rows.items) }
     {
-        answers_of(&mut self.conn, alloc, entrant, round)
+        let _schema = self.conn.schema();
+        read(
+            &mut self.conn,
+            alloc,
+            ANSWERS_OF,
+            params![entrant.as_str(), round.as_str()],
+        )
     }
 
     fn answers_in(&mut self, alloc: Global, round: &RoundId) -> Result<Vec<AnswerRow>, StoreFault>
-        ensures kept { Kept (content_of (state S.Store self.old)) (content_of (state S.Store self.new)) }
-        ensures rested { KeptTables (state S.Store self.old) (state S.Store self.new) }
-        ensures served { Served (content_of (state S.Store self.new)) result
-            (λ world rows. IsListing world (is_in round.now) rows.items) }
-        ensures fault { Fails (CanFail (state S.Store self.new)) result }
-        ensures whole { HasCleanDisk (state S.Store self.new) → IfOk result (λ _.
-            AreRecords answer_in ANSWERS_IN.now (Text round.now ∷ []) (state S.Store self.old)
-            (state S.Store self.new)) }
-        ensures cause { HasCleanDisk (state S.Store self.new) → Fails
-            (ReadFails answer_in ANSWERS_IN.now (Text round.now ∷ []) (state S.Store self.old)
-            (state S.Store self.new)) result }
+        ensures { ReadsRows answer_in ANSWERS_IN.now (Text round.now ∷ []) (state S.Store self.old)
+            (state S.Store self.new) result (λ world rows. IsListing world (is_in round.now) rows.items) }
     {
-        answers_in(&mut self.conn, alloc, round)
+        let _schema = self.conn.schema();
+        read(&mut self.conn, alloc, ANSWERS_IN, params![round.as_str()])
     }
 
     fn feed_answers<K: Sink<AnswerRow>>(
@@ -457,7 +353,14 @@ impl<S: Alter + Drop> ReadStore for SqlStore<S> {
             (FeedFails answer_in K.takes K.refuses ANSWERS_IN.now (Text round.now ∷ []) (state S.Store self.old)
             (state S.Store self.new) sink.old sink.new) result }
     {
-        feed_answers(&mut self.conn, alloc, round, sink)
+        let _schema = self.conn.schema();
+        feed::<S, K, AnswerRow>(
+            &mut self.conn,
+            alloc,
+            ANSWERS_IN,
+            params![round.as_str()],
+            sink,
+        )
     }
 
     fn has_answered(
@@ -466,34 +369,22 @@ impl<S: Alter + Drop> ReadStore for SqlStore<S> {
         entrant: &Name,
         round: &RoundId,
     ) -> Result<bool, StoreFault>
-        ensures kept { Kept (content_of (state S.Store self.old)) (content_of (state S.Store self.new)) }
-        ensures rested { KeptTables (state S.Store self.old) (state S.Store self.new) }
-        ensures served { Served (content_of (state S.Store self.new)) result
-            (λ world found. IsTrue found ↔ HasSubmitted world entrant.now round.now) }
-        ensures fault { Fails (CanFail (state S.Store self.new)) result }
-        ensures whole { HasCleanDisk (state S.Store self.new) → IfOk result (λ _.
-            AreRecords answer_in ANSWERS_OF.now (Text entrant.now ∷ Text round.now ∷ []) (state S.Store self.old)
-            (state S.Store self.new)) }
-        ensures cause { HasCleanDisk (state S.Store self.new) → Fails
-            (ReadFails answer_in ANSWERS_OF.now (Text entrant.now ∷ Text round.now ∷ []) (state S.Store self.old)
-            (state S.Store self.new)) result }
+        ensures { ReadsRows answer_in ANSWERS_OF.now (Text entrant.now ∷ Text round.now ∷ []) (state S.Store self.old)
+            (state S.Store self.new) result (λ world found. IsTrue found ↔ HasSubmitted world entrant.now round.now) }
     {
-        has_answered(&mut self.conn, entrant, round)
+        let _schema = self.conn.schema();
+        let given = count::<S, AnswerRow>(
+            &mut self.conn,
+            ANSWERS_OF,
+            params![entrant.as_str(), round.as_str()],
+        )?;
+        Ok(given != 0)
     }
 
     fn protest(&mut self, alloc: Global, key: &ProtestKey) -> Result<Option<ProtestRow>, StoreFault>
-        ensures kept { Kept (content_of (state S.Store self.old)) (content_of (state S.Store self.new)) }
-        ensures rested { KeptTables (state S.Store self.old) (state S.Store self.new) }
-        ensures served { Served (content_of (state S.Store self.new)) result
+        ensures { FindsRow protest_in PROTEST.now (Text key.now.entrant ∷ Text key.now.round ∷ Text key.now.token ∷ [])
+            (state S.Store self.old) (state S.Store self.new) result
             (λ world found. found ≡ get world.protests key.now) }
-        ensures fault { Fails (CanFail (state S.Store self.new)) result }
-        ensures whole { HasCleanDisk (state S.Store self.new) → IfOk result (λ _.
-            AreRecords protest_in PROTEST.now
-            (Text key.now.entrant ∷ Text key.now.round ∷ Text key.now.token ∷ []) (state S.Store self.old)
-            (state S.Store self.new)) }
-        ensures cause { HasCleanDisk (state S.Store self.new) → Fails
-            (FindFails protest_in PROTEST.now (Text key.now.entrant ∷ Text key.now.round ∷ Text key.now.token ∷ [])
-            (state S.Store self.old) (state S.Store self.new)) result }
     {
         protest(&mut self.conn, alloc, key)
     }
@@ -504,33 +395,20 @@ impl<S: Alter + Drop> ReadStore for SqlStore<S> {
         entrant: &Name,
         round: &RoundId,
     ) -> Result<u64, StoreFault>
-        ensures kept { Kept (content_of (state S.Store self.old)) (content_of (state S.Store self.new)) }
-        ensures rested { KeptTables (state S.Store self.old) (state S.Store self.new) }
-        ensures served { Served (content_of (state S.Store self.new)) result
-            (λ world count. count ≡ protests_made world entrant.now round.now) }
-        ensures fault { Fails (CanFail (state S.Store self.new)) result }
-        ensures whole { HasCleanDisk (state S.Store self.new) → IfOk result (λ _.
-            AreRecords protest_in PROTESTS_OF.now (Text entrant.now ∷ Text round.now ∷ []) (state S.Store self.old)
-            (state S.Store self.new)) }
-        ensures cause { HasCleanDisk (state S.Store self.new) → Fails
-            (ReadFails protest_in PROTESTS_OF.now (Text entrant.now ∷ Text round.now ∷ []) (state S.Store self.old)
-            (state S.Store self.new)) result }
+        ensures { ReadsRows protest_in PROTESTS_OF.now (Text entrant.now ∷ Text round.now ∷ []) (state S.Store self.old)
+            (state S.Store self.new) result (λ world count. count ≡ protests_made world entrant.now round.now) }
     {
-        protests_made(&mut self.conn, entrant, round)
+        let _schema = self.conn.schema();
+        count::<S, ProtestRow>(
+            &mut self.conn,
+            PROTESTS_OF,
+            params![entrant.as_str(), round.as_str()],
+        )
     }
 
     fn has_open_protest(&mut self, alloc: Global, round: &RoundId) -> Result<bool, StoreFault>
-        ensures kept { Kept (content_of (state S.Store self.old)) (content_of (state S.Store self.new)) }
-        ensures rested { KeptTables (state S.Store self.old) (state S.Store self.new) }
-        ensures served { Served (content_of (state S.Store self.new)) result
-            (λ world found. IsTrue found ↔ IsProtestOpen world round.now) }
-        ensures fault { Fails (CanFail (state S.Store self.new)) result }
-        ensures whole { HasCleanDisk (state S.Store self.new) → IfOk result (λ _.
-            AreRecords protest_in PROTESTS_IN.now (Text round.now ∷ []) (state S.Store self.old)
-            (state S.Store self.new)) }
-        ensures cause { HasCleanDisk (state S.Store self.new) → Fails
-            (ReadFails protest_in PROTESTS_IN.now (Text round.now ∷ []) (state S.Store self.old)
-            (state S.Store self.new)) result }
+        ensures { ReadsRows protest_in PROTESTS_IN.now (Text round.now ∷ []) (state S.Store self.old)
+            (state S.Store self.new) result (λ world found. IsTrue found ↔ IsProtestOpen world round.now) }
     {
         has_open_protest(&mut self.conn, alloc, round)
     }
@@ -541,33 +419,21 @@ impl<S: Alter + Drop> ReadStore for SqlStore<S> {
         entrant: &Name,
         round: &RoundId,
     ) -> Result<Vec<ProtestRow>, StoreFault>
-        ensures kept { Kept (content_of (state S.Store self.old)) (content_of (state S.Store self.new)) }
-        ensures rested { KeptTables (state S.Store self.old) (state S.Store self.new) }
-        ensures served { Served (content_of (state S.Store self.new)) result
-            (λ world rows. rows.items ≡ protests_of world entrant.now round.now) }
-        ensures fault { Fails (CanFail (state S.Store self.new)) result }
-        ensures whole { HasCleanDisk (state S.Store self.new) → IfOk result (λ _.
-            AreRecords protest_in PROTESTS_OF.now (Text entrant.now ∷ Text round.now ∷ []) (state S.Store self.old)
-            (state S.Store self.new)) }
-        ensures cause { HasCleanDisk (state S.Store self.new) → Fails
-            (ReadFails protest_in PROTESTS_OF.now (Text entrant.now ∷ Text round.now ∷ []) (state S.Store self.old)
-            (state S.Store self.new)) result }
+        ensures { ReadsRows protest_in PROTESTS_OF.now (Text entrant.now ∷ Text round.now ∷ []) (state S.Store self.old)
+            (state S.Store self.new) result (λ world rows. rows.items ≡ protests_of world entrant.now round.now) }
     {
-        protests_of(&mut self.conn, alloc, entrant, round)
+        let _schema = self.conn.schema();
+        read(
+            &mut self.conn,
+            alloc,
+            PROTESTS_OF,
+            params![entrant.as_str(), round.as_str()],
+        )
     }
 
     fn protests_in(&mut self, alloc: Global, round: &RoundId) -> Result<Vec<ProtestRow>, StoreFault>
-        ensures kept { Kept (content_of (state S.Store self.old)) (content_of (state S.Store self.new)) }
-        ensures rested { KeptTables (state S.Store self.old) (state S.Store self.new) }
-        ensures served { Served (content_of (state S.Store self.new)) result
-            (λ world rows. rows.items ≡ protests_in world round.now) }
-        ensures fault { Fails (CanFail (state S.Store self.new)) result }
-        ensures whole { HasCleanDisk (state S.Store self.new) → IfOk result (λ _.
-            AreRecords protest_in PROTESTS_IN.now (Text round.now ∷ []) (state S.Store self.old)
-            (state S.Store self.new)) }
-        ensures cause { HasCleanDisk (state S.Store self.new) → Fails
-            (ReadFails protest_in PROTESTS_IN.now (Text round.now ∷ []) (state S.Store self.old)
-            (state S.Store self.new)) result }
+        ensures { ReadsRows protest_in PROTESTS_IN.now (Text round.now ∷ []) (state S.Store self.old)
+            (state S.Store self.new) result (λ world rows. rows.items ≡ protests_in world round.now) }
     {
         protests_in(&mut self.conn, alloc, round)
     }
@@ -592,21 +458,23 @@ impl<S: Alter + Drop> ReadStore for SqlStore<S> {
             (FeedFails protest_in K.takes K.refuses PROTESTS_IN.now (Text round.now ∷ []) (state S.Store self.old)
             (state S.Store self.new) sink.old sink.new) result }
     {
-        feed_protests(&mut self.conn, alloc, round, sink)
+        let _schema = self.conn.schema();
+        feed::<S, K, ProtestRow>(
+            &mut self.conn,
+            alloc,
+            PROTESTS_IN,
+            params![round.as_str()],
+            sink,
+        )
     }
 }
 
 impl<S: Alter + Drop> WholeStore for SqlStore<S> {
-    ghost use Rattle.std.specs.Prelude.{◌≡◌, IfOk, []};
+    ghost use Rattle.std.specs.Prelude.{◌≡◌, []};
     ghost use Rattle.std.specs.FinMap.{entries, values};
     ghost use Rattle.sqlite.specs.Held.{state};
-    ghost use Rattle.sqlite.specs.State.{HasCleanDisk};
-    ghost use Rattle.hall_store.specs.Store.{Kept, Served, Fails};
-    ghost use Rattle.hall_sql.specs.Cause.{ReadFails};
+    ghost use Rattle.hall_sql.specs.Reads.{ReadsRows};
     ghost use Rattle.hall_sql.specs.Rows.{answer_in, place_in, protest_in, tester_in};
-    ghost use Rattle.hall_sql.specs.CanFail.{CanFail};
-    ghost use Rattle.hall_sql.specs.Content.{content_of};
-    ghost use Rattle.hall_sql.specs.Standing.{KeptTables};
     ghost use Rattle.hall_sql.specs.declared.answers.TheConstants.{ALL_ANSWERS};
     ghost use Rattle.hall_sql.specs.declared.protests.TheConstants.{ALL_PROTESTS};
     ghost use Rattle.hall_sql.specs.declared.rounds.TheConstants.{ALL_PLACES};
@@ -615,49 +483,29 @@ impl<S: Alter + Drop> WholeStore for SqlStore<S> {
     fn under_own_keys(&self) {}
 
     fn all_places(&mut self, alloc: Global) -> Result<Vec<Place>, StoreFault>
-        ensures kept { Kept (content_of (state S.Store self.old)) (content_of (state S.Store self.new)) }
-        ensures rested { KeptTables (state S.Store self.old) (state S.Store self.new) }
-        ensures served { Served (content_of (state S.Store self.new)) result
+        ensures { ReadsRows place_in ALL_PLACES.now [] (state S.Store self.old) (state S.Store self.new) result
             (λ world places. places.items ≡ entries world.places) }
-        ensures fault { Fails (CanFail (state S.Store self.new)) result }
-        ensures cause { HasCleanDisk (state S.Store self.new) → Fails
-            (ReadFails place_in ALL_PLACES.now [] (state S.Store self.old) (state S.Store self.new)) result }
     {
         all_places(&mut self.conn, alloc)
     }
 
     fn all_testers(&mut self, alloc: Global) -> Result<Vec<Tester>, StoreFault>
-        ensures kept { Kept (content_of (state S.Store self.old)) (content_of (state S.Store self.new)) }
-        ensures rested { KeptTables (state S.Store self.old) (state S.Store self.new) }
-        ensures served { Served (content_of (state S.Store self.new)) result
+        ensures { ReadsRows tester_in ALL_TESTERS.now [] (state S.Store self.old) (state S.Store self.new) result
             (λ world testers. testers.items ≡ entries world.testers) }
-        ensures fault { Fails (CanFail (state S.Store self.new)) result }
-        ensures cause { HasCleanDisk (state S.Store self.new) → Fails
-            (ReadFails tester_in ALL_TESTERS.now [] (state S.Store self.old) (state S.Store self.new)) result }
     {
         all_testers(&mut self.conn, alloc)
     }
 
     fn all_answers(&mut self, alloc: Global) -> Result<Vec<AnswerRow>, StoreFault>
-        ensures kept { Kept (content_of (state S.Store self.old)) (content_of (state S.Store self.new)) }
-        ensures rested { KeptTables (state S.Store self.old) (state S.Store self.new) }
-        ensures served { Served (content_of (state S.Store self.new)) result
+        ensures { ReadsRows answer_in ALL_ANSWERS.now [] (state S.Store self.old) (state S.Store self.new) result
             (λ world rows. rows.items ≡ values world.answers) }
-        ensures fault { Fails (CanFail (state S.Store self.new)) result }
-        ensures cause { HasCleanDisk (state S.Store self.new) → Fails
-            (ReadFails answer_in ALL_ANSWERS.now [] (state S.Store self.old) (state S.Store self.new)) result }
     {
         all_answers(&mut self.conn, alloc)
     }
 
     fn all_protests(&mut self, alloc: Global) -> Result<Vec<ProtestRow>, StoreFault>
-        ensures kept { Kept (content_of (state S.Store self.old)) (content_of (state S.Store self.new)) }
-        ensures rested { KeptTables (state S.Store self.old) (state S.Store self.new) }
-        ensures served { Served (content_of (state S.Store self.new)) result
+        ensures { ReadsRows protest_in ALL_PROTESTS.now [] (state S.Store self.old) (state S.Store self.new) result
             (λ world rows. rows.items ≡ values world.protests) }
-        ensures fault { Fails (CanFail (state S.Store self.new)) result }
-        ensures cause { HasCleanDisk (state S.Store self.new) → Fails
-            (ReadFails protest_in ALL_PROTESTS.now [] (state S.Store self.old) (state S.Store self.new)) result }
     {
         all_protests(&mut self.conn, alloc)
     }

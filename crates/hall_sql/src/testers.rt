@@ -4,17 +4,16 @@ ghost use Rattle.std.specs.FinMap.{empty, entries};
 ghost use Rattle.sqlite.specs.Held.{state};
 ghost use Rattle.sqlite.specs.State.{HasCleanDisk};
 ghost use Rattle.sqlite.specs.declared.types.Value.TheVariants.{Text};
-ghost use Rattle.hall_store.specs.Store.{Served, Fails, AreTestersOf};
+ghost use Rattle.hall_store.specs.Store.{AreTestersOf};
 ghost use Rattle.hall_store.specs.declared.fault.StoreFault.TheVariants.{Memory};
-ghost use Rattle.hall_sql.specs.Cause.{IsStoreCause, ReadFails};
+ghost use Rattle.hall_sql.specs.Cause.{IsStoreCause};
 ghost use Rattle.hall_sql.specs.Inside.{LeadsUncommitted, MakesInside};
 ghost use Rattle.hall_sql.specs.RoundColumns.{tester_params};
 ghost use Rattle.hall_sql.specs.RoundPuts.{DropsTesters, PutsTester, PutsTesters, PutsTesterList};
 ghost use Rattle.hall_sql.specs.Rows.{tester_in};
-ghost use Rattle.hall_sql.specs.Standing.{IsHall, KeptTables};
-ghost use Rattle.hall_sql.specs.Content.{content_of};
+ghost use Rattle.hall_sql.specs.Standing.{IsHall};
 ghost use Rattle.hall_sql.specs.Testers.{AreNamed};
-ghost use Rattle.hall_sql.specs.Whole.{AreRecords};
+ghost use Rattle.hall_sql.specs.Reads.{ReadsRows};
 ghost use Rattle.hall_sql.specs.WriteCause.{RunFails, InsideFails, TesterIsRefused, TesterListIsRefused};
 
 use crate::calls::run_in;
@@ -35,15 +34,8 @@ fn keyed_testers<S: Alter>(
     round: &RoundId,
 ) -> Result<Vec<Tester>, StoreFault>
     requires hall { IsHall (state S.Store conn.old) }
-    ensures rested { KeptTables (state S.Store conn.old) (state S.Store conn.new) }
-    ensures served { Served (content_of (state S.Store conn.new)) result
-        (λ world testers. AreNamed world round.now testers.items) }
-    ensures whole { HasCleanDisk (state S.Store conn.new) → IfOk result (λ _.
-        AreRecords tester_in TESTERS_OF.now (Text round.now ∷ []) (state S.Store conn.old)
-        (state S.Store conn.new)) }
-    ensures cause { HasCleanDisk (state S.Store conn.new) → Fails
-        (ReadFails tester_in TESTERS_OF.now (Text round.now ∷ []) (state S.Store conn.old)
-        (state S.Store conn.new)) result }
+    ensures { ReadsRows tester_in TESTERS_OF.now (Text round.now ∷ []) (state S.Store conn.old) (state S.Store conn.new)
+        result (λ world testers. AreNamed world round.now testers.items) }
 {
     let _schema = conn.schema();
     read(conn, alloc, TESTERS_OF, params![round.as_str()])
@@ -70,15 +62,8 @@ pub(crate) fn testers_of<S: Alter>(
     round: &RoundId,
 ) -> Result<Vec<Name>, StoreFault>
     requires hall { IsHall (state S.Store conn.old) }
-    ensures rested { KeptTables (state S.Store conn.old) (state S.Store conn.new) }
-    ensures served { Served (content_of (state S.Store conn.new)) result
-        (λ world names. AreTestersOf world round.now names.items) }
-    ensures whole { HasCleanDisk (state S.Store conn.new) → IfOk result (λ _.
-        AreRecords tester_in TESTERS_OF.now (Text round.now ∷ []) (state S.Store conn.old)
-        (state S.Store conn.new)) }
-    ensures cause { HasCleanDisk (state S.Store conn.new) → Fails
-        (ReadFails tester_in TESTERS_OF.now (Text round.now ∷ []) (state S.Store conn.old)
-        (state S.Store conn.new)) result }
+    ensures { ReadsRows tester_in TESTERS_OF.now (Text round.now ∷ []) (state S.Store conn.old) (state S.Store conn.new)
+        result (λ world names. AreTestersOf world round.now names.items) }
 {
     let testers = keyed_testers(conn, alloc, round)?;
     names_of(alloc, testers)
@@ -93,14 +78,8 @@ pub(crate) fn all_testers<S: Alter>(
     alloc: Global,
 ) -> Result<Vec<Tester>, StoreFault>
     requires hall { IsHall (state S.Store conn.old) }
-    ensures rested { KeptTables (state S.Store conn.old) (state S.Store conn.new) }
-    ensures served { Served (content_of (state S.Store conn.new)) result
+    ensures { ReadsRows tester_in ALL_TESTERS.now [] (state S.Store conn.old) (state S.Store conn.new) result
         (λ world testers. testers.items ≡ entries world.testers) }
-    ensures whole { HasCleanDisk (state S.Store conn.new) → IfOk result (λ _.
-        AreRecords tester_in ALL_TESTERS.now [] (state S.Store conn.old)
-        (state S.Store conn.new)) }
-    ensures cause { HasCleanDisk (state S.Store conn.new) → Fails
-        (ReadFails tester_in ALL_TESTERS.now [] (state S.Store conn.old) (state S.Store conn.new)) result }
 {
     let _schema = conn.schema();
     read(conn, alloc, ALL_TESTERS, &[])
@@ -112,12 +91,8 @@ pub(crate) fn has_testers<S: Alter>(
     alloc: Global,
 ) -> Result<bool, StoreFault>
     requires hall { IsHall (state S.Store conn.old) }
-    ensures rested { KeptTables (state S.Store conn.old) (state S.Store conn.new) }
-    ensures served { Served (content_of (state S.Store conn.new)) result
+    ensures { ReadsRows tester_in ALL_TESTERS.now [] (state S.Store conn.old) (state S.Store conn.new) result
         (λ world has. (has ≡ false) ↔ (world.testers ≡ empty)) }
-    ensures whole { HasCleanDisk (state S.Store conn.new) → IfOk result (λ _.
-        AreRecords tester_in ALL_TESTERS.now [] (state S.Store conn.old)
-        (state S.Store conn.new)) }
 {
     Ok(!all_testers(conn, alloc)?.is_empty())
 }

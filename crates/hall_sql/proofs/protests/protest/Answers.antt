@@ -11,19 +11,48 @@ use Rattle.hall_sql.specs.Columns.{is_protest_under, IsAlone}
 use Rattle.hall_sql.specs.Tables.{IsHallSchema}
 use Rattle.hall_sql.proofs.ProtestTexts.{protest_asked}
 use Rattle.hall_sql.proofs.ProtestLemmas.{protest_found, protest_alone}
-use Rattle.hall_sql.proofs.StoreLemmas.{told, read_whole}
+use Rattle.hall_sql.proofs.ReadLemmas.{finds_row}
+use Rattle.hall_sql.proofs.UnreadRows.{protest_unread, protest_twice}
 use Rattle.hall_sql.specs.Cause.{IsFound}
 use Rattle.hall_sql.proofs.protests.protest.Goals as goal
 
 pub find-requires-clause-asks : goal.find-requires-clause-asks
-find-requires-clause-asks g c = rw (c.params-to_sql.ensures, c.params-to_sql-2.ensures, c.params-to_sql-3.ensures, c.as_str.ensures.text, c.as_str-2.ensures.text, c.as_str-3.ensures.text) (protest_asked c.args.key.now.entrant c.args.key.now.round c.args.key.now.token)
+find-requires-clause-asks g c =
+    rw (
+      c.params-to_sql.ensures,
+      c.params-to_sql-2.ensures,
+      c.params-to_sql-3.ensures,
+      c.as_str.ensures.text,
+      c.as_str-2.ensures.text,
+      c.as_str-3.ensures.text,
+    )
+    (protest_asked c.args.key.now.entrant c.args.key.now.round c.args.key.now.token)
 
-pub returns-clause-served : goal.returns-clause-served
-returns-clause-served g c =
-    told (state g.S.Store c.args.conn.now) (state g.S.Store c.find.new.conn) c.find.result (IsFound protest_in PROTEST.now (Text c.args.key.now.entrant ∷ Text c.args.key.now.round ∷ Text c.args.key.now.token ∷ []) (state g.S.Store c.args.conn.now) (state g.S.Store c.find.new.conn)) _ c.requires.hall c.find.ensures.rested
-    (rw (c.params-to_sql.ensures, c.params-to_sql-2.ensures, c.params-to_sql-3.ensures, c.as_str.ensures.text, c.as_str-2.ensures.text, c.as_str-3.ensures.text) at c.find.ensures.found) (λ found it. it.are.0)
-    (λ found it clean opened has keyed. it.is ∙ protest_found c.args.key.now _ (state g.S.Store c.find.new.conn) it.are.1.rows it.records has
-    it.are.1.shown it.are.1.reads it.few)
+pub returns-clause-reads : goal.returns-clause-reads
+returns-clause-reads g c =
+    finds_row protest_in PROTEST.now
+    (Text c.args.key.now.entrant ∷ Text c.args.key.now.round ∷ Text c.args.key.now.token ∷ []) c.find.result _
+    c.requires.hall c.find.ensures.rested
+    (protest_unread c.args.key.now.entrant c.args.key.now.round c.args.key.now.token)
+    (protest_twice c.args.key.now.entrant c.args.key.now.round c.args.key.now.token)
+    (rw (
+      c.params-to_sql.ensures,
+      c.params-to_sql-2.ensures,
+      c.params-to_sql-3.ensures,
+      c.as_str.ensures.text,
+      c.as_str-2.ensures.text,
+      c.as_str-3.ensures.text,
+    ) at c.find.ensures.found)
+    (rw (
+      c.params-to_sql.ensures,
+      c.params-to_sql-2.ensures,
+      c.params-to_sql-3.ensures,
+      c.as_str.ensures.text,
+      c.as_str-2.ensures.text,
+      c.as_str-3.ensures.text,
+    ) at c.find.ensures.cause)
+    (λ found it opened has keyed. it.is ∙ protest_found c.args.key.now _ (state g.S.Store c.find.new.conn)
+    it.are.1.rows it.records has it.are.1.shown it.are.1.reads it.few)
 
 pub returns-clause-alone : goal.returns-clause-alone
 returns-clause-alone g c clean =
@@ -32,20 +61,22 @@ returns-clause-alone g c clean =
     let key = c.args.key.now in
     let rested = c.find.ensures.rested in
     let was : HasCleanDisk old = omega (arith, rested.follows.lasts.clean, clean) in
-    IfOk-weaker c.find.result (IsFound protest_in PROTEST.now (Text key.entrant ∷ Text key.round ∷ Text key.token ∷ []) old new) _ (λ o it.
+    IfOk-weaker c.find.result (IsFound protest_in PROTEST.now (Text key.entrant ∷ Text key.round ∷ Text key.token ∷ [])
+    old new) _ (λ o it.
     let has : IsHallSchema old.now.schema = (c.requires.hall.settled was (rested.follows.opened clean it.are.0)).1 in
     let alone = protest_alone key old new it.are.1.rows it.records has it.are.1.shown it.are.1.reads it.few in
     IfSome_then o (subst (λ found. IfSome found (IsAlone key old)) (sym it.is) alone)
     (λ row one. record {
       one = one.one;
-      found = ap (λ (d : Database). filter (is_protest_under key) (d.trees 12)) (rested.same clean it.are.0) ∙ one.found;
+      found = ap (λ (d : Database). filter (is_protest_under key) (d.trees 12)) (rested.same clean it.are.0) ∙
+          one.found;
       reads = one.reads;
     }))
-    ((rw (c.params-to_sql.ensures, c.params-to_sql-2.ensures, c.params-to_sql-3.ensures, c.as_str.ensures.text, c.as_str-2.ensures.text, c.as_str-3.ensures.text) at c.find.ensures.found) clean)
-
-pub returns-clause-whole : goal.returns-clause-whole
-returns-clause-whole g c clean =
-    IfOk-weaker c.find.result (IsFound protest_in PROTEST.now (Text c.args.key.now.entrant ∷ Text c.args.key.now.round ∷ Text c.args.key.now.token ∷ []) (state g.S.Store c.args.conn.now) (state g.S.Store c.find.new.conn)) _ (λ found it. read_whole protest_in PROTEST.now (Text c.args.key.now.entrant ∷ Text c.args.key.now.round ∷ Text c.args.key.now.token ∷ []) (state g.S.Store c.args.conn.now) (state g.S.Store c.find.new.conn) it.records it.are) ((rw (c.params-to_sql.ensures, c.params-to_sql-2.ensures, c.params-to_sql-3.ensures, c.as_str.ensures.text, c.as_str-2.ensures.text, c.as_str-3.ensures.text) at c.find.ensures.found) clean)
-
-pub returns-clause-cause : goal.returns-clause-cause
-returns-clause-cause g c = rw (c.params-to_sql.ensures, c.params-to_sql-2.ensures, c.params-to_sql-3.ensures, c.as_str.ensures.text, c.as_str-2.ensures.text, c.as_str-3.ensures.text) at c.find.ensures.cause
+    ((rw (
+      c.params-to_sql.ensures,
+      c.params-to_sql-2.ensures,
+      c.params-to_sql-3.ensures,
+      c.as_str.ensures.text,
+      c.as_str-2.ensures.text,
+      c.as_str-3.ensures.text,
+    ) at c.find.ensures.found) clean)

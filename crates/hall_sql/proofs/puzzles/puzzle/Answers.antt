@@ -1,28 +1,30 @@
-use Rattle.hall_sql.specs.declared.puzzles.TheConstants.{PUZZLE}
-use Rattle.hall_sql.specs.Rows.{puzzle_row_in}
-use Rattle.sqlite.specs.declared.types.Value.TheVariants.{Text}
 use Rattle.std.proofs.Common.{◌∙◌, [], ◌∷◌}
 use Rattle.sqlite.specs.Held.{state}
-use Rattle.hall_sql.proofs.PuzzleTexts.{puzzle_asked}
+use Rattle.sqlite.specs.declared.types.Value.TheVariants.{Text}
+use Rattle.hall_sql.specs.Rows.{puzzle_row_in}
+use Rattle.hall_sql.specs.declared.puzzles.TheConstants.{PUZZLE}
 use Rattle.hall_sql.proofs.PuzzleLemmas.{puzzle_found}
-use Rattle.hall_sql.proofs.StoreLemmas.{told, read_whole}
-use Rattle.hall_sql.specs.Cause.{IsFound}
-use Rattle.std.proofs.lemmas.Result.{IfOk-weaker}
+use Rattle.hall_sql.proofs.PuzzleTexts.{puzzle_asked}
+use Rattle.hall_sql.proofs.ReadLemmas.{finds_row}
+use Rattle.hall_sql.proofs.UnreadRows.{puzzle_unread, puzzle_twice}
 use Rattle.hall_sql.proofs.puzzles.puzzle.Goals as goal
 
 pub find-requires-clause-asks : goal.find-requires-clause-asks
-find-requires-clause-asks g c = rw (c.params-to_sql.ensures, c.params-to_sql-2.ensures, c.as_str.ensures.text, c.as_str-2.ensures.text) (puzzle_asked c.args.key.now.author c.args.key.now.label)
+find-requires-clause-asks g c =
+    rw (c.params-to_sql.ensures, c.params-to_sql-2.ensures, c.as_str.ensures.text, c.as_str-2.ensures.text)
+    (puzzle_asked c.args.key.now.author c.args.key.now.label)
 
-pub returns-clause-served : goal.returns-clause-served
-returns-clause-served g c =
-    told (state g.S.Store c.args.conn.now) (state g.S.Store c.find.new.conn) c.find.result (IsFound puzzle_row_in PUZZLE.now (Text c.args.key.now.author ∷ Text c.args.key.now.label ∷ []) (state g.S.Store c.args.conn.now) (state g.S.Store c.find.new.conn)) _ c.requires.hall c.find.ensures.rested
-    (rw (c.params-to_sql.ensures, c.params-to_sql-2.ensures, c.as_str.ensures.text, c.as_str-2.ensures.text) at c.find.ensures.found) (λ found it. it.are.0)
-    (λ found it clean opened has keyed. it.is ∙ puzzle_found c.args.key.now _ (state g.S.Store c.find.new.conn) it.are.1.rows it.records has
-    it.are.1.shown it.are.1.reads it.few)
-
-pub returns-clause-whole : goal.returns-clause-whole
-returns-clause-whole g c clean =
-    IfOk-weaker c.find.result (IsFound puzzle_row_in PUZZLE.now (Text c.args.key.now.author ∷ Text c.args.key.now.label ∷ []) (state g.S.Store c.args.conn.now) (state g.S.Store c.find.new.conn)) _ (λ found it. read_whole puzzle_row_in PUZZLE.now (Text c.args.key.now.author ∷ Text c.args.key.now.label ∷ []) (state g.S.Store c.args.conn.now) (state g.S.Store c.find.new.conn) it.records it.are) ((rw (c.params-to_sql.ensures, c.params-to_sql-2.ensures, c.as_str.ensures.text, c.as_str-2.ensures.text) at c.find.ensures.found) clean)
-
-pub returns-clause-cause : goal.returns-clause-cause
-returns-clause-cause g c = rw (c.params-to_sql.ensures, c.params-to_sql-2.ensures, c.as_str.ensures.text, c.as_str-2.ensures.text) at c.find.ensures.cause
+pub returns : goal.returns
+returns g c =
+    finds_row puzzle_row_in PUZZLE.now (Text c.args.key.now.author ∷ Text c.args.key.now.label ∷ []) c.find.result _
+    c.requires.hall c.find.ensures.rested (puzzle_unread c.args.key.now.author c.args.key.now.label)
+    (puzzle_twice c.args.key.now.author c.args.key.now.label)
+    (rw (c.params-to_sql.ensures, c.params-to_sql-2.ensures, c.as_str.ensures.text, c.as_str-2.ensures.text)
+    at c.find.ensures.found) (rw (
+      c.params-to_sql.ensures,
+      c.params-to_sql-2.ensures,
+      c.as_str.ensures.text,
+      c.as_str-2.ensures.text,
+    ) at c.find.ensures.cause)
+    (λ found it opened has keyed. it.is ∙ puzzle_found c.args.key.now _ (state g.S.Store c.find.new.conn) it.are.1.rows
+    it.records has it.are.1.shown it.are.1.reads it.few)

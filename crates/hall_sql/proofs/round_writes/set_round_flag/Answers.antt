@@ -17,18 +17,24 @@ use Rattle.hall_sql.proofs.round_writes.set_round_flag.Goals as goal
 
 pub set_flag-requires-clause-found : goal.set_flag-requires-clause-found
 set_flag-requires-clause-found g c clean =
-    head_under c.args.id.now (state g.S.Store c.head.new.conn) c.in-Some.round (rw c.in-Some.is at (c.in_ok-round.ensures.alone clean))
+    head_under c.args.id.now (state g.S.Store c.head.new.conn) c.in-Some.round
+    (rw c.in-Some.is at (c.in_ok-round.ensures.alone clean))
 
 pub returns-in-Some-clause-wrote : goal.returns-in-Some-clause-wrote
 returns-in-Some-clause-wrote g c =
     let mid = state g.S.Store c.head.new.conn in
     let new = state g.S.Store c.set_flag.new.conn in
-    rested_then (SetRoundFlag c.args.id.now c.args.flag) (state g.S.Store c.args.conn.now) mid new c.set_flag.result c.head.ensures.rested
-    (λ clean. (c.in_ok-round.ensures.served clean).0)
-    (wrote_too (SetRoundFlag c.in-Some.round.id c.args.flag) (SetRoundFlag c.args.id.now c.args.flag) mid new c.set_flag.result
+    rested_then (SetRoundFlag c.args.id.now c.args.flag) (state g.S.Store c.args.conn.now) mid new c.set_flag.result
+    c.head.ensures.reads.rested
+    (λ clean. (c.in_ok-round.ensures.reads.served clean).0)
+    (wrote_too (SetRoundFlag c.in-Some.round.id c.args.flag) (SetRoundFlag c.args.id.now c.args.flag) mid new
+    c.set_flag.result
     (λ clean.
-    let own = head_own c.args.id.now mid c.in-Some.round (rw c.in-Some.is at (c.in_ok-round.ensures.alone clean)) in
-    (ap (λ id. changed (SetRoundFlag id c.args.flag) (world_of mid.now.trees)) own, ap (λ id. may_write (SetRoundFlag id c.args.flag)) own))
+    let own = head_own c.args.id.now mid c.in-Some.round (rw c.in-Some.is at (c.in_ok-round.ensures.alone clean)) in (
+      ap (λ id. changed (SetRoundFlag id c.args.flag) (world_of mid.now.trees)) own,
+      ap
+          (λ id. may_write (SetRoundFlag id c.args.flag)) own,
+    ))
     c.set_flag.ensures.wrote)
 
 pub returns-in-Some-clause-cause : goal.returns-in-Some-clause-cause
@@ -36,14 +42,17 @@ returns-in-Some-clause-cause g c clean =
     let old = state g.S.Store c.args.conn.now in
     let mid = state g.S.Store c.head.new.conn in
     let was : HasCleanDisk mid = c.set_flag.ensures.wrote.makes.leads.honest clean in
-    let served = c.in_ok-round.ensures.served was in
-    let same = c.head.ensures.rested.same was served.0 in
-    let there : get (world_of mid.now.trees).rounds c.args.id.now ≡ Some c.in-Some.round = sym served.1 ∙ c.in-Some.is in
-    let found = subst (λ (d : Database). get (world_of d.trees).rounds c.args.id.now ≡ Some c.in-Some.round) same there in
+    let served = c.in_ok-round.ensures.reads.served was in
+    let same = c.head.ensures.reads.rested.same was served.0 in
+    let there : get (world_of mid.now.trees).rounds c.args.id.now ≡ Some c.in-Some.round = sym served.1 ∙
+    c.in-Some.is in
+    let found = subst (λ (d : Database). get (world_of d.trees).rounds c.args.id.now ≡ Some c.in-Some.round) same
+    there in
     IfErr-weaker c.set_flag.result _ _ (λ fault why failed.
     inr (
       c.in-Some.round,
       found,
-      run_served REPLACE_HEAD.now (head_params (flagged c.args.flag c.in-Some.round)) old mid (state g.S.Store c.set_flag.new.conn)
-          c.head.ensures.rested.follows.lasts.counts served.0 same (why failed),
+      run_served REPLACE_HEAD.now (head_params (flagged c.args.flag c.in-Some.round)) old mid
+          (state g.S.Store c.set_flag.new.conn)
+          c.head.ensures.reads.rested.follows.lasts.counts served.0 same (why failed),
     )) (c.set_flag.ensures.cause clean)

@@ -8,19 +8,22 @@ use Rattle.sqlite.specs.State.{HasCleanDisk}
 use Rattle.hall_sql.specs.Tables.{IsHallSchema}
 use Rattle.hall_sql.proofs.HeadTexts.{head_asked}
 use Rattle.hall_sql.proofs.RoundWrites.{head_found, head_alone, head_stays}
-use Rattle.hall_sql.proofs.StoreLemmas.{told, read_whole}
+use Rattle.hall_sql.proofs.ReadLemmas.{finds_row}
+use Rattle.hall_sql.proofs.UnreadRows.{head_unread, head_twice}
 use Rattle.hall_sql.specs.Cause.{IsFound}
 use Rattle.hall_sql.proofs.rounds.head.Goals as goal
 
 pub find-requires-clause-asks : goal.find-requires-clause-asks
 find-requires-clause-asks g c = rw (c.params-to_sql.ensures, c.as_str.ensures.text) (head_asked c.args.id.now)
 
-pub returns-clause-served : goal.returns-clause-served
-returns-clause-served g c =
-    told (state g.S.Store c.args.conn.now) (state g.S.Store c.find.new.conn) c.find.result (IsFound round_in HEAD.now (Text c.args.id.now ∷ []) (state g.S.Store c.args.conn.now) (state g.S.Store c.find.new.conn)) _ c.requires.hall c.find.ensures.rested
-    (rw (c.params-to_sql.ensures, c.as_str.ensures.text) at c.find.ensures.found) (λ found it. it.are.0)
-    (λ found it clean opened has keyed. it.is ∙ head_found c.args.id.now _ (state g.S.Store c.find.new.conn) it.are.1.rows it.records has
-    it.are.1.shown it.are.1.reads it.few)
+pub returns-clause-reads : goal.returns-clause-reads
+returns-clause-reads g c =
+    finds_row round_in HEAD.now (Text c.args.id.now ∷ []) c.find.result _ c.requires.hall c.find.ensures.rested
+    (head_unread c.args.id.now) (head_twice c.args.id.now)
+    (rw (c.params-to_sql.ensures, c.as_str.ensures.text) at c.find.ensures.found)
+    (rw (c.params-to_sql.ensures, c.as_str.ensures.text) at c.find.ensures.cause)
+    (λ found it opened has keyed. it.is ∙ head_found c.args.id.now _ (state g.S.Store c.find.new.conn) it.are.1.rows
+    it.records has it.are.1.shown it.are.1.reads it.few)
 
 pub returns-clause-alone : goal.returns-clause-alone
 returns-clause-alone g c clean =
@@ -33,10 +36,3 @@ returns-clause-alone g c clean =
     head_stays c.args.id.now old new found (rested.same clean it.are.0)
     (head_alone c.args.id.now old new it.are.1.rows it.records found has it.are.1.shown it.are.1.reads it.few it.is))
     ((rw (c.params-to_sql.ensures, c.as_str.ensures.text) at c.find.ensures.found) clean)
-
-pub returns-clause-whole : goal.returns-clause-whole
-returns-clause-whole g c clean =
-    IfOk-weaker c.find.result (IsFound round_in HEAD.now (Text c.args.id.now ∷ []) (state g.S.Store c.args.conn.now) (state g.S.Store c.find.new.conn)) _ (λ found it. read_whole round_in HEAD.now (Text c.args.id.now ∷ []) (state g.S.Store c.args.conn.now) (state g.S.Store c.find.new.conn) it.records it.are) ((rw (c.params-to_sql.ensures, c.as_str.ensures.text) at c.find.ensures.found) clean)
-
-pub returns-clause-cause : goal.returns-clause-cause
-returns-clause-cause g c = rw (c.params-to_sql.ensures, c.as_str.ensures.text) at c.find.ensures.cause

@@ -1,28 +1,18 @@
-use Rattle.std.proofs.Common.{◌≡◌, sym, ◌∙◌}
-use Rattle.std.proofs.lemmas.Result.{IfOk-weaker, IfErr-weaker}
-use Rattle.hall_store.specs.declared.fault.StoreFault.TheVariants.{Memory, Failed}
+use Rattle.std.proofs.lemmas.Result.{IfOk-weaker}
 use Rattle.sqlite.specs.Held.{state}
 use Rattle.hall_sql.specs.Rows.{world_of}
+use Rattle.hall_sql.proofs.ReadLemmas.{answers_so, refused_as}
 use Rattle.hall_sql.proofs.TesterListings.{names_told}
-use Rattle.hall_sql.proofs.StoreLemmas.{always, served_so}
-use Rattle.hall_sql.proofs.CauseLemmas.{fails_as}
 use Rattle.hall_sql.proofs.testers.testers_of.Goals as goal
 
-pub returns-clause-served : goal.returns-clause-served
-returns-clause-served g c =
-    let new = state g.S.Store c.keyed_testers.new.conn in
-    served_so new c.names_of.result _ (λ clean. (c.in_ok-testers.ensures.served clean).0)
-    (λ clean. IfOk-weaker c.names_of.result _ _
-    (λ names is. names_told (world_of new.now.trees) c.args.round.now c.in_ok-testers.testers.items (c.in_ok-testers.ensures.served clean).1 names.items is)
+pub returns : goal.returns
+returns g c =
+    let world = world_of (state g.S.Store c.keyed_testers.new.conn).now.trees in
+    answers_so c.names_of.result _ c.in_ok-testers.ensures
+    (λ clean told. IfOk-weaker c.names_of.result _ _
+    (λ names is. names_told world c.args.round.now c.in_ok-testers.testers.items told names.items is)
     c.names_of.ensures.names)
+    c.names_of.ensures.memory
 
-pub returns-clause-whole : goal.returns-clause-whole
-returns-clause-whole g c clean = always c.names_of.result _ (c.in_ok-testers.ensures.whole clean)
-
-pub returns-in_err-testers-clause-cause : goal.returns-in_err-testers-clause-cause
-returns-in_err-testers-clause-cause g c clean =
-    fails_as c.from_residual.result _ _ c.from_residual.ensures.1 (c.in_err-testers.ensures.cause clean)
-
-pub returns-clause-cause : goal.returns-clause-cause
-returns-clause-cause g c clean =
-    IfErr-weaker c.names_of.result _ _ (λ fault memory failed. absurd (let no : Memory ≡ Failed = sym memory ∙ failed in cc)) c.names_of.ensures.memory
+pub returns-in_err-testers : goal.returns-in_err-testers
+returns-in_err-testers g c = refused_as c.from_residual.result _ c.in_err-testers.ensures c.from_residual.ensures.1

@@ -1,12 +1,55 @@
-use Rattle.std.proofs.Common.{pos, [], ◌∷◌}
-use Rattle.sqlite.specs.declared.types.Value.TheVariants.{Int, Text}
+use Rattle.std.proofs.Common.{◌∙◌, [], ◌∷◌, pos}
+use Rattle.sqlite.specs.Held.{state}
+use Rattle.sqlite.specs.declared.types.Value.TheVariants.{Text, Int}
 use Rattle.hall_sql.specs.Rows.{answer_in}
 use Rattle.hall_sql.specs.declared.answers.TheConstants.{ANSWER}
-use Rattle.hall_sql.proofs.FailLemmas.{find_fault}
+use Rattle.hall_sql.proofs.AnswerLemmas.{answer_found}
+use Rattle.hall_sql.proofs.AnswerTexts.{answer_asked}
+use Rattle.hall_sql.proofs.ReadLemmas.{finds_row}
 use Rattle.hall_sql.proofs.UnreadRows.{answer_unread, answer_twice}
 use Rattle.hall_sql.proofs.sql_store.SqlStoreReadStore.answer.Goals as goal
 
-pub returns-clause-fault : goal.returns-clause-fault
-returns-clause-fault g c =
-    find_fault c.answer.result c.self.invariant c.answer.ensures.rested answer_in ANSWER.now (Text c.args.key.now.entrant ∷ Text c.args.key.now.round ∷ Int (pos c.args.key.now.number) ∷ Text c.args.key.now.token ∷ [])
-    (answer_unread c.args.key.now.entrant c.args.key.now.round c.args.key.now.number c.args.key.now.token) (answer_twice c.args.key.now.entrant c.args.key.now.round c.args.key.now.number c.args.key.now.token) c.answer.ensures.cause
+pub find-requires-clause-asks : goal.find-requires-clause-asks
+find-requires-clause-asks g c =
+    rw (
+      c.params-to_sql.ensures,
+      c.params-to_sql-2.ensures,
+      c.params-to_sql-3.ensures,
+      c.params-to_sql-4.ensures,
+      c.as_str.ensures.text,
+      c.as_str-2.ensures.text,
+      c.as_str-3.ensures.text,
+      c.get.ensures.value,
+    )
+    (answer_asked c.args.key.now.entrant c.args.key.now.round c.args.key.now.number c.args.key.now.token)
+
+pub returns : goal.returns
+returns g c =
+    rw (← c.self.view_is)
+    (finds_row answer_in ANSWER.now
+    (Text c.args.key.now.entrant ∷ Text c.args.key.now.round ∷ Int (pos c.args.key.now.number) ∷ Text
+    c.args.key.now.token ∷ []) c.find.result _ c.self.invariant c.find.ensures.rested
+    (answer_unread c.args.key.now.entrant c.args.key.now.round c.args.key.now.number c.args.key.now.token)
+    (answer_twice c.args.key.now.entrant c.args.key.now.round c.args.key.now.number c.args.key.now.token)
+    (rw (
+      c.params-to_sql.ensures,
+      c.params-to_sql-2.ensures,
+      c.params-to_sql-3.ensures,
+      c.params-to_sql-4.ensures,
+      c.as_str.ensures.text,
+      c.as_str-2.ensures.text,
+      c.as_str-3.ensures.text,
+      c.get.ensures.value,
+    )
+    at c.find.ensures.found) (rw (
+      c.params-to_sql.ensures,
+      c.params-to_sql-2.ensures,
+      c.params-to_sql-3.ensures,
+      c.params-to_sql-4.ensures,
+      c.as_str.ensures.text,
+      c.as_str-2.ensures.text,
+      c.as_str-3.ensures.text,
+      c.get.ensures.value,
+    ) at c.find.ensures.cause)
+    (λ found it opened has keyed. it.is ∙ answer_found c.args.key.now _ (state g.S.Store c.find.new.conn) it.are.1.rows
+    it.records has it.are.1.shown it.are.1.reads it.few))

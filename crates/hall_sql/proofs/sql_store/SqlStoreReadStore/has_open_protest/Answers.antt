@@ -1,12 +1,4 @@
-use Rattle.std.proofs.Common.{[], ◌∷◌}
-use Rattle.sqlite.specs.declared.types.Value.TheVariants.{Text}
-use Rattle.hall_sql.specs.Rows.{protest_in}
-use Rattle.hall_sql.specs.declared.protests.TheConstants.{PROTESTS_IN}
-use Rattle.hall_sql.proofs.FailLemmas.{read_fault}
-use Rattle.hall_sql.proofs.UnreadRows.{protests_in_unread}
 use Rattle.hall_sql.proofs.sql_store.SqlStoreReadStore.has_open_protest.Goals as goal
 
-pub returns-clause-fault : goal.returns-clause-fault
-returns-clause-fault g c =
-    read_fault c.has_open_protest.result c.self.invariant c.has_open_protest.ensures.rested protest_in PROTESTS_IN.now (Text c.args.round.now ∷ [])
-    (protests_in_unread c.args.round.now) c.has_open_protest.ensures.cause
+pub returns : goal.returns
+returns g c = rw (← c.self.view_is) c.has_open_protest.ensures

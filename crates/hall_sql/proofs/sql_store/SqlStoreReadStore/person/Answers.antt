@@ -1,12 +1,23 @@
-use Rattle.std.proofs.Common.{[], ◌∷◌}
+use Rattle.std.proofs.Common.{◌∙◌, [], ◌∷◌}
+use Rattle.sqlite.specs.Held.{state}
 use Rattle.sqlite.specs.declared.types.Value.TheVariants.{Text}
 use Rattle.hall_sql.specs.Rows.{person_in}
 use Rattle.hall_sql.specs.declared.people.TheConstants.{PERSON}
-use Rattle.hall_sql.proofs.FailLemmas.{find_fault}
+use Rattle.hall_sql.proofs.PeopleLemmas.{person_found}
+use Rattle.hall_sql.proofs.PeopleTexts.{person_asked}
+use Rattle.hall_sql.proofs.ReadLemmas.{finds_row}
 use Rattle.hall_sql.proofs.UnreadRows.{person_unread, person_twice}
 use Rattle.hall_sql.proofs.sql_store.SqlStoreReadStore.person.Goals as goal
 
-pub returns-clause-fault : goal.returns-clause-fault
-returns-clause-fault g c =
-    find_fault c.person.result c.self.invariant c.person.ensures.rested person_in PERSON.now (Text c.args.name.now ∷ [])
-    (person_unread c.args.name.now) (person_twice c.args.name.now) c.person.ensures.cause
+pub find-requires-clause-asks : goal.find-requires-clause-asks
+find-requires-clause-asks g c = rw (c.params-to_sql.ensures, c.as_str.ensures.text) (person_asked c.args.name.now)
+
+pub returns : goal.returns
+returns g c =
+    rw (← c.self.view_is)
+    (finds_row person_in PERSON.now (Text c.args.name.now ∷ []) c.find.result _ c.self.invariant c.find.ensures.rested
+    (person_unread c.args.name.now) (person_twice c.args.name.now)
+    (rw (c.params-to_sql.ensures, c.as_str.ensures.text) at c.find.ensures.found)
+    (rw (c.params-to_sql.ensures, c.as_str.ensures.text) at c.find.ensures.cause)
+    (λ found it opened has keyed. it.is ∙ person_found c.args.name.now _ (state g.S.Store c.find.new.conn)
+    it.are.1.rows it.records has it.are.1.shown it.are.1.reads it.few))

@@ -1,21 +1,14 @@
-use Rattle.hall_sql.proofs.StoreLemmas.{rested_hall, rested_kept}
-use Rattle.std.proofs.Common.{[]}
 use Rattle.hall_sql.specs.Rows.{protest_in}
 use Rattle.hall_sql.specs.declared.protests.TheConstants.{ALL_PROTESTS}
-use Rattle.hall_sql.proofs.FailLemmas.{read_fault}
+use Rattle.hall_sql.proofs.ReadLemmas.{table_in_hall}
+use Rattle.hall_sql.proofs.StoreLemmas.{rested_hall}
 use Rattle.hall_sql.proofs.UnreadRows.{protests_unread}
 use Rattle.hall_sql.proofs.sql_store.SqlStoreWholeStore.all_protests.Goals as goal
 
 pub invariant_of-self : goal.invariant_of-self
 invariant_of-self g c = (rested_hall c.self.invariant c.all_protests.ensures.rested).tabled
 
-pub returns-clause-kept : goal.returns-clause-kept
-returns-clause-kept g c = rw (← c.self.view_is) (rested_kept _ _ (rested_hall c.self.invariant c.all_protests.ensures.rested))
-
-pub returns-clause-rested : goal.returns-clause-rested
-returns-clause-rested g c = rw (← c.self.view_is) (rested_hall c.self.invariant c.all_protests.ensures.rested)
-
-pub returns-clause-fault : goal.returns-clause-fault
-returns-clause-fault g c =
-    read_fault c.all_protests.result c.self.invariant (rested_hall c.self.invariant c.all_protests.ensures.rested) protest_in ALL_PROTESTS.now []
-    protests_unread c.all_protests.ensures.cause
+pub returns : goal.returns
+returns g c =
+    rw (← c.self.view_is) (table_in_hall protest_in ALL_PROTESTS.now c.all_protests.result c.self.invariant
+    protests_unread c.all_protests.ensures)
