@@ -1,30 +1,43 @@
 -- What is found of a sentence, as it is told of a world.
-use Rattle.std.proofs.Common.{◌≡◌, ◌++◌, ◌∷◌, [], List, Result, Ok, Err, IfOk, refl, sym, ap, ◌∙◌, subst, append_assoc}
+use Rattle.std.proofs.Common.{◌≡◌, ◌⊎◌, ◌++◌, ◌∷◌, [], List, Result, Ok, Err, IfOk, inl, inr, sym, subst}
 use Rattle.hall_policy.specs.World.{World}
-use Rattle.hall_desk.specs.Checks.{TellsSentence, AreTold, AreAdded, IsTelling}
-use Rattle.hall_desk.specs.Finds.{EveryRow, Finds}
-use Rattle.hall_desk.specs.Whole.{IsInOrder, world_of_whole}
+use Rattle.hall_desk.specs.Asking.{CanAsk, asked_world}
+use Rattle.hall_desk.specs.Checks.{TellsSentence, AreTold}
+use Rattle.hall_desk.specs.Finds.{Finds}
+use Rattle.hall_desk.specs.declared.counts.Asking.{Asking}
 use Rattle.hall_desk.specs.declared.sentence.Breaches.{Breaches}
 use Rattle.hall_desk.specs.declared.sentence.Sentence.{Sentence}
 use Rattle.hall_desk.specs.declared.sentence.Spot.{Spot}
-use Rattle.hall_desk.specs.declared.whole.Whole.{Whole}
+
+-- the sentence is the first or one of the others
+abbrev pub IsOneOf : Sentence → Sentence → List Sentence → Type 0
+IsOneOf s first [] = s ≡ first
+IsOneOf s first (next ∷ others) = (s ≡ first) ⊎ IsOneOf s next others
+
+-- it is so of the first and of each of the others
+abbrev pub EachOf : (Sentence → Type 0) → Sentence → List Sentence → Type 0
+EachOf P first [] = P first
+EachOf P first (next ∷ others) = P first × EachOf P next others
+
+-- what is so of each is so of the one
+one_of : (P : Sentence → Type 0) (s first : Sentence) (others : List Sentence) → IsOneOf s first others → EachOf P first others → P s
+one_of P s first [] is so = subst P (sym is) so
+one_of P s first (next ∷ others) (inl is) (so, _) = subst P (sym is) so
+one_of P s first (next ∷ others) (inr is) (_, rest) = one_of P s next others is rest
 
 -- what was found in the rows is told of their world
-pub telling : {X E : Type 0} (whole : Whole) (sentence : Sentence) (Says : X → Type 0) (spot_of : X → Spot) (applies : X → Type 0) (rows kept : List X) (result : Result Breaches E) → (IsInOrder whole → EveryRow applies rows) → (IsInOrder whole → rows ≡ kept) →
-    ((found : Breaches) → Finds Says spot_of kept found → TellsSentence (world_of_whole whole) sentence found) → IfOk result (λ found. found.sentence ≡ sentence) → IfOk result (λ found. EveryRow applies rows → Finds Says spot_of rows found) → IfOk result (IsTelling whole sentence)
-telling whole sentence Says spot_of applies rows kept (Ok found) each same turn own finds = (own, (λ ordered. turn found (subst (λ xs. Finds Says spot_of xs found) (same ordered) (finds (each ordered)))))
-telling whole sentence Says spot_of applies rows kept (Err e) each same turn own finds = tt
+pub telling : {X E : Type 0} (asking : Asking) (says : Sentence → X → Type 0) (spot_of : X → Spot) (rows kept : List X) (s first : Sentence) (others : List Sentence) (result : Result Breaches E) → IsOneOf s first others →
+    EachOf (λ t. (found : Breaches) → Finds (says t) spot_of kept found → TellsSentence (asked_world asking) t found) first others → (CanAsk asking → rows ≡ kept) → IfOk result (λ found. CanAsk asking → Finds (says s) spot_of rows found) →
+    IfOk result (λ found. CanAsk asking → TellsSentence (asked_world asking) s found)
+telling asking says spot_of rows kept s first others (Ok found) is turns same finds = λ able.
+    one_of (λ t. (breaches : Breaches) → Finds (says t) spot_of kept breaches → TellsSentence (asked_world asking) t breaches) s first others is turns found
+    (subst (λ xs. Finds (says s) spot_of xs found) (same able) (finds able))
+telling asking says spot_of rows kept s first others (Err e) is turns same finds = tt
 
-told_both : (world : World) (ss ts : List Sentence) (fs gs : List Breaches) → AreTold world ss fs → AreTold world ts gs → AreTold world (ss ++ ts) (fs ++ gs)
-told_both world [] ts [] gs told more = more
-told_both world [] ts (f ∷ fs) gs told more = absurd told
-told_both world (s ∷ ss) ts [] gs told more = absurd told
-told_both world (s ∷ ss) ts (f ∷ fs) gs (is, says, rest) more = (is, says, told_both world ss ts fs gs rest more)
-
--- what was put in two turns
-pub added_then : (world : World) (ss ts : List Sentence) (old mid new : List Breaches) → AreAdded world ss old mid → AreAdded world ts mid new → AreAdded world (ss ++ ts) old new
-added_then world ss ts old mid new (fs, first, told) (gs, second, more) = (fs ++ gs, second ∙ ap (λ front. front ++ gs) first ∙ append_assoc old fs gs, told_both world ss ts fs gs told more)
-
--- what was put where nothing stood is all
-pub added_all : (world : World) (sentences : List Sentence) (old new : List Breaches) → old ≡ [] → AreAdded world sentences old new → AreTold world sentences new
-added_all world sentences old new none (fs, put, told) = subst (λ (items : List Breaches). AreTold world sentences items) (sym (put ∙ ap (λ front. front ++ fs) none)) told
+-- what is found of one sentence more stands at the end
+pub told_more : (world : World) (sentences : List Sentence) (told : List Breaches) (sentence : Sentence) (found : Breaches) → AreTold world sentences told → found.sentence ≡ sentence → TellsSentence world sentence found →
+    AreTold world (sentences ++ sentence ∷ []) (told ++ found ∷ [])
+told_more world [] [] s f are is tells = (is, tells, tt)
+told_more world [] (g ∷ gs) s f are is tells = absurd are
+told_more world (t ∷ ts) [] s f are is tells = absurd are
+told_more world (t ∷ ts) (g ∷ gs) s f (own, says, rest) is tells = (own, says, told_more world ts gs s f rest is tells)

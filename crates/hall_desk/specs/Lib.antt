@@ -39,6 +39,7 @@ pub mod Spots
 pub mod Finds
 pub mod Tally
 pub mod Groups
+pub mod Asking
 pub mod Checks
 pub mod States
 pub mod Checked

@@ -1,62 +1,63 @@
 //! A sentence is asked of each row of a table.
 ghost use Rattle.std.specs.Prelude.{◌≡◌, ◌++◌, ◌∷◌, ◌↔◌, ◌<◌, ◌≤◌, ◌+◌, [], length, IsTrue, IfOk, OnOk, List};
-ghost use Rattle.hall_desk.specs.Finds.{EveryRow, Finds, IsNotedIn, IsBreachTold};
+ghost use Rattle.hall_policy.specs.World.{World};
+ghost use Rattle.hall_desk.specs.Asking.{CanAsk, asked_world};
+ghost use Rattle.hall_desk.specs.Finds.{Finds, IsNotedIn, IsBreachTold};
+ghost use Rattle.hall_desk.specs.declared.sentence.Sentence.{Sentence as Saying};
 
+use crate::counts::Asking;
 use crate::sentence::{Breaches, Sentence, Spot, Spotted};
-use std::alloc::{AllocError, Global};
+use std::alloc::AllocError;
 
 /// The most places that are named of one sentence.
 const MOST_NAMED: usize = 20;
 
-/// A sentence that can be asked of a row.
-pub(crate) trait Ask<T> {
-    // What it says of the row.
-    ghost says: { Self → T → Type 0 };
+/// A row of which sentences are asked.
+pub(crate) trait Asked {
+    // What a sentence says of the row, in a world.
+    ghost says: { World → Saying → Self → Type 0 };
 
-    // Where what it says can be told.
-    ghost applies: { Self → T → Type 0 };
-
-    /// Whether it is true of the row.
-    fn is_true_of(&self, alloc: Global, row: &T) -> Result<bool, AllocError>
-        ensures { IfOk result (λ told. applies self.now row.now → IsTrue told ↔ says self.now row.now) };
+    /// Whether the sentence is true of the row.
+    fn is_true(&self, asking: &Asking, sentence: Sentence) -> Result<bool, AllocError>
+        ensures { IfOk result (λ told. CanAsk asking.now
+            → IsTrue told ↔ says (asked_world asking.now) sentence self.now) };
 }
 
 /// The sentence is asked of each row.
-pub(crate) fn ask_each<T: Spotted, A: Ask<T>>(
-    alloc: Global,
+pub(crate) fn ask_each<T: Spotted + Asked>(
+    asking: &Asking,
     sentence: Sentence,
     rows: &[T],
-    ask: &A,
 ) -> Result<Breaches, AllocError>
     ensures sentence { IfOk result (λ found. found.sentence ≡ sentence) }
-    ensures finds { IfOk result (λ found. EveryRow (A.applies ask.now) rows.now
-        → Finds (A.says ask.now) T.spot_of rows.now found) }
+    ensures finds { IfOk result (λ found. CanAsk asking.now
+        → Finds (T.says (asked_world asking.now) sentence) T.spot_of rows.now found) }
 {
     let mut found = Breaches {
         sentence,
-        first: Vec::new(alloc),
+        first: Vec::new(asking.alloc),
         count: 0,
     };
     for row in rows {
-        tell(alloc, ask, row, &mut found)?;
+        tell(asking, row, &mut found)?;
     }
     Ok(found)
 }
 
 /// Counts and names the row, where the sentence is false of it.
-fn tell<T: Spotted, A: Ask<T>>(
-    alloc: Global,
-    ask: &A,
+fn tell<T: Spotted + Asked>(
+    asking: &Asking,
     row: &T,
     found: &mut Breaches,
 ) -> Result<(), AllocError>
     requires { found.old.count < usize.MAX }
     ensures sentence { OnOk result (found.new.sentence ≡ found.old.sentence) }
     ensures few { OnOk result (found.new.count ≤ found.old.count + 1) }
-    ensures told { OnOk result (A.applies ask.now row.now
-        → IsBreachTold (A.says ask.now row.now) (T.spot_of row.now) found.old found.new) }
+    ensures told { OnOk result (CanAsk asking.now
+        → IsBreachTold (T.says (asked_world asking.now) found.old.sentence row.now) (T.spot_of row.now)
+        found.old found.new) }
 {
-    if ask.is_true_of(alloc, row)? {
+    if row.is_true(asking, found.sentence)? {
         return Ok(());
     }
     found.count += 1;

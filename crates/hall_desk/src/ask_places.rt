@@ -1,97 +1,53 @@
 //! What is asked of the entries of rounds' lists.
 ghost use Rattle.std.specs.Prelude.{◌↔◌, IsTrue};
-ghost use Rattle.hall_desk.specs.Sentences.{IsInAnother, IsElsewhere};
-ghost use Rattle.hall_desk.specs.Whole.{world_of_whole};
+ghost use Rattle.hall_desk.specs.Sentences.{IsCertifiedFirst, IsElsewhere, IsInAnother, IsInNoOther};
+ghost use Rattle.hall_desk.specs.Whole.{IsInOrder, world_of_whole};
 
-use crate::ask::Ask;
+use crate::ask::Asked;
+use crate::counts::Asking;
 use crate::release_faults::is_one;
+use crate::sentence::Sentence;
 use crate::whole::Whole;
 use hall_store::Place;
-use std::alloc::{AllocError, Global};
+use std::alloc::AllocError;
 
-/// The round of the entry is there.
-#[derive(Clone, Copy)]
-pub(crate) struct EntryHome<'a> {
-    pub(crate) whole: &'a Whole,
-}
+impl Asked for Place {
+    ghost use Rattle.hall_desk.specs.Checks.{SaysOfEntry};
 
-impl<'a> Ask<Place> for EntryHome<'a> {
-    ghost use Rattle.hall_desk.specs.Sentences.{IsRoundThere};
-    ghost use Rattle.hall_desk.specs.Whole.{world_of_whole};
+    ghost says = { SaysOfEntry };
 
-    ghost says = { λ ask place. IsRoundThere (world_of_whole ask.whole.now) place.0.round };
-
-    ghost applies = { λ _ _. Unit {0} };
-
-    fn is_true_of(&self, _alloc: Global, row: &Place) -> Result<bool, AllocError> {
-        Ok(self.whole.round(&row.0.round).is_some())
-    }
-}
-
-/// The puzzle of the entry is there.
-#[derive(Clone, Copy)]
-pub(crate) struct PuzzleThere<'a> {
-    pub(crate) whole: &'a Whole,
-}
-
-impl<'a> Ask<Place> for PuzzleThere<'a> {
-    ghost use Rattle.hall_desk.specs.Sentences.{HasPuzzle};
-    ghost use Rattle.hall_desk.specs.Whole.{world_of_whole};
-
-    ghost says = { λ ask place. HasPuzzle (world_of_whole ask.whole.now) place.1 };
-
-    ghost applies = { λ _ _. Unit {0} };
-
-    fn is_true_of(&self, _alloc: Global, row: &Place) -> Result<bool, AllocError> {
-        Ok(self.whole.puzzle(&row.1.puzzle).is_some())
-    }
-}
-
-/// In a released round the puzzle of the entry is in state one.
-#[derive(Clone, Copy)]
-pub(crate) struct CertifiedFirst<'a> {
-    pub(crate) whole: &'a Whole,
-}
-
-impl<'a> Ask<Place> for CertifiedFirst<'a> {
-    ghost use Rattle.hall_desk.specs.Sentences.{IsCertifiedFirst};
-    ghost use Rattle.hall_desk.specs.Whole.{world_of_whole};
-
-    ghost says = { λ ask place. IsCertifiedFirst (world_of_whole ask.whole.now) place };
-
-    ghost applies = { λ _ _. Unit {0} };
-
-    fn is_true_of(&self, _alloc: Global, row: &Place) -> Result<bool, AllocError> {
-        if !self.whole.is_released(&row.0.round) {
-            return Ok(true);
-        }
-        match self.whole.puzzle(&row.1.puzzle) {
-            Some(puzzle) => Ok(is_one(&puzzle.state)),
-            None => Ok(false),
+    fn is_true(&self, asking: &Asking, sentence: Sentence) -> Result<bool, AllocError> {
+        match sentence {
+            Sentence::EntryHome => Ok(asking.whole.round(&self.0.round).is_some()),
+            Sentence::PuzzleThere => Ok(asking.whole.puzzle(&self.1.puzzle).is_some()),
+            Sentence::CertifiedFirst => Ok(is_certified_first(asking.whole, self)),
+            Sentence::InNoOther => Ok(is_in_no_other(asking.whole, self)),
+            _ => Ok(true),
         }
     }
 }
 
-/// In a released round the puzzle of the entry is in no other released round.
-#[derive(Clone, Copy)]
-pub(crate) struct InNoOther<'a> {
-    pub(crate) whole: &'a Whole,
+/// Whether the puzzle of the place is in state one, where the round is released.
+fn is_certified_first(whole: &Whole, place: &Place) -> bool
+    ensures { IsTrue result ↔ IsCertifiedFirst (world_of_whole whole.now) place.now }
+{
+    if !whole.is_released(&place.0.round) {
+        return true;
+    }
+    match whole.puzzle(&place.1.puzzle) {
+        Some(puzzle) => is_one(&puzzle.state),
+        None => false,
+    }
 }
 
-impl<'a> Ask<Place> for InNoOther<'a> {
-    ghost use Rattle.hall_desk.specs.Sentences.{IsInNoOther};
-    ghost use Rattle.hall_desk.specs.Whole.{IsInOrder, world_of_whole};
-
-    ghost says = { λ ask place. IsInNoOther (world_of_whole ask.whole.now) place };
-
-    ghost applies = { λ ask _. IsInOrder ask.whole.now };
-
-    fn is_true_of(&self, _alloc: Global, row: &Place) -> Result<bool, AllocError> {
-        if !self.whole.is_released(&row.0.round) {
-            return Ok(true);
-        }
-        Ok(!is_in_another(self.whole, row))
+/// Whether the puzzle of the place is in no other released round, where the round is released.
+fn is_in_no_other(whole: &Whole, place: &Place) -> bool
+    ensures { IsInOrder whole.now → IsTrue result ↔ IsInNoOther (world_of_whole whole.now) place.now }
+{
+    if !whole.is_released(&place.0.round) {
+        return true;
     }
+    !is_in_another(whole, place)
 }
 
 /// Whether the puzzle of the place is in another round that is there and released.

@@ -1,36 +1,39 @@
 //! What is asked of rounds.
 ghost use Rattle.std.specs.Prelude.{◌≡◌, ◌↔◌, ◌+◌, IsTrue, IfOk, option_map};
 ghost use Rattle.hall_policy.specs.Lists.{AreEntries};
-ghost use Rattle.hall_desk.specs.Sentences.{IsListTold};
+ghost use Rattle.hall_desk.specs.Asking.{CanAsk, asked_world};
+ghost use Rattle.hall_desk.specs.Sentences.{HasList, IsListTold};
 
-use crate::ask::Ask;
+use crate::ask::Asked;
+use crate::counts::Asking;
 use crate::rows::push;
-use crate::tally::{KeyOf, count_at};
-use crate::whole::Whole;
+use crate::sentence::Sentence;
 use hall_policy::{Entries, Entry, MOST_TESTERS, Round, RoundId};
-use hall_store::{Place, Tester};
+use hall_store::Place;
 use std::alloc::{AllocError, Global};
-use std::collections::BTreeMap;
 
-/// The round has 1 to `MOST_ENTRIES` puzzles, none twice, numbered from 1.
-#[derive(Clone, Copy)]
-pub(crate) struct ListWhole<'a> {
-    pub(crate) whole: &'a Whole,
+impl Asked for Round {
+    ghost use Rattle.hall_desk.specs.Checks.{SaysOfRound};
+
+    ghost says = { SaysOfRound };
+
+    fn is_true(&self, asking: &Asking, sentence: Sentence) -> Result<bool, AllocError> {
+        match sentence {
+            Sentence::ListWhole => has_list(asking, &self.id),
+            Sentence::FewTesters => Ok(asking.testers_of(&self.id) <= MOST_TESTERS as u64),
+            Sentence::ReleasedFirst => Ok(!self.published || self.released),
+            _ => Ok(true),
+        }
+    }
 }
 
-impl<'a> Ask<Round> for ListWhole<'a> {
-    ghost use Rattle.hall_desk.specs.Sentences.{HasList};
-    ghost use Rattle.hall_desk.specs.Whole.{IsInOrder, world_of_whole};
-
-    ghost says = { λ ask round. HasList (world_of_whole ask.whole.now) round.id };
-
-    ghost applies = { λ ask _. IsInOrder ask.whole.now };
-
-    fn is_true_of(&self, alloc: Global, row: &Round) -> Result<bool, AllocError> {
-        match entries_of(alloc, &self.whole.places, &row.id)? {
-            Some(list) => are_entries(list),
-            None => Ok(false),
-        }
+/// Whether the round has 1 to `MOST_ENTRIES` puzzles, none twice, numbered from 1.
+fn has_list(asking: &Asking, id: &RoundId) -> Result<bool, AllocError>
+    ensures { IfOk result (λ told. CanAsk asking.now → IsTrue told ↔ HasList (asked_world asking.now) id.now) }
+{
+    match entries_of(asking.alloc, &asking.whole.places, id)? {
+        Some(list) => are_entries(list),
+        None => Ok(false),
     }
 }
 
@@ -70,52 +73,5 @@ fn is_next(place: &Place, count: usize) -> bool
     match place.0.number.get().checked_sub(1) {
         Some(before) => before == count as u64,
         None => false,
-    }
-}
-
-impl KeyOf<Tester> for RoundId {
-    ghost key_of = { λ tester. tester.0.round };
-
-    fn of(row: &Tester) -> Result<RoundId, AllocError> {
-        row.0.round.clone()
-    }
-}
-
-/// The round has at most `MOST_TESTERS` testers.
-#[derive(Clone, Copy)]
-pub(crate) struct FewTesters<'a> {
-    pub(crate) whole: &'a Whole,
-    pub(crate) counts: &'a BTreeMap<RoundId, u64>,
-}
-
-impl<'a> Ask<Round> for FewTesters<'a> {
-    ghost use Rattle.hall_policy.specs.Text.{text_cmp};
-    ghost use Rattle.hall_desk.specs.Sentences.{HasFewTesters};
-    ghost use Rattle.hall_desk.specs.Tally.{IsTally};
-    ghost use Rattle.hall_desk.specs.Whole.{IsInOrder, world_of_whole};
-
-    ghost says = { λ ask round. HasFewTesters (world_of_whole ask.whole.now) round.id };
-
-    ghost applies = { λ ask _. IsInOrder ask.whole.now
-        × IsTally text_cmp (λ tester. tester.0.round) ask.whole.now.testers.items ask.counts.now.entries };
-
-    fn is_true_of(&self, _alloc: Global, row: &Round) -> Result<bool, AllocError> {
-        Ok(count_at(self.counts, &row.id) <= MOST_TESTERS as u64)
-    }
-}
-
-/// A published round is released.
-#[derive(Clone, Copy)]
-pub(crate) struct ReleasedFirst {}
-
-impl Ask<Round> for ReleasedFirst {
-    ghost use Rattle.hall_desk.specs.Sentences.{IsReleasedFirst};
-
-    ghost says = { λ _ round. IsReleasedFirst round };
-
-    ghost applies = { λ _ _. Unit {0} };
-
-    fn is_true_of(&self, _alloc: Global, row: &Round) -> Result<bool, AllocError> {
-        Ok(!row.published || row.released)
     }
 }

@@ -1,7 +1,34 @@
-//! By what answers and protests are counted.
+//! By what rows are counted.
 use crate::tally::KeyOf;
-use hall_policy::{AnswerNumber, AnswerRow, Name, ProtestRow, PuzzleNumber, RoundId};
+use hall_policy::{
+    AnswerNumber, AnswerRow, Key, Name, Person, ProtestRow, PuzzleNumber, PuzzleRow, RoundId,
+};
+use hall_store::Tester;
 use std::alloc::AllocError;
+
+impl KeyOf<Person> for Key {
+    ghost key_of = { λ person. person.key };
+
+    fn of(row: &Person) -> Result<Key, AllocError> {
+        row.key.clone()
+    }
+}
+
+impl KeyOf<PuzzleRow> for Name {
+    ghost key_of = { λ row. row.key.author };
+
+    fn of(row: &PuzzleRow) -> Result<Name, AllocError> {
+        row.key.author.clone()
+    }
+}
+
+impl KeyOf<Tester> for RoundId {
+    ghost key_of = { λ tester. tester.0.round };
+
+    fn of(row: &Tester) -> Result<RoundId, AllocError> {
+        row.0.round.clone()
+    }
+}
 
 /// Whose answers to which puzzle.
 #[derive(PartialEq, Eq, PartialOrd, Ord, Drop)]

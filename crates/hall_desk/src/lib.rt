@@ -13,6 +13,7 @@ mod ask_testers;
 mod census;
 mod certify_puzzle;
 mod copies;
+mod counts;
 mod desk;
 mod finding;
 mod group;

@@ -1,16 +1,13 @@
 //! Whether a store's world is sane.
 ghost use Rattle.std.specs.Prelude.{◌≡◌, ◌↔◌, [], IsTrue, IfOk};
 ghost use Rattle.hall_store.specs.Store.{Kept, Served, Fails};
-ghost use Rattle.hall_desk.specs.Checked.{IsChecked, IsNothingFound, AreAllTold, AreStatesAsked, AreStatesTrue};
+ghost use Rattle.hall_desk.specs.Checked.{IsChecked, IsNothingFound, AreStatesAsked, AreStatesTrue};
 ghost use Rattle.hall_desk.specs.Finds.{EveryRow};
 ghost use Rattle.hall_desk.specs.Whole.{IsInOrder, IsWholeOf, world_of_whole};
 
 use crate::ranges::in_range;
 use crate::sentence::Breaches;
-use crate::sentences::{
-    tell_answerers, tell_answers, tell_people, tell_places, tell_protesters, tell_protests,
-    tell_puzzles, tell_rounds, tell_testers,
-};
+use crate::sentences::tell_all;
 use crate::states::{States, ask_states};
 use crate::whole::Whole;
 use hall_policy::PuzzleRow;
@@ -140,21 +137,4 @@ fn tell_states(
         Some(budget) => Ok(Some(ask_states(alloc, rows, budget)?)),
         None => Ok(None),
     }
-}
-
-/// What is found of each sentence but that of puzzles' states.
-fn tell_all(alloc: Global, whole: &Whole) -> Result<Vec<Breaches>, AllocError>
-    ensures { IfOk result (λ told. IsInOrder whole.now → AreAllTold (world_of_whole whole.now) told.items) }
-{
-    let mut told = Vec::new(alloc);
-    tell_people(alloc, whole, &mut told)?;
-    tell_puzzles(alloc, whole, &mut told)?;
-    tell_rounds(alloc, whole, &mut told)?;
-    tell_places(alloc, whole, &mut told)?;
-    tell_testers(alloc, whole, &mut told)?;
-    tell_answerers(alloc, whole, &mut told)?;
-    tell_answers(alloc, whole, &mut told)?;
-    tell_protesters(alloc, whole, &mut told)?;
-    tell_protests(alloc, whole, &mut told)?;
-    Ok(told)
 }

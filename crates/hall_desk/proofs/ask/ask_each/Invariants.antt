@@ -1,5 +1,6 @@
 use Rattle.std.proofs.Common.{◌≡◌, ◌≤◌, take}
-use Rattle.hall_desk.specs.Finds.{EveryRow, Finds}
+use Rattle.hall_desk.specs.Asking.{CanAsk, asked_world}
+use Rattle.hall_desk.specs.Finds.{Finds}
 use Rattle.hall_desk.proofs.ask.ask_each.Given as goal
 
 -- what is found in the rows so far
@@ -7,5 +8,5 @@ abbrev pub invariant-loop-row : goal.invariant-loop-row
 invariant-loop-row g l = record {
   sentence : l.found.sentence ≡ l.fn.sentence;
   few : l.found.count ≤ l.row-index;
-  finds : EveryRow (g.A.Ask.applies l.ask) l.rows → Finds (g.A.Ask.says l.ask) g.T.Spotted.spot_of (take l.row-index l.rows) l.found;
+  finds : CanAsk l.asking → Finds (g.T.Asked.says (asked_world l.asking) l.fn.sentence) g.T.Spotted.spot_of (take l.row-index l.rows) l.found;
 }

@@ -1,0 +1,18 @@
+use Rattle.std.proofs.Common.{◌≡◌, subst}
+use Rattle.hall_policy.specs.Text.{text_cmp}
+use Rattle.hall_policy.specs.declared.record.Person.{Person}
+use Rattle.hall_policy.specs.declared.record.PuzzleRow.{PuzzleRow}
+use Rattle.hall_policy.specs.declared.record.TesterKey.{TesterKey}
+use Rattle.hall_desk.specs.Groups.{to_puzzle, to_puzzle_cmp, with_number, with_number_cmp, in_round, in_round_cmp}
+use Rattle.hall_desk.specs.Tally.{IsTally}
+use Rattle.hall_desk.proofs.counts.Counts.of.Goals as goal
+
+pub returns : goal.returns
+returns c = record {
+  people = subst (λ rows. IsTally text_cmp (λ (row : Person). row.key) rows c.in_ok-people.people.entries) c.as_slice.ensures.value c.in_ok-people.ensures;
+  puzzles = subst (λ rows. IsTally text_cmp (λ (row : PuzzleRow). row.key.author) rows c.in_ok-puzzles.puzzles.entries) c.as_slice-2.ensures.value c.in_ok-puzzles.ensures;
+  testers = subst (λ rows. IsTally text_cmp (λ (row : TesterKey × Unit {0}). row.0.round) rows c.in_ok-testers.testers.entries) c.as_slice-3.ensures.value c.in_ok-testers.ensures;
+  answers = subst (λ rows. IsTally to_puzzle_cmp to_puzzle rows c.in_ok-answers.answers.entries) c.as_slice-4.ensures.value c.in_ok-answers.ensures;
+  numbers = subst (λ rows. IsTally with_number_cmp with_number rows c.in_ok-numbers.numbers.entries) c.as_slice-5.ensures.value c.in_ok-numbers.ensures;
+  protests = subst (λ rows. IsTally in_round_cmp in_round rows c.in_ok-protests.protests.entries) c.as_slice-6.ensures.value c.in_ok-protests.ensures;
+}
