@@ -1,6 +1,6 @@
 -- What was served so far.
 use Rattle.std.proofs.Common.{◌≡◌, ◌∙◌, sym, ap, subst, refl, arith, inl, inr, ℕ, ◌+◌, List, [], ◌∷◌, ◌++◌}
-use Rattle.std.proofs.Common.{◌⊎◌, ◌==◌, append_assoc, get_or, true, false}
+use Rattle.std.proofs.Common.{◌⊎◌, ◌≢◌, ◌==◌, append_assoc, get_or, true, false, Option, Some, None}
 use Rattle.std.specs.Prelude.{All, Bool}
 use Rattle.std.proofs.lemmas.Bool.{eqb-true, eqb-false}
 use Rattle.std.proofs.lemmas.List.{append-nil, map-append}
@@ -12,8 +12,13 @@ use Rattle.hall_http.specs.Crowd.{Admits, AreHandled, AreKept, AreKeptAtTurns, A
 use Rattle.hall_http.specs.Crowd.{AllLeave, AreAsSaid, HasLeft, IsFree, KeepsPlace, MayLose, Past, Receives}
 use Rattle.hall_http.specs.Crowd.{WasHandedOut, WasHere, WasNext, WasToGo, WasTurnedAway, number_past}
 use Rattle.hall_http.specs.Crowd.{AreAtTurns, at_first, at_other, at_turn}
-use Rattle.hall_http.specs.Turns.{Turn, Service, exchanges_of}
+use Rattle.hall_http.specs.Crowd.{AreHeard, heard_first, heard_last, heard_other, heard_turn}
+use Rattle.hall_http.specs.Crowd.{HaveHeard, IsNoTurn, StandsThere}
+use Rattle.hall_http.specs.Steps.{StandsRightly}
+use Rattle.hall_http.specs.Turns.{Turn, Service, exchanges_of, goes_on}
 use Rattle.hall_http.specs.declared.client.Client.{Client}
+use Rattle.hall_http.specs.declared.client.Step.{Step}
+use Rattle.hall_http.specs.declared.client.Step.TheVariants as step
 use Rattle.hall_http.specs.declared.clients.Clients.{Clients}
 use Rattle.hall_http.specs.declared.clients.Departure.{Departure}
 use Rattle.hall_http.specs.declared.clients.Departure.TheVariants as departure
@@ -32,6 +37,20 @@ module _ {P : Type 0} (traffic : P → Traffic) where
   still_then s m u first second place l at =
       let (k, there, same) = second place l at in
       let (j, here, equal) = first place k there in (j, here, equal ∙ same)
+
+  -- how whoever is at the place stands
+  module _ {R : Type 0} (may_wait : R → List ℕ → Type 0) (s : Clients P) (r : R) (place : ℕ) (how : Step)
+      (goes : goes_on how ≡ true)
+      (here : (k : Client P) → IsAt s place k → (how ≢ step.Over) × StandsRightly may_wait k.connection r how)
+      (none : IsFree s place → how ≡ step.Over) where
+    there : (o : Option (Client P)) → get_or s.places.items place None ≡ o
+        → (IsFree s place × (how ≡ step.Over))
+        ⊎ ((k : Client P) × IsAt s place k × (how ≢ step.Over) × StandsRightly may_wait k.connection r how)
+    there None is = inl (is, none is)
+    there (Some k) is = inr (k, is, (here k is).0, (here k is).1)
+
+    pub stands_there : StandsThere may_wait s r (place, how)
+    stands_there = (goes, there (get_or s.places.items place None) refl)
 
   -- nothing changed
   pub keeps_all : (s : Clients P) → AnswersNoMore traffic s s
@@ -263,7 +282,7 @@ module _ {P : Type 0} (traffic : P → Traffic) where
         }
 
     -- the one at the place had its turn, and may be over
-    turn_said : (place : ℕ) → AreStill traffic s u → MayLose traffic departure.Over place s u
+    pub turn_said : (place : ℕ) → AreStill traffic s u → MayLose traffic departure.Over place s u
         → AreAsSaid traffic (steps ++ next.Turn place ∷ []) u
     turn_said place still lost =
         let grows = loses_grows departure.Over place s u lost in
@@ -415,62 +434,125 @@ module _ {H C : Type 0} (service : Service H C) where
     serves_kept place before after s u (few, many, turns, kept) serves =
         let later = serves.1 few many turns kept in (few, many, turns ++ later.turns, later.holds.1)
 
-    pub handled_start : (at : H × C) (said : Said P) (s : Clients P) → AreKept traffic said.count said.count [] s
-        → AreHandled service (λ turns. AreKeptAtTurns traffic said said turns s) at at
-    handled_start at said s kept =
-        handled_none at (λ turns. AreKeptAtTurns traffic said said turns s) (
-          kept,
-          subst (λ (steps : Nexts P). AreAtTurns traffic s.gone.items steps []) (sym (since_none said)) at_first,
-        )
+    module _ {R : Type 0} (may_wait : R → List ℕ → Type 0) where
+      pub handled_start : (at : H × C) (said : Said P) (s : Clients P) → AreKept traffic said.count said.count [] s
+          → AreHandled service (λ turns. AreKeptAtTurns may_wait traffic true said said turns s) at at
+      handled_start at said s kept =
+          handled_none at (λ turns. AreKeptAtTurns may_wait traffic true said said turns s) (
+            kept,
+            subst (λ (steps : Nexts P). AreAtTurns traffic s.gone.items steps []) (sym (since_none said)) at_first,
+            (
+              [],
+              sym (append-nil said.heard),
+              subst (λ (steps : Nexts P). AreHeard may_wait traffic said.count true steps [] []) (sym (since_none said))
+                  heard_first,
+            ),
+          )
 
-    module _ (old now : Said P) (before at : H × C) (s : Clients P)
-        (handled : AreHandled service (λ turns. AreKeptAtTurns traffic old now turns s) before at)
-        (then : Said P) (one : Next P) (more : since old then ≡ since old now ++ one ∷ []) (u : Clients P)
-        (grows : Grows traffic s.gone.items u.gone.items) where
-      abbrev Then : List Turn → Type 0
-      Then turns = AreKeptAtTurns traffic old then turns u
+      module _ (old now : Said P) (before at : H × C) (s : Clients P)
+          (handled : AreHandled service (λ turns. AreKeptAtTurns may_wait traffic true old now turns s) before at)
+          (then : Said P) (one : Next P) (more : since old then ≡ since old now ++ one ∷ []) (u : Clients P)
+          (grows : Grows traffic s.gone.items u.gone.items) where
+        abbrev Then : Bool → List Turn → Type 0
+        Then goes turns = AreKeptAtTurns may_wait traffic goes old then turns u
 
-      -- so they are, as those stand that are kept at first
-      turns_then : (turns : List Turn) → AreAtTurns traffic s.gone.items (since old now) turns
-          → AreAtTurns traffic u.gone.items (since old now ++ one ∷ []) turns
-      turns_then turns at =
-          at_other (since old now) turns one
-          (turns_grown traffic s.gone.items u.gone.items grows (since old now) turns at)
+        -- so they are, as those stand that are kept at first
+        turns_then : (turns : List Turn) → AreAtTurns traffic s.gone.items (since old now) turns
+            → AreAtTurns traffic u.gone.items (since old now ++ one ∷ []) turns
+        turns_then turns at =
+            at_other (since old now) turns one
+            (turns_grown traffic s.gone.items u.gone.items grows (since old now) turns at)
 
-      pub handled_turn : (after : H × C) (place : ℕ) → one ≡ next.Turn place → then.count ≡ now.count
-          → AreAsSaid traffic (since old now) s → Serves service traffic place at s after u
-          → AreHandled service (λ turns. Then turns) before after
-      handled_turn after place is same said serves =
-          rw (same, more, is)
-          (handled_then before at after (λ turns. AreKeptAtTurns traffic old now turns s)
-          (λ turns. AreKept traffic old.count now.count turns u
-          × AreAtTurns traffic u.gone.items (since old now ++ next.Turn place ∷ []) turns) handled
-          (handled_same at after
-          (λ more. AreOf traffic s place more × AreKept traffic old.count now.count (handled.turns ++ more) u)
-          (λ more. AreKept traffic old.count now.count (handled.turns ++ more) u
-          × AreAtTurns traffic u.gone.items (since old now ++ next.Turn place ∷ []) (handled.turns ++ more))
-          (serves.1 old.count now.count handled.turns handled.holds.0)
-          (λ more holds. (
-            holds.1,
-            turns_grown traffic s.gone.items u.gone.items grows (since old now ++ next.Turn place ∷ [])
-                (handled.turns ++ more)
-                (turns_more traffic (since old now) s u said handled.turns more place holds.0 handled.holds.1),
-          ))))
+        -- what was heard of the turns by then
+        abbrev HeardBy : Bool → Nexts P → List Turn → Type 0
+        HeardBy goes steps turns =
+            (heard : List (ℕ × Step)) × (then.heard ≡ old.heard ++ heard)
+            × AreHeard may_wait traffic old.count goes steps turns heard
 
-      pub handled_keeps : then.count ≡ now.count → AnswersNoMore traffic s u
-          → AreHandled service (λ turns. Then turns) before at
-      handled_keeps same keeps =
-          rw (same, more)
-          (handled_same before at (λ turns. AreKeptAtTurns traffic old now turns s)
-          (λ turns. AreKept traffic old.count now.count turns u
-          × AreAtTurns traffic u.gone.items (since old now ++ one ∷ []) turns) handled
-          (λ turns holds. (keeps.1 old.count now.count turns holds.0, turns_then turns holds.1)))
+        -- nobody had a turn, and nothing was heard
+        heard_still : then.heard ≡ now.heard → IsNoTurn one → (turns : List Turn)
+            → HaveHeard may_wait traffic true old now turns → HeardBy true (since old now ++ one ∷ []) turns
+        heard_still quiet none turns (heard, is, so) =
+            (heard, quiet ∙ is, heard_other (since old now) turns heard one none so)
 
-      pub handled_admits : (place : ℕ) (peer : P) → (traffic peer).number ≡ now.count → then.count ≡ now.count + 1
-          → Admits traffic place peer s u → AreHandled service (λ turns. Then turns) before at
-      handled_admits place peer number is admits =
-          rw (is, more)
-          (handled_same before at (λ turns. AreKeptAtTurns traffic old now turns s)
-          (λ turns. AreKept traffic old.count (now.count + 1) turns u
-          × AreAtTurns traffic u.gone.items (since old now ++ one ∷ []) turns) handled
-          (λ turns holds. (admits.1 old.count now.count turns number holds.0, turns_then turns holds.1)))
+        -- after a turn it was heard how whoever is at its place stands
+        pub hears_turn : (place : ℕ) (how : Step) → then.heard ≡ now.heard ++ (place, how) ∷ [] → (r : R)
+            → StandsThere may_wait u r (place, how) → AreAsSaid traffic (since old now ++ next.Turn place ∷ []) u
+            → (some : List Turn) → AreKept traffic old.count now.count (handled.turns ++ some) u
+            → HeardBy true (since old now ++ next.Turn place ∷ []) (handled.turns ++ some)
+        hears_turn place how hears r stands said some kept =
+            let (heard, is, so) = handled.holds.2 in (
+              heard ++ (place, how) ∷ [],
+              hears ∙ ap (λ (all : List (ℕ × Step)). all ++ (place, how) ∷ []) is
+                  ∙ append_assoc old.heard heard ((place, how) ∷ []),
+              heard_turn (since old now) handled.turns some heard place how so (record {
+                many = now.count;
+                clients = u;
+                responder = r;
+                kept = kept;
+                said = said;
+                stands = stands;
+              }),
+            )
+
+        -- of the last turn nothing was heard
+        pub hears_last : then.heard ≡ now.heard → (place : ℕ) (some : List Turn)
+            → AreKept traffic old.count now.count (handled.turns ++ some) u
+            → HeardBy false (since old now ++ next.Turn place ∷ []) (handled.turns ++ some)
+        hears_last quiet place some kept =
+            let (heard, is, so) = handled.holds.2 in
+            (heard, quiet ∙ is, heard_last (since old now) handled.turns some heard place so)
+
+        pub handled_turn : (goes : Bool) (after : H × C) (place : ℕ) → one ≡ next.Turn place → then.count ≡ now.count
+            → AreAsSaid traffic (since old now) s → Serves service traffic place at s after u
+            → ((some : List Turn) → AreKept traffic old.count now.count (handled.turns ++ some) u
+            → HeardBy goes (since old now ++ next.Turn place ∷ []) (handled.turns ++ some))
+            → AreHandled service (λ turns. Then goes turns) before after
+        handled_turn goes after place is same said serves hears =
+            rw (same, more, is)
+            (handled_then before at after (λ turns. AreKeptAtTurns may_wait traffic true old now turns s)
+            (λ turns. AreKept traffic old.count now.count turns u
+            × AreAtTurns traffic u.gone.items (since old now ++ next.Turn place ∷ []) turns
+            × HeardBy goes (since old now ++ next.Turn place ∷ []) turns) handled
+            (handled_same at after
+            (λ more. AreOf traffic s place more × AreKept traffic old.count now.count (handled.turns ++ more) u)
+            (λ more. AreKept traffic old.count now.count (handled.turns ++ more) u
+            × AreAtTurns traffic u.gone.items (since old now ++ next.Turn place ∷ []) (handled.turns ++ more)
+            × HeardBy goes (since old now ++ next.Turn place ∷ []) (handled.turns ++ more))
+            (serves.1 old.count now.count handled.turns handled.holds.0)
+            (λ more holds. (
+              holds.1,
+              turns_grown traffic s.gone.items u.gone.items grows (since old now ++ next.Turn place ∷ [])
+                  (handled.turns ++ more)
+                  (turns_more traffic (since old now) s u said handled.turns more place holds.0 handled.holds.1),
+              hears more holds.1,
+            ))))
+
+        pub handled_keeps : then.count ≡ now.count → then.heard ≡ now.heard → IsNoTurn one → AnswersNoMore traffic s u
+            → AreHandled service (λ turns. Then true turns) before at
+        handled_keeps same quiet none keeps =
+            rw (same, more)
+            (handled_same before at (λ turns. AreKeptAtTurns may_wait traffic true old now turns s)
+            (λ turns. AreKept traffic old.count now.count turns u
+            × AreAtTurns traffic u.gone.items (since old now ++ one ∷ []) turns
+            × HeardBy true (since old now ++ one ∷ []) turns) handled
+            (λ turns holds. (
+              keeps.1 old.count now.count turns holds.0,
+              turns_then turns holds.1,
+              heard_still quiet none turns holds.2,
+            )))
+
+        pub handled_admits : (place : ℕ) (peer : P) → (traffic peer).number ≡ now.count → then.count ≡ now.count + 1
+            → then.heard ≡ now.heard → IsNoTurn one → Admits traffic place peer s u
+            → AreHandled service (λ turns. Then true turns) before at
+        handled_admits place peer number is quiet none admits =
+            rw (is, more)
+            (handled_same before at (λ turns. AreKeptAtTurns may_wait traffic true old now turns s)
+            (λ turns. AreKept traffic old.count (now.count + 1) turns u
+            × AreAtTurns traffic u.gone.items (since old now ++ one ∷ []) turns
+            × HeardBy true (since old now ++ one ∷ []) turns) handled
+            (λ turns holds. (
+              admits.1 old.count now.count turns number holds.0,
+              turns_then turns holds.1,
+              heard_still quiet none turns holds.2,
+            )))

@@ -2,6 +2,7 @@
 use Rattle.std.specs.Prelude.{◌≡◌, ◌⊎◌, ◌+◌, ℕ, Bool, true, false, List, [], ◌∷◌, ◌++◌, length, drop, map, All}
 use Rattle.http_server.specs.declared.log.Log.{Log}
 use Rattle.hall_http.specs.Peer.{Traffic, IsUntouched}
+use Rattle.hall_http.specs.declared.client.Step.{Step}
 use Rattle.hall_http.specs.declared.server.Next.{Next}
 use Rattle.hall_http.specs.declared.server.Next.TheVariants as next
 use Rattle.hall_http.specs.declared.server.ServeAllEnd.{ServeAllEnd}
@@ -15,12 +16,18 @@ Nexts P = List (Next P)
 abbrev pub logged : {P B : Type 0} → Log (Next P) B → Nexts P
 logged log = map (λ one. one.0) log.items
 
--- all that the sockets said was to be done, how many newcomers they have handed out, and how many connections they were
--- asked for
+-- All that the sockets said was to be done, how many newcomers they have handed out, and how many connections they were
+-- asked for. And all that they heard of turns, in order: the place, and how the connection there stands.
 pub record Said (P : Type 0) : Type 0 where
   pub nexts : Nexts P
   pub count : ℕ
   pub most : ℕ
+  pub heard : List (ℕ × Step)
+
+-- this was heard, and nothing was said meanwhile
+abbrev pub Hears : {P : Type 0} → ℕ × Step → Said P → Said P → Type 0
+Hears one old new =
+    (new.nexts ≡ old.nexts) × (new.count ≡ old.count) × (new.most ≡ old.most) × (new.heard ≡ old.heard ++ one ∷ [])
 
 -- what they said in the meantime
 abbrev pub since : {P : Type 0} → Said P → Said P → Nexts P

@@ -1,10 +1,12 @@
 -- All connections that came, and what each was told.
 use Rattle.std.specs.Prelude.{◌≡◌, ◌≢◌, ◌<◌, ◌≤◌, ◌+◌, ◌⊎◌, ⊤, ℕ, List, [], ◌∷◌, ◌++◌, All, Option, Some, None}
+use Rattle.std.specs.Prelude.{Bool, true, false}
 use Rattle.std.proofs.Common.{get_or}
 use Rattle.hall_http.specs.Answered.{IsUnavailable}
 use Rattle.hall_http.specs.Peer.{Traffic, IsOver, IsUntouched}
 use Rattle.hall_http.specs.Request.{ReachesStore}
-use Rattle.hall_http.specs.Turns.{Turn, Service, exchanges_of, of, IsConnectionTold, IsClient}
+use Rattle.hall_http.specs.Steps.{StandsRightly}
+use Rattle.hall_http.specs.Turns.{Turn, Service, exchanges_of, goes_on, of, IsConnectionTold, IsClient}
 use Rattle.hall_http.specs.Coming.{Nexts, Said, AreDone, since}
 use Rattle.hall_http.specs.declared.server.Next.TheVariants as next
 use Rattle.hall_http.specs.declared.server.Next.{Next}
@@ -15,6 +17,8 @@ use Rattle.hall_http.specs.Connection.{Exchange, AreMoments}
 use Rattle.hall_http.specs.Resting.{RestingSession}
 use Rattle.hall_http.specs.Serving.{AreAnsweredWhileOpen, LeavesRunOver, RunsOver}
 use Rattle.hall_http.specs.declared.client.Client.{Client}
+use Rattle.hall_http.specs.declared.client.Step.{Step}
+use Rattle.hall_http.specs.declared.client.Step.TheVariants as step
 use Rattle.hall_http.specs.declared.clients.Clients.{Clients}
 use Rattle.hall_http.specs.declared.clients.Departure.{Departure}
 use Rattle.hall_http.specs.declared.clients.Departure.TheVariants as departure
@@ -246,11 +250,59 @@ pub data AreAtTurns {P : Type 0} (traffic : P → Traffic) (gone : List (Past P)
       → IsFor traffic gone steps place number → All (λ turn. turn.0 ≡ number) more
       → AreAtTurns traffic gone (steps ++ next.Turn place ∷ []) (turns ++ more)
 
+-- How whoever is at the place stands, where others may be answered still: none is there, and that it is over is told;
+-- or one is, and it isn't told that it is over, and it stands as is told.
+abbrev pub StandsThere : {H P : Type 0} → (H → List ℕ → Type 0) → Clients P → H → ℕ × Step → Type 0
+StandsThere {H} {P} may_wait s h told =
+    (goes_on told.1 ≡ true)
+    × ((IsFree s told.0 × (told.1 ≡ step.Over))
+    ⊎ ((k : Client P) × IsAt s told.0 k × (told.1 ≢ step.Over) × StandsRightly may_wait k.connection h told.1))
+
+-- After these requests, and by what was done, each connection that came is kept, and so is told how one stands.
+pub record IsToldRightly {H P : Type 0} (may_wait : H → List ℕ → Type 0) (traffic : P → Traffic) (few : ℕ)
+    (steps : Nexts P) (turns : List Turn) (told : ℕ × Step) : Type 0 where
+  pub many : ℕ
+  pub clients : Clients P
+  pub responder : H
+  pub kept : AreKept traffic few many turns clients
+  pub said : AreAsSaid traffic steps clients
+  pub stands : StandsThere may_wait clients responder told
+
+-- nobody has a turn by this
+abbrev pub IsNoTurn : {P : Type 0} → Next P → Type 0
+IsNoTurn (next.Turn place) = ⊥
+IsNoTurn _ = Unit {0}
+
+-- While these things were done, and these requests answered, this was heard of the turns: after each of them, before
+-- anything else was done, how whoever is at its place stands then; but of the last turn nothing, where it ended all.
+pub data AreHeard {H P : Type 0} (may_wait : H → List ℕ → Type 0) (traffic : P → Traffic) (few : ℕ) :
+    Bool → Nexts P → List Turn → List (ℕ × Step) → Type 0 where
+  heard_first : AreHeard may_wait traffic few true [] [] []
+  heard_other : (steps : Nexts P) (turns : List Turn) (heard : List (ℕ × Step)) (one : Next P) → IsNoTurn one
+      → AreHeard may_wait traffic few true steps turns heard
+      → AreHeard may_wait traffic few true (steps ++ one ∷ []) turns heard
+  heard_turn : (steps : Nexts P) (turns more : List Turn) (heard : List (ℕ × Step)) (place : ℕ) (how : Step)
+      → AreHeard may_wait traffic few true steps turns heard
+      → IsToldRightly may_wait traffic few (steps ++ next.Turn place ∷ []) (turns ++ more) (place, how)
+      → AreHeard may_wait traffic few true (steps ++ next.Turn place ∷ []) (turns ++ more) (heard ++ (place, how) ∷ [])
+  heard_last : (steps : Nexts P) (turns more : List Turn) (heard : List (ℕ × Step)) (place : ℕ)
+      → AreHeard may_wait traffic few true steps turns heard
+      → AreHeard may_wait traffic few false (steps ++ next.Turn place ∷ []) (turns ++ more) heard
+
+-- so the sockets heard of the turns at which these requests were answered, in the meantime
+abbrev pub HaveHeard : {H P : Type 0} → (H → List ℕ → Type 0) → (P → Traffic) → Bool → Said P → Said P → List Turn
+    → Type 0
+HaveHeard may_wait traffic goes old new turns =
+    (heard : List (ℕ × Step)) × (new.heard ≡ old.heard ++ heard)
+    × AreHeard may_wait traffic old.count goes (since old new) turns heard
+
 -- so the connections stand after these requests, each of which was answered at a turn of its place, by what the sockets
--- said in the meantime
-abbrev pub AreKeptAtTurns : {P : Type 0} → (P → Traffic) → Said P → Said P → List Turn → Clients P → Type 0
-AreKeptAtTurns traffic old new turns s =
+-- said in the meantime, and after each turn they heard how it stands
+abbrev pub AreKeptAtTurns : {H P : Type 0} → (H → List ℕ → Type 0) → (P → Traffic) → Bool → Said P → Said P
+    → List Turn → Clients P → Type 0
+AreKeptAtTurns may_wait traffic goes old new turns s =
     AreKept traffic old.count new.count turns s × AreAtTurns traffic s.gone.items (since old new) turns
+    × HaveHeard may_wait traffic goes old new turns
 
 -- Each request that was answered is of one of the connections, of which no two have the same number. And of each
 -- connection what came spells its requests among these, and what it was sent is a first part of the replies to them.

@@ -1,5 +1,5 @@
 -- What the event loop was asked for, and what it said.
-use Rattle.std.specs.Prelude.{◌≡◌, ◌≢◌, ◌+◌, ℕ, Option, Some, None, [], ◌∷◌, ◌++◌, length}
+use Rattle.std.specs.Prelude.{◌≡◌, ◌≢◌, ◌+◌, ℕ, Option, Some, None, [], ◌∷◌, ◌++◌, length, map}
 use Rattle.std.specs.declared.net.socket_addr.SocketAddr.{SocketAddr}
 use Rattle.hall_http.specs.Coming.{IsFreshPeer, Said, logged, newcomer}
 use Rattle.hall_http.specs.Seats.{AreFresh, AreStill, LetsGo}
@@ -10,12 +10,13 @@ use Rattle.hall_http.specs.declared.server.Next.{Next}
 use Rattle.hall_http.specs.declared.server.Next.TheVariants as next
 use Rattle.hall_http.specs.declared.socket.Socket.{Socket}
 
--- all that was to be done, how many newcomers had a place, and how many may come
+-- all that was to be done, how many newcomers had a place, how many may come, and what was heard of turns
 abbrev pub said_by : {N E : Type 0} → EventLoop N E → Said Socket
 said_by sockets = record {
   nexts = logged sockets.nexts;
   count = length sockets.schedule.places.seated.items;
   most = sockets.schedule.places.most;
+  heard = map (λ one. one.0) sockets.heard.items;
 }
 
 -- a newcomer has the place that was given last, which was free; and else none was given
@@ -42,10 +43,12 @@ abbrev pub MayHandOut : Places → Option (Next Socket) → Places → Type 0
 MayHandOut old (Some said) new = HandsOut old said new × (said ≢ next.End)
 MayHandOut old None new = AreStill old new
 
--- it was to listen on the address for so many connections, may still let in all of them, and has said nothing yet
+-- it was to listen on the address for so many connections, may still let in all of them, and has said and heard nothing
+-- yet
 pub record IsFreshLoop {N E : Type 0} (address : SocketAddr) (connections : ℕ) (sockets : EventLoop N E) : Type 0 where
   pub asked : sockets.asked.items ≡ (address, connections) ∷ []
   pub places : AreFresh connections sockets.schedule.places
   pub nexts : (said_by sockets).nexts ≡ []
+  pub heard : (said_by sockets).heard ≡ []
   pub count : (said_by sockets).count ≡ 0
   pub most : (said_by sockets).most ≡ connections

@@ -7,6 +7,7 @@ ghost use Rattle.hall_http.specs.Peer.{IsUntouched};
 ghost use Rattle.hall_http.specs.Steps.{StandsRightly};
 ghost use Rattle.hall_http.specs.Turns.{IsClient, IsOverRightly, IsPlaceKept, IsPlaceTurned, goes_on, service_of};
 ghost use Rattle.hall_http.specs.declared.client.Client.{Client};
+ghost use Rattle.hall_http.specs.declared.client.Step.TheVariants as Step;
 
 use crate::client::{Client, Step};
 use crate::connection::Clock;
@@ -57,6 +58,7 @@ fn turn_at<P: Peer, H: Responder, C: Clock>(
         ((responder.old, true), clock.old) place.old ((responder.new, goes_on result), clock.new) place.new result }
     ensures stands { (k : Client P) → place.new ≡ Some k →
         StandsRightly H.may_wait k.connection responder.new result }
+    ensures none { place.new ≡ None → result ≡ Step.Over }
 {
     match place {
         Some(client) => client.turn(alloc, routes, responder, clock),
@@ -136,6 +138,7 @@ impl<P: Peer + Drop> Clients<P> {
         ensures over { (k : Client P) → IsAt self.new place k → IsOverRightly result (P.traffic k.peer) }
         ensures stands { (k : Client P) → IsAt self.new place k →
             StandsRightly H.may_wait k.connection responder.new result }
+        ensures none { IsFree self.new place → result ≡ Step.Over }
         ensures gone { self.new.gone ≡ self.old.gone }
     {
         if place >= self.places.len() {

@@ -71,6 +71,8 @@ pub struct EventLoop<'r, N, E> {
     asked: Log<SocketAddr, u64>,
     /// All that was to be done next, and the millisecond of the schedule.
     nexts: Log<Next<Socket>, u64>,
+    /// All that was heard of turns, and the millisecond of the schedule.
+    heard: Log<(usize, Step), u64>,
     /// Where it tells that writes are refused, and that they are taken again.
     journal: Option<Counted<E>>,
     refuses_writes: bool,
@@ -120,6 +122,7 @@ impl<'r, N: Net + AllocGlobal + time::Clock, E: Drop> EventLoop<'r, N, E> {
             schedule: Schedule::new(rt, address, connections)?,
             asked: Log::new().and(&address, &connections),
             nexts: Log::new(),
+            heard: Log::new(),
             journal,
             refuses_writes: false,
         })
@@ -149,6 +152,7 @@ impl<'r, N: time::Clock, E: Write> Sockets for EventLoop<'r, N, E> {
     }
 
     fn stands(&mut self, place: usize, step: Step) {
+        self.heard = self.heard.and(&(place, step), &self.schedule.now);
         self.schedule.stands(place, step);
     }
 

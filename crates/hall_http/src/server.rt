@@ -1,15 +1,17 @@
 //! Many connections at once: which of them goes a step is the sockets' choice, and what a step is isn't.
-ghost use Rattle.std.specs.Prelude.{◌≡◌, ◌+◌, [], ◌∷◌, ◌++◌, true, IfOk, OnErr};
+ghost use Rattle.std.specs.Prelude.{◌≡◌, ◌≢◌, ◌+◌, [], ◌∷◌, ◌++◌, true, IfOk, OnErr};
+ghost use Rattle.hall_http.specs.declared.client.Step.TheVariants as Step;
 ghost use Rattle.hall_http.specs.declared.server.ServeAllEnd.TheVariants as ServeAllEnd;
 ghost use Rattle.hall_http.specs.declared.server.Next.TheVariants as Next;
 ghost use Rattle.hall_desk.specs.Desk.{kept_by, SaneThen};
 ghost use Rattle.hall_desk.specs.Sane.{Sane};
 ghost use Rattle.hall_desk.specs.Promises.{HasUniqueSolutions, RightAnswersAreSolutions};
 ghost use Rattle.hall_http.specs.Crowd.{Admits, AreAsSaid, AreAtTurns, AreHandled, AreKept, AreKeptAtTurns, AreServed};
-ghost use Rattle.hall_http.specs.Crowd.{AreSomeKept, EndsServing, IsAt, MayLose, Receives, Serves};
+ghost use Rattle.hall_http.specs.Crowd.{AreSomeKept, EndsServing, HaveHeard, IsAt, IsFree, MayLose, Receives, Serves};
 ghost use Rattle.hall_http.specs.Peer.{IsUntouched};
 ghost use Rattle.hall_http.specs.declared.clients.Departure.TheVariants as Departure;
-ghost use Rattle.hall_http.specs.Coming.{AreDone, IsFreshPeer, Said, newcomer, since, stays_open};
+ghost use Rattle.hall_http.specs.Coming.{AreDone, Hears, IsFreshPeer, Said, newcomer, since, stays_open};
+ghost use Rattle.hall_http.specs.Serving.{WaitsForSearch};
 ghost use Rattle.hall_http.specs.Steps.{StandsRightly};
 ghost use Rattle.hall_http.specs.Turns.{goes_on, service_of};
 ghost use Rattle.hall_http.specs.declared.client.Client.{Client};
@@ -48,7 +50,7 @@ pub trait Sockets {
     ghost is_over: { Self → Type 0 };
 
     /// All that it said was to be done next, in order, how many newcomers it has handed out, and how many connections
-    /// it was asked for.
+    /// it was asked for; and all that it heard of turns, in order.
     ghost said: { Self → Said Self.Peer };
 
     /// Waits until something is to be done. A newcomer's number is how many there were before it.
@@ -57,11 +59,12 @@ pub trait Sockets {
         ensures count { (said self.new).count ≡ (said self.old).count + newcomer result }
         ensures nexts { (said self.new).nexts ≡ (said self.old).nexts ++ result ∷ [] }
         ensures most { (said self.new).most ≡ (said self.old).most }
+        ensures heard { (said self.new).heard ≡ (said self.old).heard }
         ensures over { result ≡ Next.End → is_over self.new };
 
     /// Hears how the connection at the place stands after its turn.
     fn stands(&mut self, place: usize, step: Step)
-        ensures { said self.new ≡ said self.old };
+        ensures { Hears (place, step) (said self.old) (said self.new) };
 
     /// Hears whether the store's device refused the last write.
     fn hear_of_writes(&mut self, refuses_writes: bool)
@@ -89,7 +92,9 @@ pub fn serve_all<S: Store, N: Sockets, C: Clock>(
 ) -> Result<(ServeAllEnd, Gone<N::Peer>), AllocError>
     ensures served { IfOk result (λ served. (all : AreServed S.content C.now_gives N.Peer.traffic served.0
         (kept_by desk.old, clock.old) (kept_by desk.new, clock.new) served.1.items)
-        × AreAtTurns N.Peer.traffic served.1.items (since (N.said sockets.old) (N.said sockets.new)) all.turns) }
+        × AreAtTurns N.Peer.traffic served.1.items (since (N.said sockets.old) (N.said sockets.new)) all.turns
+        × HaveHeard (WaitsForSearch S.content) N.Peer.traffic (stays_open served.0) (N.said sockets.old)
+        (N.said sockets.new) all.turns) }
     ensures ended { IfOk result (λ served. EndsServing N.is_over N.said N.Peer.traffic served.0
         sockets.old sockets.new served.1.items) }
     ensures memory { OnErr result ((desk.new ≡ desk.old) × (sockets.new ≡ sockets.old) × (clock.new ≡ clock.old)) }
@@ -115,7 +120,9 @@ fn serve_clients<S: Store, N: Sockets, C: Clock>(
     requires { AreKept N.Peer.traffic (N.said sockets.old).count (N.said sockets.old).count [] clients.old }
     ensures served { (all : AreServed S.content C.now_gives N.Peer.traffic result
         (kept_by desk.old, clock.old) (kept_by desk.new, clock.new) clients.new.gone.items)
-        × AreAtTurns N.Peer.traffic clients.new.gone.items (since (N.said sockets.old) (N.said sockets.new)) all.turns }
+        × AreAtTurns N.Peer.traffic clients.new.gone.items (since (N.said sockets.old) (N.said sockets.new)) all.turns
+        × HaveHeard (WaitsForSearch S.content) N.Peer.traffic (stays_open result) (N.said sockets.old)
+        (N.said sockets.new) all.turns }
     ensures ended { EndsServing N.is_over N.said N.Peer.traffic result
         sockets.old sockets.new clients.new.gone.items }
     ensures sane { SaneThen Sane (S.content (kept_by desk.old)) (S.content (kept_by desk.new)) }
@@ -140,7 +147,8 @@ fn handle_all<H: Responder, S: Sockets, C: Clock>(
     ensures over { result ≡ ServeAllEnd.Served → S.is_over sockets.new }
     ensures said { AreAsSaid S.Peer.traffic (since (S.said sockets.old) (S.said sockets.new)) clients.new }
     ensures handled { AreHandled (service_of H.answers H.goes_on H.rests C.now_gives)
-        (λ turns. AreKeptAtTurns S.Peer.traffic (S.said sockets.old) (S.said sockets.new) turns clients.new)
+        (λ turns. AreKeptAtTurns H.may_wait S.Peer.traffic (stays_open result) (S.said sockets.old) (S.said sockets.new)
+        turns clients.new)
         ((responder.old, true), clock.old) ((responder.new, stays_open result), clock.new) }
 {
     for _step in 0..u64::MAX {
@@ -189,7 +197,8 @@ fn visit<P: Peer + Drop, H: Responder, C: Clock>(
         ((responder.old, true), clock.old) clients.old ((responder.new, goes_on result), clock.new) clients.new }
     ensures lost { MayLose P.traffic Departure.Over place clients.old clients.new }
     ensures stands { (k : Client P) → IsAt clients.new place k →
-        StandsRightly H.may_wait k.connection responder.new result }
+        (result ≢ Step.Over) × StandsRightly H.may_wait k.connection responder.new result }
+    ensures over { IsFree clients.new place → goes_on result ≡ true → result ≡ Step.Over }
 {
     let step = clients.turn(alloc, routes, place, responder, clock);
     match step {

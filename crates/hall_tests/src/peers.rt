@@ -1,5 +1,5 @@
 //! Clients in memory, what they saw, and what lets them in and gives them turns.
-ghost use Rattle.std.specs.Prelude.{◌≡◌, ◌≤◌, [], ◌∷◌, ◌++◌, flat_map, length, take, drop};
+ghost use Rattle.std.specs.Prelude.{◌≡◌, ◌≤◌, [], ◌∷◌, ◌++◌, flat_map, length, map, take, drop};
 ghost use Rattle.hall_http.specs.Coming.{logged};
 ghost use Rattle.hall_http.specs.Outgoing.{outgoing_text};
 
@@ -217,6 +217,7 @@ pub(crate) struct Listed<'a> {
     /// Whether who had its turn has the next one too, as long as it can go on.
     is_stubborn: bool,
     nexts: Log<Next<Scripted<'a>>, usize>,
+    heard: Log<(usize, Step), u64>,
     seated: Log<usize, u64>,
 }
 
@@ -234,6 +235,7 @@ impl<'a> Listed<'a> {
             turns,
             is_stubborn,
             nexts: Log::new(),
+            heard: Log::new(),
             seated: Log::new(),
         }
     }
@@ -242,6 +244,7 @@ impl<'a> Listed<'a> {
     fn noted(&mut self, next: Next<Scripted<'a>>) -> Next<Scripted<'a>>
         ensures same { result ≡ next.entry }
         ensures noted { logged self.new.nexts ≡ logged self.old.nexts ++ next.entry ∷ [] }
+        ensures heard { self.new.heard ≡ self.old.heard }
         ensures seated { self.new.seated ≡ self.old.seated }
     {
         self.nexts = self.nexts.and(&next, &self.count);
@@ -258,6 +261,7 @@ impl<'a> Sockets for Listed<'a> {
       nexts = logged sockets.nexts;
       count = length sockets.seated.items;
       most = 0;
+      heard = map (λ one. one.0) sockets.heard.items;
     } };
 
     fn next(&mut self) -> Next<Scripted<'a>> {
@@ -288,6 +292,7 @@ impl<'a> Sockets for Listed<'a> {
     }
 
     fn stands(&mut self, place: usize, step: Step) {
+        self.heard = self.heard.and(&(place, step), &self.turns);
         let _ = match step {
             Step::Over => Ok(()),
             Step::Again if self.is_stubborn => self.here.push_front(place),

@@ -1,5 +1,5 @@
 //! Connections over sockets.
-ghost use Rattle.std.specs.Prelude.{◌≡◌, [], ◌∷◌, ◌++◌};
+ghost use Rattle.std.specs.Prelude.{◌≡◌, [], ◌∷◌, ◌++◌, map};
 ghost use Rattle.hall_http.specs.Coming.{logged};
 ghost use Rattle.hall_http.specs.EventLoop.{said_by};
 
@@ -21,6 +21,7 @@ struct Brief<'r> {
     inner: EventLoop<'r, HostRuntime, Stderr>,
     has_gone: bool,
     nexts: Log<Next<Socket>, bool>,
+    heard: Log<(usize, Step), bool>,
 }
 
 impl<'r> Brief<'r> {
@@ -28,6 +29,7 @@ impl<'r> Brief<'r> {
     fn noted(&mut self, next: Next<Socket>) -> Next<Socket>
         ensures same { result ≡ next }
         ensures noted { logged self.new.nexts ≡ logged self.old.nexts ++ next ∷ [] }
+        ensures heard { self.new.heard ≡ self.old.heard }
         ensures inner { self.new.inner ≡ self.old.inner }
     {
         self.has_gone = self.has_gone || matches!(&next, Next::Gone(_));
@@ -45,6 +47,7 @@ impl<'r> Sockets for Brief<'r> {
       nexts = logged sockets.nexts;
       count = (said_by sockets.inner).count;
       most = (said_by sockets.inner).most;
+      heard = map (λ one. one.0) sockets.heard.items;
     } };
 
     fn next(&mut self) -> Next<Socket> {
@@ -57,6 +60,7 @@ impl<'r> Sockets for Brief<'r> {
 
     fn stands(&mut self, place: usize, step: Step) {
         self.has_gone = matches!(step, Step::Over);
+        self.heard = self.heard.and(&(place, step), &self.has_gone);
         self.inner.stands(place, step);
     }
 
@@ -76,6 +80,7 @@ fn last_answered<S: Store>(
         inner: EventLoop::new(rt, address, 100, None)?,
         has_gone: false,
         nexts: Log::new(),
+        heard: Log::new(),
     };
     let mut connected = Vec::new(rt.alloc());
     for sent in clients {

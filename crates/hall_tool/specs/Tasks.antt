@@ -4,8 +4,9 @@ use Rattle.std.specs.Prelude.{◌≡◌, ◌⊎◌, ℕ, List, Option, Some, Non
 use Rattle.hall_store.specs.Store.{Content, Kept}
 use Rattle.hall_desk.specs.Census.{census_of}
 use Rattle.hall_desk.specs.declared.census.Census.{Census}
-use Rattle.hall_http.specs.Coming.{since}
-use Rattle.hall_http.specs.Crowd.{AreAtTurns, AreServed, EndsServing, Past}
+use Rattle.hall_http.specs.Coming.{since, stays_open}
+use Rattle.hall_http.specs.Crowd.{AreAtTurns, AreServed, EndsServing, HaveHeard, Past}
+use Rattle.hall_http.specs.Serving.{WaitsForSearch}
 use Rattle.hall_http.specs.declared.server.ServeAllEnd.{ServeAllEnd}
 use Rattle.hall_http.specs.declared.server.ServeAllEnd.TheVariants as end
 use Rattle.hall_tool.specs.InitText.{IsInitRun}
@@ -82,7 +83,9 @@ DoesServe {N} {L} {C} {P} {S} h content offered before after result =
     × h.host.tells listening offered.port offered.path census told × h.host.shows told clock
     × (((left : L) × (late : C) × (gone : List (Past P)) × (e : ServeAllEnd)
     × ((all : AreServed content h.clock.now_gives h.peer.traffic e (later, clock) (after.stand.kept, late) gone)
-    × AreAtTurns h.peer.traffic gone (since (h.sockets.said sockets) (h.sockets.said left)) all.turns)
+    × AreAtTurns h.peer.traffic gone (since (h.sockets.said sockets) (h.sockets.said left)) all.turns
+    × HaveHeard (WaitsForSearch content) h.peer.traffic (stays_open e) (h.sockets.said sockets) (h.sockets.said left)
+    all.turns)
     × EndsServing h.sockets.is_over h.sockets.said h.peer.traffic e sockets left gone
     × h.host.ends told left gone after.host × (result ≡ serve_end e))
     ⊎ ((after.host ≡ told) × (after.stand.kept ≡ later) × (result ≡ Err (Tool Memory)))))

@@ -13,3 +13,6 @@ returns-in-Some-clause-stands g c = λ k is.
     (λ (k : Client g.row.P.Denot).
     StandsRightly g.H.Responder.may_wait k.connection c.turn.new.responder c.turn.result)
     (same_Some _ _ is) c.turn.ensures.stands
+
+pub returns-in-Some-clause-none : goal.returns-in-Some-clause-none
+returns-in-Some-clause-none g c = λ none. let clash = none in absurd cc

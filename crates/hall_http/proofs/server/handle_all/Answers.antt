@@ -1,19 +1,21 @@
-use Rattle.std.proofs.Common.{◌≡◌, ◌∙◌, ap, refl, arith, inl, true, false}
+use Rattle.std.proofs.Common.{◌≡◌, ◌∙◌, ap, refl, arith, inl, true, false, ℕ, List, [], ◌∷◌, ◌++◌}
 use Rattle.hall_http.specs.Coming.{Said}
 use Rattle.hall_http.specs.Turns.{goes_on}
+use Rattle.hall_http.specs.declared.client.Step.{Step}
 use Rattle.hall_http.specs.declared.clients.Departure.TheVariants as departure
 use Rattle.hall_http.specs.declared.server.Next.TheVariants as next
 use Rattle.hall_http.specs.declared.server.ServeAllEnd.TheVariants as end
 use Rattle.hall_http.proofs.Comings.{done_start, done_step, done_turn, done_last, done_all, same_count, since_more}
 use Rattle.hall_http.proofs.SoFar.{grows_none, handled_start, handled_turn, handled_keeps, handled_admits, keeps_all}
-use Rattle.hall_http.proofs.SoFar.{loses_grows, receives_grows, still_same}
+use Rattle.hall_http.proofs.SoFar.{hears_last, hears_turn, loses_grows, receives_grows, stands_there, still_same, turn_said}
 use Rattle.hall_http.proofs.SoFar.{said_comes, said_gone, said_none, said_still, said_turn}
 use Rattle.hall_http.proofs.server.handle_all.Goals as goal
 use Rattle.hall_http.proofs.server.handle_all.Goals.{in-Newcomer, in-Turn+else-not-goes_on, in-Gone}
 
 pub loop-step-init : goal.loop-step-init
 loop-step-init g c = record {
-  so_far = handled_start _ g.S.Peer.Peer.traffic _ (g.S.Sockets.said c.args.sockets.now) _ c.requires;
+  so_far = handled_start _ g.S.Peer.Peer.traffic g.H.Responder.may_wait _ (g.S.Sockets.said c.args.sockets.now) _
+      c.requires;
   said = said_none g.S.Peer.Peer.traffic _ _ _ _ c.requires;
   done = done_start g.S.Peer.Peer.traffic _;
 }
@@ -39,31 +41,43 @@ loop-step-preserved g c =
           let more = since_more g.S.Peer.Peer.traffic old now _ done one then w.in-Newcomer.ensures.nexts in
           let clients = w.let_in.new.clients in
           rw (w.clients-is, w.responder-is, w.clock-is, w.sockets-is) (record {
-            so_far = handled_admits _ g.S.Peer.Peer.traffic old now _ _ _ so_far then one more clients
+            so_far = handled_admits _ g.S.Peer.Peer.traffic g.H.Responder.may_wait old now _ _ _ so_far then one more clients
                 (receives_grows g.S.Peer.Peer.traffic place w.in-Newcomer.peer c.loop-step.clients clients w.let_in.ensures.receives) place
-                w.in-Newcomer.peer w.in-Newcomer.ensures.fresh.0 w.in-Newcomer.ensures.count w.let_in.ensures.admits;
+                w.in-Newcomer.peer w.in-Newcomer.ensures.fresh.0 w.in-Newcomer.ensures.count w.in-Newcomer.ensures.heard
+                tt w.let_in.ensures.admits;
             said = said_comes g.S.Peer.Peer.traffic old now c.loop-step.clients then one more said clients place
                 w.in-Newcomer.peer refl w.let_in.ensures.admits.0 w.let_in.ensures.receives;
             done = done_step g.S.Peer.Peer.traffic old now _ done one then w.in-Newcomer.ensures.fresh
                 w.in-Newcomer.ensures.count w.in-Newcomer.ensures.nexts w.in-Newcomer.ensures.most tt;
           })
       | in-Turn+else-not-goes_on w ↦
-          let told = w.goes_on.ensures in
+          let is_told = w.goes_on.ensures in
           let stays = w.if-not-goes_on.false in
           let on : goes_on w.visit-step.result ≡ true = cc in
-          let same = w.hear_of_writes.ensures ∙ w.stands.ensures in
-          let count = ap (λ (s : Said g.row.S-Peer.Denot). s.count) same ∙ w.in-Turn.ensures.count in
-          let nexts = ap (λ (s : Said g.row.S-Peer.Denot). s.nexts) same ∙ w.in-Turn.ensures.nexts in
-          let most = ap (λ (s : Said g.row.S-Peer.Denot). s.most) same ∙ w.in-Turn.ensures.most in
+          let wrote = w.hear_of_writes.ensures in
+          let told = w.stands.ensures in
+          let nexts = ap (λ (s : Said g.row.S-Peer.Denot). s.nexts) wrote ∙ told.0 ∙ w.in-Turn.ensures.nexts in
+          let count = ap (λ (s : Said g.row.S-Peer.Denot). s.count) wrote ∙ told.1 ∙ w.in-Turn.ensures.count in
+          let most = ap (λ (s : Said g.row.S-Peer.Denot). s.most) wrote ∙ told.2 ∙ w.in-Turn.ensures.most in
           let later = g.S.Sockets.said w.hear_of_writes.new.self in
           let place = w.in-Turn.place in
+          let how = w.visit-step.result in
+          let heard = ap (λ (s : Said g.row.S-Peer.Denot). s.heard) wrote ∙ told.3
+          ∙ ap (λ (all : List (ℕ × Step)). all ++ (place, how) ∷ []) w.in-Turn.ensures.heard in
           let one = next.Turn place in
           let more = since_more g.S.Peer.Peer.traffic old now _ done one later nexts in
           let clients = w.visit-step.new.clients in
+          let grows = loses_grows g.S.Peer.Peer.traffic departure.Over place c.loop-step.clients clients
+          w.visit-step.ensures.lost in
           rw (w.clients-is, w.responder-is, w.clock-is, w.sockets-is) (record {
-            so_far = handled_turn _ g.S.Peer.Peer.traffic old now _ _ _ so_far later one more clients
-                (loses_grows g.S.Peer.Peer.traffic departure.Over place c.loop-step.clients clients
-                w.visit-step.ensures.lost) _ place refl (count ∙ same_count _) said (rw on at w.visit-step.ensures.serves);
+            so_far = handled_turn _ g.S.Peer.Peer.traffic g.H.Responder.may_wait old now _ _ _ so_far later one more clients
+                grows true _ place refl (count ∙ same_count _) said (rw on at w.visit-step.ensures.serves)
+                (hears_turn _ g.S.Peer.Peer.traffic g.H.Responder.may_wait old now _ _ _ so_far later one more clients
+                grows place how heard w.visit-step.new.responder
+                (stands_there g.S.Peer.Peer.traffic g.H.Responder.may_wait clients w.visit-step.new.responder place how on
+                w.visit-step.ensures.stands (λ free. w.visit-step.ensures.over free on))
+                (turn_said g.S.Peer.Peer.traffic _ c.loop-step.clients clients said place w.visit-step.ensures.serves.0
+                w.visit-step.ensures.lost));
             said = said_turn g.S.Peer.Peer.traffic old now c.loop-step.clients later one more said clients place refl
                 w.visit-step.ensures.serves.0 w.visit-step.ensures.lost;
             done = done_step g.S.Peer.Peer.traffic old now _ done one later tt count nexts most tt;
@@ -74,9 +88,10 @@ loop-step-preserved g c =
           let more = since_more g.S.Peer.Peer.traffic old now _ done one then w.in-Gone.ensures.nexts in
           let clients = w.forget.new.self in
           rw (w.clients-is, w.responder-is, w.clock-is, w.sockets-is) (record {
-            so_far = handled_keeps _ g.S.Peer.Peer.traffic old now _ _ _ so_far then one more clients
+            so_far = handled_keeps _ g.S.Peer.Peer.traffic g.H.Responder.may_wait old now _ _ _ so_far then one more clients
                 (loses_grows g.S.Peer.Peer.traffic departure.LetGo place c.loop-step.clients clients
-                w.forget.ensures.lost) (w.in-Gone.ensures.count ∙ same_count _) w.forget.ensures.kept;
+                w.forget.ensures.lost) (w.in-Gone.ensures.count ∙ same_count _) w.in-Gone.ensures.heard tt
+                w.forget.ensures.kept;
             said = said_gone g.S.Peer.Peer.traffic old now c.loop-step.clients then one more said clients place refl
                 w.forget.ensures.kept.0 w.forget.ensures.none w.forget.ensures.lost;
             done = done_step g.S.Peer.Peer.traffic old now _ done one then tt w.in-Gone.ensures.count
@@ -89,18 +104,21 @@ returns-in-End-clause-handled g c =
     let old = g.S.Sockets.said c.args.sockets.now in
     let now = g.S.Sockets.said c.loop-step.sockets in
     let then = g.S.Sockets.said c.next.new.self in
-    handled_keeps _ g.S.Peer.Peer.traffic old now _ _ _ c.loop-step.invariant.so_far then next.End
+    handled_keeps _ g.S.Peer.Peer.traffic g.H.Responder.may_wait old now _ _ _ c.loop-step.invariant.so_far then
+    next.End
     (since_more g.S.Peer.Peer.traffic old now _ c.loop-step.invariant.done next.End then c.in-End.ensures.nexts) _
-    (grows_none g.S.Peer.Peer.traffic _) (c.in-End.ensures.count ∙ same_count _) (keeps_all g.S.Peer.Peer.traffic _)
+    (grows_none g.S.Peer.Peer.traffic _) (c.in-End.ensures.count ∙ same_count _) c.in-End.ensures.heard tt
+    (keeps_all g.S.Peer.Peer.traffic _)
 
 pub returns-in-Refused-clause-handled : goal.returns-in-Refused-clause-handled
 returns-in-Refused-clause-handled g c =
     let old = g.S.Sockets.said c.args.sockets.now in
     let now = g.S.Sockets.said c.loop-step.sockets in
     let then = g.S.Sockets.said c.next.new.self in
-    handled_keeps _ g.S.Peer.Peer.traffic old now _ _ _ c.loop-step.invariant.so_far then next.Refused
+    handled_keeps _ g.S.Peer.Peer.traffic g.H.Responder.may_wait old now _ _ _ c.loop-step.invariant.so_far then
+    next.Refused
     (since_more g.S.Peer.Peer.traffic old now _ c.loop-step.invariant.done next.Refused then c.in-Refused.ensures.nexts) _
-    (grows_none g.S.Peer.Peer.traffic _) (c.in-Refused.ensures.count ∙ same_count _)
+    (grows_none g.S.Peer.Peer.traffic _) (c.in-Refused.ensures.count ∙ same_count _) c.in-Refused.ensures.heard tt
     (keeps_all g.S.Peer.Peer.traffic _)
 
 pub returns-then-not-goes_on-clause-handled : goal.returns-then-not-goes_on-clause-handled
@@ -112,10 +130,15 @@ returns-then-not-goes_on-clause-handled g c =
     let now = g.S.Sockets.said c.loop-step.sockets in
     let then = g.S.Sockets.said c.next.new.self in
     let one = next.Turn c.in-Turn.place in
-    handled_turn _ g.S.Peer.Peer.traffic old now _ _ _ c.loop-step.invariant.so_far then one
-    (since_more g.S.Peer.Peer.traffic old now _ c.loop-step.invariant.done one then c.in-Turn.ensures.nexts) _
-    (loses_grows g.S.Peer.Peer.traffic departure.Over c.in-Turn.place c.loop-step.clients c.visit-step.new.clients
-    c.visit-step.ensures.lost) _ c.in-Turn.place refl (c.in-Turn.ensures.count ∙ same_count _) c.loop-step.invariant.said (rw off at c.visit-step.ensures.serves)
+    let more = since_more g.S.Peer.Peer.traffic old now _ c.loop-step.invariant.done one then c.in-Turn.ensures.nexts in
+    let clients = c.visit-step.new.clients in
+    let grows = loses_grows g.S.Peer.Peer.traffic departure.Over c.in-Turn.place c.loop-step.clients clients
+    c.visit-step.ensures.lost in
+    handled_turn _ g.S.Peer.Peer.traffic g.H.Responder.may_wait old now _ _ _ c.loop-step.invariant.so_far then one more
+    clients grows false _ c.in-Turn.place refl (c.in-Turn.ensures.count ∙ same_count _) c.loop-step.invariant.said
+    (rw off at c.visit-step.ensures.serves)
+    (hears_last _ g.S.Peer.Peer.traffic g.H.Responder.may_wait old now _ _ _ c.loop-step.invariant.so_far then one more
+    clients grows c.in-Turn.ensures.heard c.in-Turn.place)
 
 pub returns-clause-handled : goal.returns-clause-handled
 returns-clause-handled g c = c.loop-step.invariant.so_far

@@ -1,4 +1,6 @@
-use Rattle.std.proofs.Common.{◌∙◌, sym}
+use Rattle.std.proofs.Common.{◌≡◌, ◌∙◌, ap, sym, true, false}
+use Rattle.hall_http.specs.Turns.{goes_on}
+use Rattle.hall_http.specs.declared.client.Step.{Step}
 use Rattle.hall_http.specs.declared.clients.Departure.TheVariants as departure
 use Rattle.hall_http.proofs.SoFar.{loses_before, loses_none, serves_kept, serves_then}
 use Rattle.hall_http.proofs.server.visit.Goals as goal
@@ -35,3 +37,23 @@ returns-in_default-clause-lost g c =
 
 pub returns-in-Over-clause-stands : goal.returns-in-Over-clause-stands
 returns-in-Over-clause-stands g c = λ k at. let clash = sym c.forget.ensures.none ∙ at in absurd cc
+
+pub returns-in-Over-clause-over : goal.returns-in-Over-clause-over
+returns-in-Over-clause-over g c = λ free goes. c.in-Over.is
+
+pub returns-in-Shut-clause-stands : goal.returns-in-Shut-clause-stands
+returns-in-Shut-clause-stands g c = λ k at. (
+  λ same. let clash = sym c.in-Shut.is ∙ same in absurd cc,
+  rw c.in-Shut.is tt,
+)
+
+pub returns-in-Shut-clause-over : goal.returns-in-Shut-clause-over
+returns-in-Shut-clause-over g c = λ free goes.
+    let clash : true ≡ false = sym goes ∙ ap (λ (s : Step). goes_on s) c.in-Shut.is in
+    absurd cc
+
+pub returns-in_default-clause-stands : goal.returns-in_default-clause-stands
+returns-in_default-clause-stands g c = λ k at. (c.in_default.not-Over, c.turn-step.ensures.stands k at)
+
+pub returns-in_default-clause-over : goal.returns-in_default-clause-over
+returns-in_default-clause-over g c = λ free goes. c.turn-step.ensures.none free

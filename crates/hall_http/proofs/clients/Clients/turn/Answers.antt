@@ -1,4 +1,4 @@
-use Rattle.std.proofs.Common.{◌∙◌, arith, ◌<◌, ◌≤◌, None, Some, length, sym}
+use Rattle.std.proofs.Common.{◌∙◌, arith, ◌<◌, ◌≤◌, None, Some, length, refl, sym}
 use Rattle.std.proofs.lemmas.List.{get_or_past}
 use Rattle.hall_http.proofs.Crowds.{serves_none, turn_over, turn_place}
 use Rattle.hall_http.proofs.Numbers.{is_there, read_at}
@@ -47,3 +47,13 @@ returns-clause-stands g c =
     omega (arith, c.if-place-len.false, c.len.ensures, c.args.self.now.places.ok.0) in
     λ k at.
     c.turn_at.ensures.stands k (sym (is_there c.args.self.now.places.items c.args.place c.turn_at.new.place inside) ∙ at)
+
+pub returns-then-place-len-clause-none : goal.returns-then-place-len-clause-none
+returns-then-place-len-clause-none g c = λ free. refl
+
+pub returns-clause-none : goal.returns-clause-none
+returns-clause-none g c =
+    let inside : c.args.place < length c.args.self.now.places.items =
+    omega (arith, c.if-place-len.false, c.len.ensures, c.args.self.now.places.ok.0) in
+    λ free.
+    c.turn_at.ensures.none (sym (is_there c.args.self.now.places.items c.args.place c.turn_at.new.place inside) ∙ free)
