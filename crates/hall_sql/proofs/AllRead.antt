@@ -1,5 +1,5 @@
 -- Tables of which each row is a record: what is asked of them, what one row more leaves, and tables with no row.
-use Rattle.std.proofs.Common.{◌≡◌, ◌≢◌, ◌==◌, ◌++◌, inl, inr, ℕ, List, [], ◌∷◌, map, flat_map, true, is_some, option_to_list, Option, Some, None, IsTrue, refl, sym, ap, subst, ◌∙◌}
+use Rattle.std.proofs.Common.{◌≡◌, ◌≢◌, ◌⊎◌, ◌==◌, ◌++◌, inl, inr, ℕ, List, [], ◌∷◌, map, flat_map, true, is_some, option_to_list, Option, Some, None, IsTrue, refl, sym, ap, subst, ◌∙◌}
 use Rattle.std.proofs.lemmas.Bool.{cases_Bool}
 use Rattle.std.specs.Cmp.{IsTotalOrder}
 use Rattle.std.specs.FinMap.{empty, from_entries, get, get-empty, get-from_entries}
@@ -29,6 +29,7 @@ use Rattle.hall_policy.specs.declared.record.AnswerRow.{AnswerRow}
 use Rattle.hall_policy.specs.declared.record.ProtestRow.{ProtestRow}
 use Rattle.hall_store.specs.Maps.{empty_world}
 use Rattle.hall_sql.specs.AllRead.{AreAllRead, IsRead, StaysRead, is_record}
+use Rattle.hall_sql.specs.Cause.{IsStoreCause, ReadFails}
 use Rattle.hall_sql.specs.Rows.{answer_in, answer_of_row, columns_from, entry, kept, person_in, person_of_row, place_in}
 use Rattle.hall_sql.specs.Rows.{place_of_row, protest_in, protest_of_row, puzzle_row_in, puzzle_of_row, round_in}
 use Rattle.hall_sql.specs.Rows.{round_of_row, tester_in, tester_of_row, world_of}
@@ -54,6 +55,7 @@ use Rattle.hall_sql.proofs.RoundQueries.{all_places_are}
 use Rattle.hall_sql.proofs.RoundTexts.{all_rounds_are}
 use Rattle.hall_sql.proofs.SparedLemmas.{own_key}
 use Rattle.hall_sql.proofs.TesterTexts.{all_testers_are}
+use Rattle.hall_sql.proofs.UnreadRows.{some_unread}
 use Rattle.hall_sql.proofs.Versions.{AsksAll}
 
 -- ---- what is asked of them
@@ -112,6 +114,11 @@ module _ {Fits : Schema → Type 0} {text : List ℕ} {tree : ℕ} {project : Li
   read_all : AreRecords read text [] old new → IsRead old.now.trees tree
   read_all it = to_table it.rows it.shown (all_some read it.rows it.records it.reads)
 
+  -- where it fails, the cause lies in the store, or a row of the table is no record
+  read_fails : ReadFails read text [] old new → IsStoreCause old new ⊎ (¬ IsRead old.now.trees tree)
+  read_fails (inl cause) = inl cause
+  read_fails (inr it) = inr (λ each. some_unread read it.0 it.2 (from_table it.0 it.1 each))
+
 module _ (old new : State) (clean : HasCleanDisk old) where
   pub people_read : IsAnyHall old → AreRecords person_in ALL_PEOPLE.now [] old new → IsRead old.now.trees 0
   people_read hall = read_all all_people_are person_in 3 (λ db. refl) (λ r. refl) (λ r. refl) old new hall clean
@@ -134,6 +141,27 @@ module _ (old new : State) (clean : HasCleanDisk old) where
   pub testers_read : IsOver IsHallSchema old → AreRecords tester_in ALL_TESTERS.now [] old new → IsRead old.now.trees 14
   testers_read hall =
       read_all all_testers_are tester_in 2 (λ db. refl) (λ r. refl) (λ r. refl) old new hall clean
+
+  pub people_fails : IsAnyHall old → ReadFails person_in ALL_PEOPLE.now [] old new → IsStoreCause old new ⊎ (¬ IsRead old.now.trees 0)
+  people_fails hall = read_fails all_people_are person_in 3 (λ db. refl) (λ r. refl) (λ r. refl) old new hall clean
+
+  pub puzzles_fails : IsAnyHall old → ReadFails puzzle_row_in ALL_PUZZLES.now [] old new → IsStoreCause old new ⊎ (¬ IsRead old.now.trees 3)
+  puzzles_fails hall = read_fails all_puzzles_are puzzle_row_in 5 (λ db. refl) (λ r. refl) (λ r. refl) old new hall clean
+
+  pub rounds_fails : IsAnyHall old → ReadFails round_in ALL_ROUNDS.now [] old new → IsStoreCause old new ⊎ (¬ IsRead old.now.trees 5)
+  rounds_fails hall = read_fails all_rounds_are round_in 10 (λ db. refl) (λ r. refl) (λ r. refl) old new hall clean
+
+  pub places_fails : IsAnyHall old → ReadFails place_in ALL_PLACES.now [] old new → IsStoreCause old new ⊎ (¬ IsRead old.now.trees 7)
+  places_fails hall = read_fails all_places_are place_in 5 (λ db. refl) (λ r. refl) (λ r. refl) old new hall clean
+
+  pub answers_fails : IsAnyHall old → ReadFails answer_in ALL_ANSWERS.now [] old new → IsStoreCause old new ⊎ (¬ IsRead old.now.trees 9)
+  answers_fails hall = read_fails all_answers_are answer_in 8 (λ db. refl) (λ r. refl) (λ r. refl) old new hall clean
+
+  pub protests_fails : IsAnyHall old → ReadFails protest_in ALL_PROTESTS.now [] old new → IsStoreCause old new ⊎ (¬ IsRead old.now.trees 12)
+  protests_fails hall = read_fails all_protests_are protest_in 7 (λ db. refl) (λ r. refl) (λ r. refl) old new hall clean
+
+  pub testers_fails : IsOver IsHallSchema old → ReadFails tester_in ALL_TESTERS.now [] old new → IsStoreCause old new ⊎ (¬ IsRead old.now.trees 14)
+  testers_fails hall = read_fails all_testers_are tester_in 2 (λ db. refl) (λ r. refl) (λ r. refl) old new hall clean
 
 -- a table that rests was read before, where it is
 pub read_before : (tree : ℕ) (old new : State) → IsAnyHall old → KeptAnyTables old new → HasCleanDisk new → IsTrue new.is_open

@@ -1,32 +1,36 @@
 -- The rows of a table that are no record: what is asked for, and what its answer tells of them.
-use Rattle.std.proofs.Common.{◌≡◌, ◌++◌, inl, IsTrue, arith, ℕ, ℤ, List, [], ◌∷◌, codes, map, filter, not, Bool, true, false, cond, is_some, length, Option, refl, sym, ap, subst, ◌∙◌}
+use Rattle.std.proofs.Common.{◌≡◌, ◌++◌, inl, inr, IsTrue, arith, ℕ, ℤ, List, [], ◌∷◌, codes, map, filter, not, Bool, true, false, cond, is_some, length, Option, refl, sym, ap, subst, ◌∙◌}
 use Rattle.std.proofs.lemmas.List.{length-map}
 use Rattle.std.proofs.lemmas.List.Sorted.{length_permutation}
 use Rattle.std.specs.List.{AllByRecursion, AllZip}
 use Rattle.std.specs.List.Sorted.{IsPermutation}
 use Rattle.sqlite_tied.specs.Compute.{everything}
-use Rattle.sqlite_trees.proofs.ListLemmas.{IsPermutation-filter, all_of, filter-map, filter_all, map-map}
+use Rattle.sqlite_trees.proofs.ListLemmas.{IsPermutation-filter, all-map, all-permutation, all_of, all_weaker, filter-map, filter_all, map-map}
 use Rattle.sqlite_trees.specs.Tree.{rowid}
+use Rattle.sqlite_trees.specs.View.{is_int}
 use Rattle.sqlite_value.specs.Order.{column}
 use Rattle.sqlite_value.specs.declared.keys.Key.{Key}
-use Rattle.sqlite.specs.declared.types.Value.TheVariants.{Int}
+use Rattle.sqlite.specs.declared.types.Value.{Value}
+use Rattle.sqlite.specs.declared.types.Value.TheVariants.{Null, Int, Real, Text, Blob}
 use Rattle.sqlite.specs.Effect.{Database}
 use Rattle.sqlite.specs.Listing.{understood}
 use Rattle.sqlite.specs.Order.{Row}
 use Rattle.sqlite.specs.Program.{overlay}
 use Rattle.sqlite.specs.Schema.{Schema}
-use Rattle.sqlite.specs.State.{State, HasCleanDisk}
+use Rattle.sqlite.specs.State.{State, HasCleanDisk, Shown}
 use Rattle.sqlite.specs.Term.{Term, col, eval_all}
 use Rattle.sqlite.specs.Tree.{Trees}
 use Rattle.hall_sql.specs.AllRead.{AreAllRead, IsRead, is_record}
 use Rattle.hall_sql.specs.Asked.{IsAskedIn}
-use Rattle.hall_sql.specs.BadRows.{AreAllBad, AreBadIn, AreBadRows, AreFoundBad, AreNone, AreToldBad, no_records}
+use Rattle.hall_sql.specs.BadRows.{AreAllBad, AreBadIn, AreBadRows, AreFoundBad, AreNone, AreToldBad, no_records, rowid_in}
+use Rattle.hall_sql.specs.Cause.{IsAnyUnread, IsStoreCause, ReadFails}
 use Rattle.hall_sql.specs.Made.{all_tables, old_tables}
 use Rattle.hall_sql.specs.Rows.{answer_in, person_in, place_in, protest_in, puzzle_row_in, round_in, tester_in}
 use Rattle.hall_sql.specs.Scan.{Serves, tree_of}
-use Rattle.hall_sql.specs.Standing.{IsOver, IsSelection, KeptAnyTables, KeptTablesIn}
+use Rattle.hall_sql.specs.Standing.{AreKeyed, AreKeyedIn, IsOver, IsSelection, KeptAnyTables, KeptTablesIn}
 use Rattle.hall_sql.specs.Statements.{names_of, plain_query}
 use Rattle.hall_sql.specs.Tables.{IsHallSchema, IsLike, hall_schema, old_schema}
+use Rattle.hall_sql.specs.Values.{int_in}
 use Rattle.hall_sql.specs.Versions.{HasTable, IsVersion}
 use Rattle.hall_sql.specs.declared.bad_rows.TheConstants.{ANSWERS_ROWS, PEOPLE_ROWS, PLACES_ROWS, PROTESTS_ROWS, PUZZLES_ROWS, ROUNDS_ROWS, TESTERS_ROWS}
 use Rattle.hall_sql.specs.declared.bad_rows.BadRows.{BadRows}
@@ -35,8 +39,9 @@ use Rattle.hall_sql.specs.declared.tables.HallTable.TheVariants.{People, Puzzles
 use Rattle.hall_sql.proofs.CallLemmas.{answers_selection, shown_was_open}
 use Rattle.hall_sql.proofs.ScanLemmas.{by_rowid}
 use Rattle.hall_sql.proofs.ValueLemmas.{no_more}
-use Rattle.hall_sql.proofs.Versions.{AsksAll, asked_all, by_version}
-use Rattle.hall_sql.proofs.Wordings.{by_hall}
+use Rattle.hall_sql.proofs.UnreadRows.{some_unread}
+use Rattle.hall_sql.proofs.Versions.{AsksAll, asked_all, by_version, keyed_in}
+use Rattle.hall_sql.proofs.Wordings.{by_hall, trees_like}
 
 -- ---- what is asked for
 
@@ -103,65 +108,120 @@ testers_asked = by_hall TestersAsked (λ u. record { is = refl; unlisted = refl;
 
 -- ---- what its answer tells
 
+-- an integer is read as one
+int_read : (v : Value) → IsTrue (is_int v) → IsTrue (is_some (int_in v))
+int_read Null int = int
+int_read (Int n) int = refl
+int_read (Real x) int = int
+int_read (Text t) int = int
+int_read (Blob b) int = int
+
 -- all of the table's rows are asked for, and its rowid in the column `at`
 module _ {Fits : Schema → Type 0} {text : List ℕ} {tree : ℕ} {project : List Term} {order : List (Term × Key)} {names : List (List ℕ)}
-    (asks : (schema : Schema) → Fits schema → AsksAll text tree project order names schema) {X : Type 0} (read : Row → Option X) (at : ℕ)
-    (apart : (db : Trees) → overlay db [] tree ≡ db tree) (reads : (r : Row) → is_some (read (eval_all project ([] ∷ r ∷ []))) ≡ is_record tree r)
-    (ids_at : (r : Row) → column (eval_all project ([] ∷ r ∷ [])) at ≡ rowid r)
-    (old new : State) (over : IsOver Fits old) (clean : HasCleanDisk old) (ids : List ℤ) (it : AreBadIn read at text old new ids) where
+    (asks : (schema : Schema) → Fits schema → AsksAll text tree project order names schema) (apart : (db : Trees) → overlay db [] tree ≡ db tree)
+    (at : ℕ) (ids_at : (r : Row) → column (eval_all project ([] ∷ r ∷ [])) at ≡ rowid r)
+    (old new : State) (over : IsOver Fits old) (clean : HasCleanDisk old) where
   abbrev shows : Row → Row
   shows r = eval_all project ([] ∷ r ∷ [])
 
-  like : IsLike over.schema old.now.schema
-  like = (over.tabled.settled clean (shown_was_open text [] old new it.rows it.shown)).1
+  module _ (rows : List Row) (shown : Shown text [] old new rows) where
+    like : IsLike over.schema old.now.schema
+    like = (over.tabled.settled clean (shown_was_open text [] old new rows shown)).1
 
-  all : AsksAll text tree project order names old.now.schema
-  all = asks old.now.schema (over.fits old.now.schema like)
+    all : AsksAll text tree project order names old.now.schema
+    all = asks old.now.schema (over.fits old.now.schema like)
 
-  selection : IsSelection (plain_query tree [] project order) (old.now.trees tree) [] it.rows
-  selection =
-      answers_selection text [] old new tree [] project order names all.is all.unlisted all.plain (apart old.now.trees)
-      refl it.rows it.shown
+    selection : IsSelection (plain_query tree [] project order) (old.now.trees tree) [] rows
+    selection =
+        answers_selection text [] old new tree [] project order names all.is all.unlisted all.plain (apart old.now.trees)
+        refl rows shown
 
-  same : IsPermutation (old.now.trees tree) selection.found
-  same = subst (λ l. IsPermutation l selection.found) (filter_all (λ _. true) (old.now.trees tree) (all_of (λ _. true ≡ true) (λ _. refl) _)) selection.same
+    same : IsPermutation (old.now.trees tree) selection.found
+    same = subst (λ l. IsPermutation l selection.found) (filter_all (λ _. true) (old.now.trees tree) (all_of (λ _. true ≡ true) (λ _. refl) _)) selection.same
 
-  abbrev bad : List Row
-  bad = filter (λ r. not (is_record tree r)) selection.found
+  module _ {X : Type 0} (read : Row → Option X) (reads : (r : Row) → is_some (read (eval_all project ([] ∷ r ∷ []))) ≡ is_record tree r)
+      (ids : List ℤ) (it : AreBadIn read at text old new ids) where
+    abbrev sel : IsSelection (plain_query tree [] project order) (old.now.trees tree) [] it.rows
+    sel = selection it.rows it.shown
 
-  bad_are : no_records read it.rows ≡ map shows bad
-  bad_are =
-      ap (no_records read) selection.shown ∙ filter-map (λ r. not (is_some (read r))) shows selection.found
-      ∙ (λ i. map shows (filter (λ r. not (reads r i)) selection.found))
+    abbrev bad : List Row
+    bad = filter (λ r. not (is_record tree r)) sel.found
 
-  found_bad : AreBadRows old.now.trees tree ids
-  found_bad = record {
-    rows = bad;
-    same = IsPermutation-filter (λ r. not (is_record tree r)) _ _ same;
-    are = it.are ∙ ap (map (λ r. column r at)) bad_are ∙ map-map (λ r. column r at) shows bad ∙ (λ i. map (λ r. ids_at r i) bad);
-  }
+    bad_are : no_records read it.rows ≡ map shows bad
+    bad_are =
+        ap (no_records read) sel.shown ∙ filter-map (λ r. not (is_some (read r))) shows sel.found
+        ∙ (λ i. map shows (filter (λ r. not (reads r i)) sel.found))
+
+    found_bad : AreBadRows old.now.trees tree ids
+    found_bad = record {
+      rows = bad;
+      same = IsPermutation-filter (λ r. not (is_record tree r)) _ _ (same it.rows it.shown);
+      are = it.are ∙ ap (map (λ r. column r at)) bad_are ∙ map-map (λ r. column r at) shows bad ∙ (λ i. map (λ r. ids_at r i) bad);
+    }
+
+  -- its rowids are integers, so that the answer shows one in each row
+  module _ (keys : (schema : Schema) → Fits schema → AreKeyedIn schema old.now.trees → AreKeyed (old.now.trees tree)) where
+    ids_shown : (rows : List Row) → Shown text [] old new rows → ¬ (IsAnyUnread (rowid_in at) rows)
+    ids_shown rows shown any =
+        let opened = shown_was_open text [] old new rows shown in
+        let is_like = like rows shown in
+        let keyed = keys old.now.schema (over.fits old.now.schema is_like)
+        (trees_like (λ n. AreKeyed (old.now.trees n)) over.schema old.now.schema is_like (over.tabled.keyed clean opened)) in
+        let Ints = λ (r : Row). IsTrue (is_int (rowid r)) in
+        let Reads = λ (r : Row). IsTrue (is_some (rowid_in at r)) in
+        let its = selection rows shown in
+        let found = all-permutation Ints (old.now.trees tree) its.found (same rows shown) keyed.ints in
+        let each = all_weaker Ints (λ r. Reads (shows r)) (λ r int. ap (λ v. is_some (int_in v)) (ids_at r) ∙ int_read (rowid r) int) its.found found in
+        some_unread (rowid_in at) rows any (subst (AllByRecursion Reads) (sym its.shown) (all-map Reads shows its.found each))
+
+    only_store : ReadFails (rowid_in at) text [] old new → IsStoreCause old new
+    only_store (inl cause) = cause
+    only_store (inr it) = absurd (ids_shown it.0 it.1 it.2)
 
 module _ (old new : State) (clean : HasCleanDisk old) (ids : List ℤ) where
   pub people_bad : IsOver (λ schema. HasTable schema People) old → AreBadIn person_in 3 PEOPLE_ROWS.now old new ids → AreFoundBad People old new ids
-  people_bad over it = (it.serves, found_bad people_asked person_in 3 (λ db. refl) (λ r. refl) (λ r. refl) old new over clean ids it)
+  people_bad over it = (it.serves, found_bad people_asked (λ db. refl) 3 (λ r. refl) old new over clean person_in (λ r. refl) ids it)
 
   pub puzzles_bad : IsOver (λ schema. HasTable schema Puzzles) old → AreBadIn puzzle_row_in 5 PUZZLES_ROWS.now old new ids → AreFoundBad Puzzles old new ids
-  puzzles_bad over it = (it.serves, found_bad puzzles_asked puzzle_row_in 5 (λ db. refl) (λ r. refl) (λ r. refl) old new over clean ids it)
+  puzzles_bad over it = (it.serves, found_bad puzzles_asked (λ db. refl) 5 (λ r. refl) old new over clean puzzle_row_in (λ r. refl) ids it)
 
   pub rounds_bad : IsOver (λ schema. HasTable schema Rounds) old → AreBadIn round_in 10 ROUNDS_ROWS.now old new ids → AreFoundBad Rounds old new ids
-  rounds_bad over it = (it.serves, found_bad rounds_asked round_in 10 (λ db. refl) (λ r. refl) (λ r. refl) old new over clean ids it)
+  rounds_bad over it = (it.serves, found_bad rounds_asked (λ db. refl) 10 (λ r. refl) old new over clean round_in (λ r. refl) ids it)
 
   pub places_bad : IsOver (λ schema. HasTable schema Places) old → AreBadIn place_in 5 PLACES_ROWS.now old new ids → AreFoundBad Places old new ids
-  places_bad over it = (it.serves, found_bad places_asked place_in 5 (λ db. refl) (λ r. refl) (λ r. refl) old new over clean ids it)
+  places_bad over it = (it.serves, found_bad places_asked (λ db. refl) 5 (λ r. refl) old new over clean place_in (λ r. refl) ids it)
 
   pub answers_bad : IsOver (λ schema. HasTable schema Answers) old → AreBadIn answer_in 8 ANSWERS_ROWS.now old new ids → AreFoundBad Answers old new ids
-  answers_bad over it = (it.serves, found_bad answers_asked answer_in 8 (λ db. refl) (λ r. refl) (λ r. refl) old new over clean ids it)
+  answers_bad over it = (it.serves, found_bad answers_asked (λ db. refl) 8 (λ r. refl) old new over clean answer_in (λ r. refl) ids it)
 
   pub protests_bad : IsOver (λ schema. HasTable schema Protests) old → AreBadIn protest_in 7 PROTESTS_ROWS.now old new ids → AreFoundBad Protests old new ids
-  protests_bad over it = (it.serves, found_bad protests_asked protest_in 7 (λ db. refl) (λ r. refl) (λ r. refl) old new over clean ids it)
+  protests_bad over it = (it.serves, found_bad protests_asked (λ db. refl) 7 (λ r. refl) old new over clean protest_in (λ r. refl) ids it)
 
   pub testers_bad : IsOver (λ schema. HasTable schema Testers) old → AreBadIn tester_in 2 TESTERS_ROWS.now old new ids → AreFoundBad Testers old new ids
-  testers_bad over it = (it.serves, found_bad testers_asked tester_in 2 (λ db. refl) (λ r. refl) (λ r. refl) old new over clean ids it)
+  testers_bad over it = (it.serves, found_bad testers_asked (λ db. refl) 2 (λ r. refl) old new over clean tester_in (λ r. refl) ids it)
+
+-- only the store is a cause
+module _ (old new : State) (clean : HasCleanDisk old) where
+  pub people_cause : IsOver (λ schema. HasTable schema People) old → ReadFails (rowid_in 3) PEOPLE_ROWS.now [] old new → IsStoreCause old new
+  people_cause over = only_store people_asked (λ db. refl) 3 (λ r. refl) old new over clean (λ schema. keyed_in schema People old.now.trees)
+
+  pub puzzles_cause : IsOver (λ schema. HasTable schema Puzzles) old → ReadFails (rowid_in 5) PUZZLES_ROWS.now [] old new → IsStoreCause old new
+  puzzles_cause over = only_store puzzles_asked (λ db. refl) 5 (λ r. refl) old new over clean (λ schema. keyed_in schema Puzzles old.now.trees)
+
+  pub rounds_cause : IsOver (λ schema. HasTable schema Rounds) old → ReadFails (rowid_in 10) ROUNDS_ROWS.now [] old new → IsStoreCause old new
+  rounds_cause over = only_store rounds_asked (λ db. refl) 10 (λ r. refl) old new over clean (λ schema. keyed_in schema Rounds old.now.trees)
+
+  pub places_cause : IsOver (λ schema. HasTable schema Places) old → ReadFails (rowid_in 5) PLACES_ROWS.now [] old new → IsStoreCause old new
+  places_cause over = only_store places_asked (λ db. refl) 5 (λ r. refl) old new over clean (λ schema. keyed_in schema Places old.now.trees)
+
+  pub answers_cause : IsOver (λ schema. HasTable schema Answers) old → ReadFails (rowid_in 8) ANSWERS_ROWS.now [] old new → IsStoreCause old new
+  answers_cause over = only_store answers_asked (λ db. refl) 8 (λ r. refl) old new over clean (λ schema. keyed_in schema Answers old.now.trees)
+
+  pub protests_cause : IsOver (λ schema. HasTable schema Protests) old → ReadFails (rowid_in 7) PROTESTS_ROWS.now [] old new → IsStoreCause old new
+  protests_cause over = only_store protests_asked (λ db. refl) 7 (λ r. refl) old new over clean (λ schema. keyed_in schema Protests old.now.trees)
+
+  pub testers_cause : IsOver (λ schema. HasTable schema Testers) old → ReadFails (rowid_in 2) TESTERS_ROWS.now [] old new → IsStoreCause old new
+  testers_cause over = only_store testers_asked (λ db. refl) 2 (λ r. refl) old new over clean (λ schema. keyed_in schema Testers old.now.trees)
 
 -- each text may be asked where the table is
 pub people_may_be_asked : (old : State) → IsOver (λ schema. HasTable schema People) old → IsOver (IsAskedIn PEOPLE_ROWS.now []) old

@@ -87,6 +87,12 @@ by_reason : {R : Type 0} (result : Result R StoreFault) (Why : Type 0) (new : St
 by_reason (Ok x) Why new cause why = tt
 by_reason (Err e) Why new cause why = λ failed clean. why clean (cause clean failed)
 
+-- a read whose cause lies in the store alone
+pub store_fault : {R : Type 0} (result : Result R StoreFault) (old new : State) → KeptTables old new
+    → (HasCleanDisk new → Fails (IsStoreCause old new) result) → Fails (CanFail new) result
+store_fault result old new rested cause =
+    by_reason result (IsStoreCause old new) new cause (λ clean. by_store KeepsNone old new (rested_stayed rested) clean)
+
 -- ---- reads
 
 -- the cause lies in the store, or what the tables kept is no world

@@ -74,6 +74,7 @@ pub mod MakeCauseLemmas
 pub mod AdoptLemmas
 pub mod FeedLemmas
 pub mod FillLemmas
+pub mod FillCauseLemmas
 pub mod SelectedLemmas
 pub mod FeedListings
 pub mod EachLemmas

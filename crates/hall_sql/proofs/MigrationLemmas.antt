@@ -1,5 +1,6 @@
 -- What a migration leaves of the target.
 use Rattle.std.proofs.Common.{◌≡◌, ◌≢◌, ◌↔◌, [], inl, inr, ℕ, Bool, false, IsErrAnd, IsTrue, Result, Ok, Err, refl, sym, ap, subst, ◌∙◌, arith}
+use Rattle.std.proofs.lemmas.Result.{IfErr-weaker}
 use Rattle.std.specs.FinMap.{empty}
 use Rattle.sqlite.specs.Effect.{Database}
 use Rattle.sqlite.specs.Held.{Held, state}
@@ -8,14 +9,17 @@ use Rattle.sqlite_trees.specs.declared.store.Store.{Ghosts}
 use Rattle.sqlite.specs.Tree.{Trees}
 use Rattle.hall_policy.specs.World.{World}
 use Rattle.hall_store.specs.Maps.{empty_world}
-use Rattle.hall_store.specs.Store.{IsSettled, Leads, LeavesNoOther, Served}
+use Rattle.hall_store.specs.Store.{Fails, IsSettled, Leads, LeavesNoOther, Served}
 use Rattle.hall_store.specs.declared.fault.StoreFault.{StoreFault}
+use Rattle.hall_store.specs.declared.fault.StoreFault.TheVariants.{Failed}
 use Rattle.hall_store.proofs.Knowing.{leads_then}
 use Rattle.hall_sql.specs.declared.migration.Migrated.{Migrated}
 use Rattle.hall_sql.specs.declared.migration.Migrated.TheVariants.{Done, Occupied}
 use Rattle.hall_sql.specs.declared.rows.Rows.{Rows}
 use Rattle.hall_sql.specs.AllRead.{AreAllRead, IsRead}
+use Rattle.hall_sql.specs.Cause.{ReadFails}
 use Rattle.hall_sql.specs.Fill.{AreFilled, Fills}
+use Rattle.hall_sql.specs.FillCause.{CannotFill, FillCountedFails, TablesFail, TakeFails}
 use Rattle.hall_sql.specs.Migrate.{TookWorld, HoldsOther, Leaves, Migrates, StandsForOld, StopsAtWorld, TargetTakes}
 use Rattle.hall_sql.specs.Migrate.{WasBefore, old_content_of}
 use Rattle.hall_sql.specs.Rows.{tester_in, world_of}
@@ -28,13 +32,14 @@ use Rattle.hall_sql.specs.Versions.{IsAnyHall}
 use Rattle.hall_sql.specs.Whole.{AreRecords}
 use Rattle.hall_sql.specs.WholeRows.{AreRowsOf, AreSameRows, IsEmptyIn, count_of, without_testers}
 use Rattle.hall_sql.proofs.AdoptLemmas.{bare_world as bare_empty}
-use Rattle.hall_sql.proofs.AllRead.{all_bare, bare_read, read_before, testers_read}
+use Rattle.hall_sql.proofs.AllRead.{all_bare, bare_read, read_before, testers_fails, testers_read}
 use Rattle.hall_sql.proofs.FillLemmas.{FillsWorlds, fills_read, fills_worlds}
 use Rattle.hall_sql.proofs.FilledWorlds.{filled_whole}
 use Rattle.hall_sql.proofs.CanonicalTexts.{fills_texts}
 use Rattle.hall_sql.proofs.LastLemmas.{follows_leads}
 use Rattle.hall_sql.proofs.StoreLemmas.{always, opens_hall, over_hall, rested_hall, rested_stayed, rests_on, stays_on}
 use Rattle.hall_sql.proofs.TransactionLemmas.{rests_itself}
+use Rattle.hall_sql.proofs.WriteCauseLemmas.{cause_over}
 use Rattle.hall_sql.proofs.WholeRows.{bare_rows, bare_world, none_counted, nothing_kept, one_rows, one_world, rows_counted}
 
 -- ---- what the tables hold beside rows
@@ -96,6 +101,36 @@ compared old mid new hall rested serves six after testers clean =
     all_seven old.now.trees (six was)
     (read_before 14 old mid over rested was (serves was)
     (testers_read mid new was (over_hall (rested_hall {old = old} {new = mid} hall rested).tabled (λ schema ours. ours)) (testers clean)))
+
+-- where not each row of the older version's tables is a record, not each of all is
+pub six_fail : (old new : State) → TablesFail old_schema old new → TablesFail hall_schema old new
+six_fail old new (inl cause) = inl cause
+six_fail old new (inr unread) =
+    inr (λ all. unread (all.0, (all.1.0, (all.1.1.0, (all.1.1.1.0, (all.1.1.1.1.0, (all.1.1.1.1.1.0, tt)))))))
+
+-- and so where the testers aren't read after them
+pub testers_fail : (old mid new : State) → IsHall old → KeptAnyTables old mid → (HasCleanDisk mid → IsTrue mid.is_open) → KeptTables mid new
+    → HasCleanDisk new → ReadFails tester_in ALL_TESTERS.now [] mid new → TablesFail hall_schema old new
+testers_fail old mid new hall rested serves after clean why =
+    let first = rested_hall {old = old} {new = mid} hall rested in
+    let was : HasCleanDisk mid = omega (arith, after.follows.lasts.clean, clean) in
+    elim (testers_fails mid new was (over_hall first.tabled (λ schema ours. ours)) why) [
+      | inl cause ↦ inl (cause_over old mid new first.follows.lasts was after.follows.lasts cause)
+      | inr unread ↦ inr (λ all. unread (subst (λ (d : Database). IsRead d.trees 14) (sym (first.same was (serves was))) all.1.1.1.1.1.1.0))
+    ]
+
+-- why a target takes nothing that was found to hold nothing
+pub take_fails : (old mid new : State) (rows : Rows) (result : Result Migrated StoreFault) → KeptTables old mid
+    → (HasCleanDisk mid → IsTrue mid.is_open) → IsEmptyIn mid → Leaves mid new result
+    → (HasCleanDisk new → Fails (FillCountedFails rows mid new) result) → HasCleanDisk new → Fails (TakeFails rows old new) result
+take_fails old mid new rows (Ok migrated) rested serves bare leaves cause clean = tt
+take_fails old mid new rows (Err e) rested serves bare leaves cause clean = λ failed.
+    let was : HasCleanDisk mid = omega (arith, leaves.follows.lasts.clean, clean) in
+    let opens = serves was in
+    elim (cause clean failed) [
+      | inl store ↦ inl (inl (cause_over old mid new rested.follows.lasts was leaves.follows.lasts store))
+      | inr cannot ↦ inr (subst (λ (d : Database). IsBareLike hall_schema d × CannotFill rows d) (rested.same was opens) (bare was opens, cannot))
+    ]
 
 -- ---- what a target took
 
@@ -245,8 +280,8 @@ pub migrated : (was now before after : State) (rows : Rows) (result : Result Mig
     → Leaves before after result
     → ((world : World) → AreRowsOf world rows → world.testers ≡ empty → StopsAtWorld world before after)
     → ((world : World) → AreRowsOf world rows → world.testers ≡ empty → TargetTakes world before after result)
-    → Migrates was now before after result
-migrated was now before after rows result rested told read leaves stops takes = record {
+    → (HasCleanDisk after → Fails (TakeFails rows before after) result) → Migrates was now before after result
+migrated was now before after rows result rested told read leaves stops takes fails = record {
   source = rested;
   kept = source_stops was now rested;
   read = λ clean. always result (AreAllRead old_schema was.now.trees) (read clean);
@@ -259,17 +294,23 @@ migrated was now before after rows result rested told read leaves stops takes = 
       let it = told clean in
       subst (λ (d : Database). TargetTakes (without_testers (world_of d.trees)) before after result) (rested.same clean it.0)
       (takes (without_testers (world_of now.now.trees)) it.1 refl);
+  cause = λ clean late.
+      let it = told clean in
+      let own = subst (λ (d : Database). AreRowsOf (without_testers (world_of d.trees)) rows) (rested.same clean it.0) it.1 in
+      IfErr-weaker result _ _ (λ fault why failed. inr (rows, own, why failed)) (fails late);
 }
 
 -- where the source could not be read, the target was not asked
 pub unmigrated : (was now before : State) (fault : StoreFault) (result : Result Migrated StoreFault) → IsErrAnd result (λ e. e ≡ fault)
-    → KeptTablesIn old_schema was now → IsHall before → Migrates was now before before result
-unmigrated was now before fault (Ok done) is rested hall = absurd is
-unmigrated was now before fault (Err e) is rested hall = record {
+    → KeptTablesIn old_schema was now → (HasCleanDisk now → fault ≡ Failed → TablesFail old_schema was now) → IsHall before
+    → Migrates was now before before result
+unmigrated was now before fault (Ok done) is rested fails hall = absurd is
+unmigrated was now before fault (Err e) is rested fails hall = record {
   source = rested;
   kept = source_stops was now rested;
   read = λ clean. tt;
   target = rested_stayed (rests_itself before hall);
   stops = λ clean h left it. inl it;
   taken = λ clean. tt;
+  cause = λ clean late failed. inl (fails clean (sym is ∙ failed));
 }

@@ -12,6 +12,7 @@ use Rattle.std.proofs.lemmas.Bool.Decides.{nat_tests}
 use Rattle.sqlite.specs.declared.types.Value.{Value}
 use Rattle.sqlite.specs.declared.types.Value.TheVariants.{Null, Int, Real, Text, Blob}
 use Rattle.sqlite.specs.Order.{Row}
+use Rattle.sqlite.specs.Values.{IsInt}
 use Rattle.sqlite_value.specs.Order.{column}
 use Rattle.hall_grid.specs.Board.{Board}
 use Rattle.hall_grid.specs.FormReading.{◌>>=◌}
@@ -124,6 +125,19 @@ pub unread_points : (row : Row) (at : ℕ) (n : ℤ) → (at < length row → ¬
 unread_points row at n other is = elim (cases_lt at (length row)) [
   | inl inside ↦ no_int (column row at) n (other inside) is
   | inr past ↦ absurd (let none = rw (beyond row at past) at is in cc)
+]
+
+not_int : (v : Value) → ¬ (IsInt v) → int_in v ≡ None
+not_int Null other = refl
+not_int (Int n) other = absurd (other (n, refl))
+not_int (Real x) other = refl
+not_int (Text t) other = refl
+not_int (Blob b) other = refl
+
+pub unread_int : (row : Row) (at : ℕ) → (at < length row → ¬ (IsInt (column row at))) → int_in (column row at) ≡ None
+unread_int row at other = elim (cases_lt at (length row)) [
+  | inl inside ↦ not_int (column row at) (other inside)
+  | inr past ↦ rw (beyond row at past) refl
 ]
 
 -- where a test decides and nothing was found

@@ -63,7 +63,7 @@ TellsTwice sql params =
     → KeepsTwice old.now.trees
 
 -- not each row is a record where one is none
-some_unread : {X : Type 0} (read : Row → Option X) (rows : List Row) → IsAnyUnread read rows
+pub some_unread : {X : Type 0} (read : Row → Option X) (rows : List Row) → IsAnyUnread read rows
     → ¬ (AllByRecursion (λ r. IsTrue (is_some (read r))) rows)
 some_unread read rows it each =
     let at = it.1 in

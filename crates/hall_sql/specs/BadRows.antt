@@ -11,6 +11,7 @@ use Rattle.sqlite_trees.specs.Tree.{rowid}
 use Rattle.sqlite_value.specs.Order.{column}
 use Rattle.hall_sql.specs.AllRead.{is_record}
 use Rattle.hall_sql.specs.Scan.{Serves, tree_of}
+use Rattle.hall_sql.specs.Values.{int_in}
 use Rattle.hall_sql.specs.Versions.{HasTable}
 use Rattle.hall_sql.specs.declared.bad_rows.BadRows.{BadRows}
 use Rattle.hall_sql.specs.declared.tables.HallTable.{HallTable}
@@ -18,6 +19,10 @@ use Rattle.hall_sql.specs.declared.tables.HallTable.{HallTable}
 -- those of the rows that are no record of this kind
 abbrev pub no_records : {X : Type 0} → (Row → Option X) → List Row → List Row
 no_records read rows = filter (λ row. not (is_some (read row))) rows
+
+-- the rowid that a row of an answer shows in the column
+abbrev pub rowid_in : ℕ → Row → Option ℤ
+rowid_in at row = int_in (column row at)
 
 -- the query's answer over the tables as they were, in a store that serves, has these numbers in a column of those rows
 -- that are no record of this kind

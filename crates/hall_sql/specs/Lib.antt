@@ -33,6 +33,7 @@ pub mod AllRead
 pub mod WholeRows
 pub mod Migrate
 pub mod Fill
+pub mod FillCause
 pub mod PathCalls
 pub mod Copied
 pub mod BadRows

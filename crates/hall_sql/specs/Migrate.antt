@@ -5,7 +5,7 @@ use Rattle.sqlite.specs.State.{State, HasCleanDisk}
 use Rattle.sqlite.specs.Tree.{Trees}
 use Rattle.hall_policy.specs.World.{World}
 use Rattle.hall_store.specs.Maps.{empty_world}
-use Rattle.hall_store.specs.Store.{Content, Leads, LeavesNoOther, LeavesOneOf}
+use Rattle.hall_store.specs.Store.{Content, Fails, Leads, LeavesNoOther, LeavesOneOf}
 use Rattle.hall_store.specs.declared.fault.StoreFault.{StoreFault}
 use Rattle.hall_sql.specs.declared.migration.Found.{Found}
 use Rattle.hall_sql.specs.declared.migration.Found.TheVariants.{Nothing, These, Others}
@@ -13,6 +13,7 @@ use Rattle.hall_sql.specs.declared.migration.Migrated.{Migrated}
 use Rattle.hall_sql.specs.declared.migration.Migrated.TheVariants.{Done, Occupied}
 use Rattle.hall_sql.specs.declared.rows.Rows.{Rows}
 use Rattle.hall_sql.specs.AllRead.{AreAllRead}
+use Rattle.hall_sql.specs.FillCause.{TablesFail, TakeFails}
 use Rattle.hall_sql.specs.PuzzleText.{AreCanonical}
 use Rattle.hall_sql.specs.Rows.{world_of}
 use Rattle.hall_sql.specs.Standing.{IsBareLike, KeptTables, KeptTablesIn, KeptRows}
@@ -83,10 +84,16 @@ Leaves old new (Err fault) = KeptRows old new
 abbrev pub StopsAtWorld : World → State → State → Type 0
 StopsAtWorld world old new = LeavesOneOf (λ before left. left ≡ world) (content_of old) (content_of new)
 
+-- Why a migration fails: the source isn't read whole, or the target doesn't take its rows.
+abbrev pub MigrateFails : State → State → State → State → Type 0
+MigrateFails was now before after =
+    TablesFail old_schema was now
+    ⊎ ((rows : Rows) × AreRowsOf (without_testers (world_of was.now.trees)) rows × TakeFails rows before after)
+
 -- The tables of the source are as they were, and the target takes the source's world, or is left. What it takes is
 -- told where the devices of both were honest to the end; and where the source's was, each row of the source is a
 -- record, or the migration fails. A stop leaves the source as it could be left before, and the target so, or with the
--- source's world.
+-- source's world. Where both devices were honest, it fails for such a cause alone.
 pub record Migrates (was now before after : State) (result : Result Migrated StoreFault) : Type 0 where
   pub source : KeptTablesIn old_schema was now
   pub kept : LeavesNoOther (old_content_of was) (old_content_of now)
@@ -94,3 +101,4 @@ pub record Migrates (was now before after : State) (result : Result Migrated Sto
   pub target : Leaves before after result
   pub stops : HasCleanDisk now → StopsAtWorld (without_testers (world_of was.now.trees)) before after
   pub taken : HasCleanDisk now → TargetTakes (without_testers (world_of was.now.trees)) before after result
+  pub cause : HasCleanDisk now → HasCleanDisk after → Fails (MigrateFails was now before after) result

@@ -16,7 +16,7 @@ ghost use Rattle.hall_sql.specs.Content.{MakesInTables, content_of};
 ghost use Rattle.hall_sql.specs.Rows.{answer_in};
 ghost use Rattle.hall_sql.specs.Reads.{ReadsTable};
 ghost use Rattle.hall_sql.specs.Versions.{IsAnyHall};
-ghost use Rattle.hall_sql.specs.WriteCause.{ExecutesOrRefuses, RunFails};
+ghost use Rattle.hall_sql.specs.WriteCause.{ExecutesOrRefuses, InsideFails, RunFails};
 
 use crate::calls::{run, run_in};
 use crate::counts::count;
@@ -129,6 +129,9 @@ pub(crate) fn add_inside<S: Alter>(
     ensures done { HasCleanDisk (state S.Store tx.new.conn.now) → IsTrue (state S.Store tx.old.conn.now).in_transaction
         → OnOk result (MakesInside (λ a b. AddsAnswer a row.now b) (state S.Store tx.old.conn.now)
         (state S.Store tx.new.conn.now)) }
+    ensures cause { InsideFails (state S.Store tx.old.conn.now) (state S.Store tx.new.conn.now)
+        (RunFails ADD_ANSWER.now (answer_params row.now) (state S.Store tx.old.conn.now)
+        (state S.Store tx.new.conn.now)) result }
 {
     in_range(row);
     run_in(tx, ADD_ANSWER, &columns(row))?;

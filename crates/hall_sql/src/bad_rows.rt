@@ -4,8 +4,10 @@ ghost use Rattle.sqlite.specs.declared.types.Value.TheVariants.{Int};
 ghost use Rattle.sqlite.specs.Held.{state};
 ghost use Rattle.sqlite.specs.State.{HasCleanDisk};
 ghost use Rattle.sqlite_value.specs.Order.{column};
+ghost use Rattle.hall_store.specs.Store.{Fails};
 ghost use Rattle.hall_sql.specs.Asked.{IsAskedIn};
-ghost use Rattle.hall_sql.specs.BadRows.{AreBadIn, AreFoundBad, AreNone, AreToldBad, HasTables, no_records};
+ghost use Rattle.hall_sql.specs.BadRows.{AreBadIn, AreFoundBad, AreNone, AreToldBad, HasTables, no_records, rowid_in};
+ghost use Rattle.hall_sql.specs.Cause.{IsAnyUnread, IsStoreCause, ReadFails};
 ghost use Rattle.hall_sql.specs.Standing.{IsOver, KeptAnyTables};
 ghost use Rattle.hall_sql.specs.Versions.{HasTable};
 ghost use Rattle.hall_sql.specs.declared.tables.HallTable.TheVariants.{People, Puzzles, Rounds, Places, Answers};
@@ -60,6 +62,7 @@ fn rowid_if_bad<T: Record + Drop>(
     ensures bad { IfOk result (λ found. IfSome found
         (λ id. (T.Record.read row.now ≡ None) × (column row.now at ≡ Int id))) }
     ensures good { IfOk result (λ found. found ≡ None → is_some (T.Record.read row.now) ≡ true) }
+    ensures unread { Fails (rowid_in at row.now ≡ None) result }
 {
     match T::from_row(alloc, row) {
         Ok(_record) => Ok(None),
@@ -77,7 +80,9 @@ fn bad_among<T: Record + Drop>(
     rows: &[Row],
     at: usize,
 ) -> Result<Vec<i64>, StoreFault>
-    ensures { IfOk result (λ ids. map Int ids.items ≡ map (λ row. column row at) (no_records T.Record.read rows.now)) }
+    ensures bad { IfOk result (λ ids.
+        map Int ids.items ≡ map (λ row. column row at) (no_records T.Record.read rows.now)) }
+    ensures unread { Fails (IsAnyUnread (rowid_in at) rows.now) result }
 {
     let mut ids = Vec::new(alloc);
     for row in rows {
@@ -101,6 +106,8 @@ fn bad_in<S: Alter, T: Record + Drop>(
     ensures rested { KeptAnyTables (state S.Store conn.old) (state S.Store conn.new) }
     ensures bad { HasCleanDisk (state S.Store conn.new) → IfOk result (λ ids.
         AreBadIn T.Record.read at sql.now (state S.Store conn.old) (state S.Store conn.new) ids.items) }
+    ensures cause { HasCleanDisk (state S.Store conn.new) → Fails
+        (ReadFails (rowid_in at) sql.now [] (state S.Store conn.old) (state S.Store conn.new)) result }
 {
     let rows = ask(conn, sql, &[])?;
     bad_among::<T>(alloc, &rows, at)
@@ -112,6 +119,8 @@ fn bad_people<S: Alter>(conn: &mut Connection<S>, alloc: Global) -> Result<Vec<i
     ensures rested { KeptAnyTables (state S.Store conn.old) (state S.Store conn.new) }
     ensures bad { HasCleanDisk (state S.Store conn.new) → IfOk result (λ ids.
         AreFoundBad People (state S.Store conn.old) (state S.Store conn.new) ids.items) }
+    ensures cause { HasCleanDisk (state S.Store conn.new)
+        → Fails (IsStoreCause (state S.Store conn.old) (state S.Store conn.new)) result }
 {
     bad_in::<S, Person>(conn, alloc, PEOPLE_ROWS, 3)
 }
@@ -122,6 +131,8 @@ fn bad_puzzles<S: Alter>(conn: &mut Connection<S>, alloc: Global) -> Result<Vec<
     ensures rested { KeptAnyTables (state S.Store conn.old) (state S.Store conn.new) }
     ensures bad { HasCleanDisk (state S.Store conn.new) → IfOk result (λ ids.
         AreFoundBad Puzzles (state S.Store conn.old) (state S.Store conn.new) ids.items) }
+    ensures cause { HasCleanDisk (state S.Store conn.new)
+        → Fails (IsStoreCause (state S.Store conn.old) (state S.Store conn.new)) result }
 {
     bad_in::<S, PuzzleRow>(conn, alloc, PUZZLES_ROWS, 5)
 }
@@ -132,6 +143,8 @@ fn bad_rounds<S: Alter>(conn: &mut Connection<S>, alloc: Global) -> Result<Vec<i
     ensures rested { KeptAnyTables (state S.Store conn.old) (state S.Store conn.new) }
     ensures bad { HasCleanDisk (state S.Store conn.new) → IfOk result (λ ids.
         AreFoundBad Rounds (state S.Store conn.old) (state S.Store conn.new) ids.items) }
+    ensures cause { HasCleanDisk (state S.Store conn.new)
+        → Fails (IsStoreCause (state S.Store conn.old) (state S.Store conn.new)) result }
 {
     bad_in::<S, Round>(conn, alloc, ROUNDS_ROWS, 10)
 }
@@ -142,6 +155,8 @@ fn bad_places<S: Alter>(conn: &mut Connection<S>, alloc: Global) -> Result<Vec<i
     ensures rested { KeptAnyTables (state S.Store conn.old) (state S.Store conn.new) }
     ensures bad { HasCleanDisk (state S.Store conn.new) → IfOk result (λ ids.
         AreFoundBad Places (state S.Store conn.old) (state S.Store conn.new) ids.items) }
+    ensures cause { HasCleanDisk (state S.Store conn.new)
+        → Fails (IsStoreCause (state S.Store conn.old) (state S.Store conn.new)) result }
 {
     bad_in::<S, Place>(conn, alloc, PLACES_ROWS, 5)
 }
@@ -152,6 +167,8 @@ fn bad_answers<S: Alter>(conn: &mut Connection<S>, alloc: Global) -> Result<Vec<
     ensures rested { KeptAnyTables (state S.Store conn.old) (state S.Store conn.new) }
     ensures bad { HasCleanDisk (state S.Store conn.new) → IfOk result (λ ids.
         AreFoundBad Answers (state S.Store conn.old) (state S.Store conn.new) ids.items) }
+    ensures cause { HasCleanDisk (state S.Store conn.new)
+        → Fails (IsStoreCause (state S.Store conn.old) (state S.Store conn.new)) result }
 {
     bad_in::<S, AnswerRow>(conn, alloc, ANSWERS_ROWS, 8)
 }
@@ -162,6 +179,8 @@ fn bad_protests<S: Alter>(conn: &mut Connection<S>, alloc: Global) -> Result<Vec
     ensures rested { KeptAnyTables (state S.Store conn.old) (state S.Store conn.new) }
     ensures bad { HasCleanDisk (state S.Store conn.new) → IfOk result (λ ids.
         AreFoundBad Protests (state S.Store conn.old) (state S.Store conn.new) ids.items) }
+    ensures cause { HasCleanDisk (state S.Store conn.new)
+        → Fails (IsStoreCause (state S.Store conn.old) (state S.Store conn.new)) result }
 {
     bad_in::<S, ProtestRow>(conn, alloc, PROTESTS_ROWS, 7)
 }
@@ -172,6 +191,8 @@ fn bad_testers<S: Alter>(conn: &mut Connection<S>, alloc: Global) -> Result<Vec<
     ensures rested { KeptAnyTables (state S.Store conn.old) (state S.Store conn.new) }
     ensures bad { HasCleanDisk (state S.Store conn.new) → IfOk result (λ ids.
         AreFoundBad Testers (state S.Store conn.old) (state S.Store conn.new) ids.items) }
+    ensures cause { HasCleanDisk (state S.Store conn.new)
+        → Fails (IsStoreCause (state S.Store conn.old) (state S.Store conn.new)) result }
 {
     bad_in::<S, Tester>(conn, alloc, TESTERS_ROWS, 2)
 }
@@ -186,6 +207,8 @@ fn bad_rows_of<S: Alter>(
     ensures rested { KeptAnyTables (state S.Store conn.old) (state S.Store conn.new) }
     ensures bad { HasCleanDisk (state S.Store conn.new) → IfOk result (λ ids.
         AreFoundBad table (state S.Store conn.old) (state S.Store conn.new) ids.items) }
+    ensures cause { HasCleanDisk (state S.Store conn.new)
+        → Fails (IsStoreCause (state S.Store conn.old) (state S.Store conn.new)) result }
 {
     match table {
         HallTable::People => bad_people(conn, alloc),
@@ -200,7 +223,8 @@ fn bad_rows_of<S: Alter>(
 
 /// One table more.
 fn add(bad: &mut Vec<BadRows>, rows: BadRows) -> Result<(), StoreFault>
-    ensures { OnOk result (bad.new.items ≡ bad.old.items ++ rows ∷ []) }
+    ensures added { OnOk result (bad.new.items ≡ bad.old.items ++ rows ∷ []) }
+    ensures cause { Fails ⊥ result }
 {
     if bad.push(rows).is_err() {
         return Err(StoreFault::Memory);
@@ -218,6 +242,8 @@ pub(crate) fn bad_rows<S: Alter>(
     ensures rested { KeptAnyTables (state S.Store conn.old) (state S.Store conn.new) }
     ensures bad { HasCleanDisk (state S.Store conn.new) → IfOk result (λ bad.
         AreToldBad tables.now (state S.Store conn.old) (state S.Store conn.new) bad.items) }
+    ensures cause { HasCleanDisk (state S.Store conn.new)
+        → Fails (IsStoreCause (state S.Store conn.old) (state S.Store conn.new)) result }
 {
     let mut bad = Vec::new(alloc);
     for table in tables {

@@ -1,12 +1,17 @@
 //! Empty tables, filled with the records of others.
-ghost use Rattle.std.specs.Prelude.{◌≡◌, IsTrue, OnOk, OnErr};
+ghost use Rattle.std.specs.Prelude.{◌≡◌, ◌⊎◌, IsTrue, OnOk, OnErr};
 ghost use Rattle.sqlite.specs.Effect.{Database};
 ghost use Rattle.sqlite.specs.Held.{state};
 ghost use Rattle.sqlite.specs.State.{HasCleanDisk};
 ghost use Rattle.hall_policy.specs.Sink.{HasTaken};
-ghost use Rattle.hall_store.specs.Store.{Leads};
+ghost use Rattle.hall_store.specs.Store.{Fails, Leads};
 ghost use Rattle.hall_sql.specs.Fill.{AreFilled, AddsAnswer, AddsHead, AddsPlace, AddsProtest, AddsPuzzle, Fills};
 ghost use Rattle.hall_sql.specs.Fill.{PutsPerson};
+ghost use Rattle.hall_sql.specs.FillCause.{FillFails, IsNextRefused, RefusesToAddAnswer, RefusesToAddHead};
+ghost use Rattle.hall_sql.specs.FillCause.{RefusesToAddPerson, RefusesToAddPlace, RefusesToAddProtest};
+ghost use Rattle.hall_sql.specs.FillCause.{RefusesToAddPuzzle};
+ghost use Rattle.hall_sql.specs.WriteCause.{InsideFails};
+ghost use Rattle.hall_sql.specs.Cause.{IsStoreCause};
 ghost use Rattle.hall_sql.specs.Inside.{LeadsUncommitted, MakesInside};
 ghost use Rattle.hall_sql.specs.Standing.{AddsOutcomes, IsHall, KeptRows};
 ghost use Rattle.hall_sql.specs.Content.{content_of};
@@ -27,6 +32,9 @@ pub(crate) trait Added: Sized {
     // The tables before, the record, the tables after.
     ghost adds: { Database → Self → Database → Type 0 };
 
+    // The statement that adds the record is refused over the tables.
+    ghost refuses: { Self → Database → Type 0 };
+
     /// Adds it under a new key, inside a transaction.
     fn add<S: Alter>(&self, tx: &mut Transaction<'_, S>, alloc: Global) -> Result<(), StoreFault>
         ensures same_reference { tx.new.conn.ghost_name ≡ tx.old.conn.ghost_name }
@@ -34,11 +42,16 @@ pub(crate) trait Added: Sized {
         ensures done { HasCleanDisk (state S.Store tx.new.conn.now)
             → IsTrue (state S.Store tx.old.conn.now).in_transaction
             → OnOk result (MakesInside (λ a b. adds a self.now b) (state S.Store tx.old.conn.now)
-            (state S.Store tx.new.conn.now)) };
+            (state S.Store tx.new.conn.now)) }
+        ensures cause { InsideFails (state S.Store tx.old.conn.now) (state S.Store tx.new.conn.now)
+            (IsStoreCause (state S.Store tx.old.conn.now) (state S.Store tx.new.conn.now)
+            ⊎ refuses self.now (state S.Store tx.old.conn.now).now) result };
 }
 
 impl Added for Person {
     ghost adds = { PutsPerson };
+
+    ghost refuses = { RefusesToAddPerson };
 
     fn add<S: Alter>(&self, tx: &mut Transaction<'_, S>, alloc: Global) -> Result<(), StoreFault> {
         add_person(tx, self)
@@ -48,6 +61,8 @@ impl Added for Person {
 impl Added for PuzzleRow {
     ghost adds = { AddsPuzzle };
 
+    ghost refuses = { RefusesToAddPuzzle };
+
     fn add<S: Alter>(&self, tx: &mut Transaction<'_, S>, alloc: Global) -> Result<(), StoreFault> {
         puzzles::add_inside(tx, alloc, self)
     }
@@ -55,6 +70,8 @@ impl Added for PuzzleRow {
 
 impl Added for Round {
     ghost adds = { AddsHead };
+
+    ghost refuses = { RefusesToAddHead };
 
     fn add<S: Alter>(&self, tx: &mut Transaction<'_, S>, alloc: Global) -> Result<(), StoreFault> {
         put_new(tx, self)
@@ -64,6 +81,8 @@ impl Added for Round {
 impl Added for Place {
     ghost adds = { AddsPlace };
 
+    ghost refuses = { RefusesToAddPlace };
+
     fn add<S: Alter>(&self, tx: &mut Transaction<'_, S>, alloc: Global) -> Result<(), StoreFault> {
         put_place(tx, &self.0.round, self.0.number.get() as u32, &self.1)
     }
@@ -72,6 +91,8 @@ impl Added for Place {
 impl Added for AnswerRow {
     ghost adds = { AddsAnswer };
 
+    ghost refuses = { RefusesToAddAnswer };
+
     fn add<S: Alter>(&self, tx: &mut Transaction<'_, S>, alloc: Global) -> Result<(), StoreFault> {
         answers::add_inside(tx, self)
     }
@@ -79,6 +100,8 @@ impl Added for AnswerRow {
 
 impl Added for ProtestRow {
     ghost adds = { AddsProtest };
+
+    ghost refuses = { RefusesToAddProtest };
 
     fn add<S: Alter>(&self, tx: &mut Transaction<'_, S>, alloc: Global) -> Result<(), StoreFault> {
         protests::add_inside(tx, self)
@@ -96,6 +119,9 @@ fn add_each<S: Alter, T: Added>(
     ensures done { HasCleanDisk (state S.Store tx.new.conn.now) → IsTrue (state S.Store tx.old.conn.now).in_transaction
         → OnOk result (MakesInside (λ a b. HasTaken T.adds a records.now b) (state S.Store tx.old.conn.now)
         (state S.Store tx.new.conn.now)) }
+    ensures cause { InsideFails (state S.Store tx.old.conn.now) (state S.Store tx.new.conn.now)
+        (IsStoreCause (state S.Store tx.old.conn.now) (state S.Store tx.new.conn.now)
+        ⊎ IsNextRefused T.adds T.refuses records.now (state S.Store tx.old.conn.now).now) result }
 {
     for record in records {
         record.add(tx, alloc)?;
@@ -113,6 +139,8 @@ fn fill_inside<S: Alter>(
     ensures carries { LeadsUncommitted (state S.Store tx.old.conn.now) (state S.Store tx.new.conn.now) }
     ensures done { HasCleanDisk (state S.Store tx.new.conn.now) → IsTrue (state S.Store tx.old.conn.now).in_transaction
         → OnOk result (MakesInside (Fills rows.now) (state S.Store tx.old.conn.now) (state S.Store tx.new.conn.now)) }
+    ensures cause { InsideFails (state S.Store tx.old.conn.now) (state S.Store tx.new.conn.now)
+        (FillFails rows.now (state S.Store tx.old.conn.now) (state S.Store tx.new.conn.now)) result }
 {
     add_each(tx, alloc, rows.people.as_slice())?;
     add_each(tx, alloc, rows.puzzles.as_slice())?;
@@ -138,6 +166,8 @@ pub(crate) fn fill<S: Alter>(
         → AddsOutcomes (AreFilled rows.now (state S.Store conn.old).now) (state S.Store conn.old)
             (state S.Store conn.new) }
     ensures refused { OnErr result (KeptRows (state S.Store conn.old) (state S.Store conn.new)) }
+    ensures cause { HasCleanDisk (state S.Store conn.new)
+        → Fails (FillFails rows.now (state S.Store conn.old) (state S.Store conn.new)) result }
 {
     if !conn.is_autocommit() {
         return Err(StoreFault::Failed);

@@ -4,8 +4,9 @@ ghost use Rattle.std.specs.FinMap.{empty};
 ghost use Rattle.sqlite.specs.Held.{state};
 ghost use Rattle.sqlite.specs.State.{HasCleanDisk};
 ghost use Rattle.hall_policy.specs.World.{World};
-ghost use Rattle.hall_store.specs.Store.{Served};
+ghost use Rattle.hall_store.specs.Store.{Fails, Served};
 ghost use Rattle.hall_sql.specs.AllRead.{AreAllRead};
+ghost use Rattle.hall_sql.specs.FillCause.{FillCountedFails, TablesFail, TakeFails};
 ghost use Rattle.hall_sql.specs.Migrate.{IsFoundBeside, Leaves, Migrates, StopsAtWorld, TargetTakes};
 ghost use Rattle.hall_sql.specs.Standing.{IsHall, KeptTables};
 ghost use Rattle.hall_sql.specs.Content.{content_of};
@@ -50,6 +51,8 @@ fn compare<T: Alter>(
         (λ held found. IsFoundBeside rows.now held found) }
     ensures whole { HasCleanDisk (state T.Store conn.new) → IfOk result (λ _.
         AreAllRead hall_schema (state T.Store conn.old).now.trees) }
+    ensures cause { HasCleanDisk (state T.Store conn.new)
+        → Fails (TablesFail hall_schema (state T.Store conn.old) (state T.Store conn.new)) result }
 {
     let held = read_rows(conn, alloc)?;
     if has_testers(conn, alloc)? {
@@ -78,6 +81,8 @@ fn fill_counted<T: Alter>(
         → StopsAtWorld world (state T.Store conn.old) (state T.Store conn.new) }
     ensures takes { (world : World) → AreRowsOf world rows.now → world.testers ≡ empty
         → TargetTakes world (state T.Store conn.old) (state T.Store conn.new) result }
+    ensures cause { HasCleanDisk (state T.Store conn.new)
+        → Fails (FillCountedFails rows.now (state T.Store conn.old) (state T.Store conn.new)) result }
 {
     match rows.count() {
         Some(count) => {
@@ -101,6 +106,8 @@ pub(crate) fn take_rows<T: Alter>(
         → StopsAtWorld world (state T.Store conn.old) (state T.Store conn.new) }
     ensures takes { (world : World) → AreRowsOf world rows.now → world.testers ≡ empty
         → TargetTakes world (state T.Store conn.old) (state T.Store conn.new) result }
+    ensures cause { HasCleanDisk (state T.Store conn.new)
+        → Fails (TakeFails rows.now (state T.Store conn.old) (state T.Store conn.new)) result }
 {
     match compare(conn, alloc, rows)? {
         Found::Nothing => fill_counted(conn, alloc, rows),

@@ -2,11 +2,13 @@
 ghost use Rattle.std.specs.Prelude.{◌≡◌, IfOk, IfErr};
 ghost use Rattle.sqlite.specs.Held.{state};
 ghost use Rattle.sqlite.specs.State.{HasCleanDisk};
-ghost use Rattle.hall_store.specs.Store.{IsSettled, Served};
+ghost use Rattle.hall_store.specs.Store.{Fails, IsSettled, Served};
 ghost use Rattle.hall_store.specs.declared.fault.StoreFault.TheVariants.{Failed};
 ghost use Rattle.hall_sql.specs.AdoptCause.{AdoptOldFails};
 ghost use Rattle.hall_sql.specs.AllRead.{AreAllRead};
 ghost use Rattle.hall_sql.specs.BadRows.{AreNone, AreToldBad};
+ghost use Rattle.hall_sql.specs.Cause.{IsStoreCause};
+ghost use Rattle.hall_sql.specs.FillCause.{TablesFail};
 ghost use Rattle.hall_sql.specs.Made.{old_tables};
 ghost use Rattle.hall_sql.specs.Migrate.{old_content_of};
 ghost use Rattle.hall_sql.specs.OldStore.{IsStoreTaken};
@@ -101,6 +103,8 @@ impl<S: Alter + Drop> OldStore<S> {
             AreToldBad old_tables (state S.Store self.old) (state S.Store self.new) bad.items) }
         ensures whole { HasCleanDisk (state S.Store self.new) → IfOk result (λ bad.
             AreNone bad.items → AreAllRead old_schema (state S.Store self.old).now.trees) }
+        ensures cause { HasCleanDisk (state S.Store self.new)
+            → Fails (IsStoreCause (state S.Store self.old) (state S.Store self.new)) result }
     {
         bad_rows(&mut self.conn, alloc, &OLD)
     }
@@ -111,6 +115,8 @@ impl<S: Alter + Drop> OldStore<S> {
         ensures served { Served (old_content_of (state S.Store self.new)) result (λ world rows. AreRowsOf world rows) }
         ensures whole { HasCleanDisk (state S.Store self.new) → IfOk result (λ _.
             AreAllRead old_schema (state S.Store self.old).now.trees) }
+        ensures cause { HasCleanDisk (state S.Store self.new)
+            → Fails (TablesFail old_schema (state S.Store self.old) (state S.Store self.new)) result }
     {
         read_rows(&mut self.conn, alloc)
     }

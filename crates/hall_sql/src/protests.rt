@@ -21,7 +21,7 @@ ghost use Rattle.hall_sql.specs.Reads.{FindsRow, ReadsRows, ReadsTable};
 ghost use Rattle.hall_sql.specs.Whole.{AreRecords};
 ghost use Rattle.hall_sql.specs.Cause.{FindFails};
 ghost use Rattle.hall_sql.specs.Versions.{IsAnyHall};
-ghost use Rattle.hall_sql.specs.WriteCause.{ExecutesOrRefuses, RunFails, RuleFails};
+ghost use Rattle.hall_sql.specs.WriteCause.{ExecutesOrRefuses, InsideFails, RunFails, RuleFails};
 
 use crate::calls::{run, run_in};
 use crate::counts::count;
@@ -203,6 +203,9 @@ pub(crate) fn add_inside<S: Alter>(
     ensures done { HasCleanDisk (state S.Store tx.new.conn.now) → IsTrue (state S.Store tx.old.conn.now).in_transaction
         → OnOk result (MakesInside (λ a b. AddsProtest a row.now b) (state S.Store tx.old.conn.now)
         (state S.Store tx.new.conn.now)) }
+    ensures cause { InsideFails (state S.Store tx.old.conn.now) (state S.Store tx.new.conn.now)
+        (RunFails ADD_PROTEST.now (protest_params row.now) (state S.Store tx.old.conn.now)
+        (state S.Store tx.new.conn.now)) result }
 {
     in_range(row);
     run_in(tx, ADD_PROTEST, &columns(row))?;

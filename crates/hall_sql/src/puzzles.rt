@@ -10,6 +10,7 @@ ghost use Rattle.hall_policy.specs.Ranges.{IsPuzzleKey, IsState};
 ghost use Rattle.hall_store.specs.declared.change.Change.TheVariants.{PutPuzzle, SetState};
 ghost use Rattle.sqlite.specs.Values.{bound};
 ghost use Rattle.hall_sql.specs.Fill.{AddsPuzzle};
+ghost use Rattle.hall_sql.specs.FillCause.{RefusesToAddPuzzle};
 ghost use Rattle.hall_sql.specs.Inside.{LeadsUncommitted, MakesInside};
 ghost use Rattle.hall_sql.specs.PuzzleText.{HasPuzzleRow};
 ghost use Rattle.hall_sql.specs.Columns.{puzzle_params, HasSoMany, state_code, solution_of};
@@ -21,7 +22,7 @@ ghost use Rattle.hall_sql.specs.Reads.{FindsRow, ReadsRows, ReadsTable};
 ghost use Rattle.hall_sql.specs.Cause.{IsStoreCause};
 ghost use Rattle.hall_sql.specs.Versions.{IsAnyHall};
 ghost use Rattle.hall_sql.specs.WriteCause.{ExecutesOrRefuses, RunFails, PuzzleIsRefused, PutPuzzleFails};
-ghost use Rattle.hall_sql.specs.WriteCause.{SetStateFails};
+ghost use Rattle.hall_sql.specs.WriteCause.{InsideFails, SetStateFails};
 
 use crate::calls::{ask, run, run_in};
 use crate::reads::{find, read, read_any};
@@ -198,6 +199,9 @@ pub(crate) fn add_inside<S: Alter>(
     ensures done { HasCleanDisk (state S.Store tx.new.conn.now) → IsTrue (state S.Store tx.old.conn.now).in_transaction
         → OnOk result (MakesInside (λ a b. AddsPuzzle a row.now b) (state S.Store tx.old.conn.now)
         (state S.Store tx.new.conn.now)) }
+    ensures cause { InsideFails (state S.Store tx.old.conn.now) (state S.Store tx.new.conn.now)
+        (IsStoreCause (state S.Store tx.old.conn.now) (state S.Store tx.new.conn.now)
+        ⊎ RefusesToAddPuzzle row.now (state S.Store tx.old.conn.now).now) result }
 {
     in_range(&row.key);
     let text = write_puzzle(alloc, &row.puzzle)?;

@@ -1,9 +1,10 @@
 //! All that a hall keeps but its testers, as lists of rows.
-ghost use Rattle.std.specs.Prelude.{◌≡◌, ◌↔◌, IsTrue, IfSome, IfOk};
+ghost use Rattle.std.specs.Prelude.{◌≡◌, ◌↔◌, ◌<◌, IsTrue, IfSome, IfNone, IfOk};
 ghost use Rattle.sqlite.specs.Held.{state};
 ghost use Rattle.sqlite.specs.State.{HasCleanDisk};
-ghost use Rattle.hall_store.specs.Store.{Served};
+ghost use Rattle.hall_store.specs.Store.{Fails, Served};
 ghost use Rattle.hall_sql.specs.AllRead.{AreAllRead};
+ghost use Rattle.hall_sql.specs.FillCause.{TablesFail};
 ghost use Rattle.hall_sql.specs.Standing.{KeptAnyTables};
 ghost use Rattle.hall_sql.specs.Content.{content_of};
 ghost use Rattle.hall_sql.specs.Tables.{old_schema};
@@ -48,7 +49,8 @@ impl Rows {
 
     /// How many rows there are, where they can be counted.
     pub(crate) fn count(&self) -> Option<u64>
-        ensures { IfSome result (λ count. count ≡ count_of self.now) }
+        ensures count { IfSome result (λ count. count ≡ count_of self.now) }
+        ensures many { IfNone result (18446744073709551615 < count_of self.now) }
     {
         (self.people.len() as u64)
             .checked_add(self.puzzles.len() as u64)?
@@ -81,6 +83,8 @@ pub(crate) fn read_rows<S: Alter>(
     ensures served { Served (content_of (state S.Store conn.new)) result (λ world rows. AreRowsOf world rows) }
     ensures whole { HasCleanDisk (state S.Store conn.new) → IfOk result (λ _.
         AreAllRead old_schema (state S.Store conn.old).now.trees) }
+    ensures cause { HasCleanDisk (state S.Store conn.new)
+        → Fails (TablesFail old_schema (state S.Store conn.old) (state S.Store conn.new)) result }
 {
     let people = all_people(conn, alloc)?;
     let puzzles = all_puzzles(conn, alloc)?;

@@ -4,10 +4,14 @@ ghost use Rattle.std.specs.FinMap.{empty};
 ghost use Rattle.sqlite.specs.Held.{state};
 ghost use Rattle.sqlite.specs.State.{HasCleanDisk};
 ghost use Rattle.hall_policy.specs.World.{World};
+ghost use Rattle.hall_store.specs.Store.{Fails};
 ghost use Rattle.hall_store.specs.declared.fault.StoreFault.TheVariants.{Failed};
 ghost use Rattle.hall_sql.specs.AdoptCause.{AdoptFails};
 ghost use Rattle.hall_sql.specs.AllRead.{AreAllRead};
 ghost use Rattle.hall_sql.specs.BadRows.{AreNone, AreToldBad};
+ghost use Rattle.hall_sql.specs.CanFail.{CanFail};
+ghost use Rattle.hall_sql.specs.Cause.{IsStoreCause};
+ghost use Rattle.hall_sql.specs.FillCause.{TakeFails};
 ghost use Rattle.hall_sql.specs.Made.{all_tables};
 ghost use Rattle.hall_sql.specs.Migrate.{Leaves, StopsAtWorld, TargetTakes};
 ghost use Rattle.hall_sql.specs.Standing.{HasAdopted, HasDeclined, IsHall, MakesAtMost, KeptTables};
@@ -109,6 +113,9 @@ impl<S: Alter + Drop> SqlStore<S> {
             AreToldBad all_tables (state S.Store self.old) (state S.Store self.new) bad.items) }
         ensures whole { HasCleanDisk (state S.Store self.new) → IfOk result (λ bad.
             AreNone bad.items → AreAllRead hall_schema (state S.Store self.old).now.trees) }
+        ensures fault { Fails (CanFail (state S.Store self.new)) result }
+        ensures cause { HasCleanDisk (state S.Store self.new)
+            → Fails (IsStoreCause (state S.Store self.old) (state S.Store self.new)) result }
     {
         bad_rows(&mut self.conn, alloc, &ALL)
     }
@@ -120,6 +127,8 @@ impl<S: Alter + Drop> SqlStore<S> {
             → StopsAtWorld world (state S.Store self.old) (state S.Store self.new) }
         ensures takes { (world : World) → AreRowsOf world rows.now → world.testers ≡ empty
             → TargetTakes world (state S.Store self.old) (state S.Store self.new) result }
+        ensures cause { HasCleanDisk (state S.Store self.new)
+            → Fails (TakeFails rows.now (state S.Store self.old) (state S.Store self.new)) result }
     {
         take_rows(&mut self.conn, alloc, rows)
     }

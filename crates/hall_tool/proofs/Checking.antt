@@ -1,24 +1,33 @@
 -- What is written of a check, from what each step of it tells.
-use Rattle.std.proofs.Common.{◌≡◌, ◌⊎◌, ◌∙◌, ℕ, List, Option, Result, Ok, Err, IfOk, IsTrue, inl, inr, ap, subst, arith}
-use Rattle.std.specs.Prelude.{IfErr, string_bytes}
+use Rattle.std.proofs.Common.{◌≡◌, ◌⊎◌, ◌∙◌, ℕ, List, false, true, Option, Result, Ok, Err, IfOk, IsTrue, inl, inr, sym, ap, subst, arith}
+use Rattle.std.specs.Prelude.{IfErr, IsErrOf, string_bytes}
 use Rattle.sqlite_trees.specs.declared.memory.MemStore.{MemStore}
 use Rattle.sqlite.specs.Effect.{Database}
 use Rattle.sqlite.specs.Held.{Held, state}
 use Rattle.sqlite.specs.State.{State, HasCleanDisk}
 use Rattle.sqlite.specs.Steps.{over_memory}
 use Rattle.hall_grid.specs.Device.{Tally}
+use Rattle.hall_store.specs.Maps.{empty_world}
 use Rattle.hall_store.specs.Store.{Kept}
+use Rattle.hall_store.specs.declared.fault.StoreFault.{StoreFault}
+use Rattle.hall_store.specs.declared.fault.StoreFault.TheVariants as store
 use Rattle.hall_sql.specs.AllRead.{AreAllRead}
-use Rattle.hall_sql.specs.Migrate.{Migrates, old_content_of}
-use Rattle.hall_sql.specs.Standing.{KeptTablesIn}
+use Rattle.hall_sql.specs.CanFail.{CanFail, HasReason, KeepsNoWorld}
+use Rattle.hall_sql.specs.Cause.{IsStoreCause}
+use Rattle.hall_sql.specs.FillCause.{TablesFail}
+use Rattle.hall_sql.specs.Migrate.{MigrateFails, Migrates, old_content_of}
+use Rattle.hall_sql.specs.Standing.{IsBareDatabase, IsBareLike, KeptTablesIn}
 use Rattle.hall_sql.specs.Content.{content_of}
-use Rattle.hall_sql.specs.Tables.{old_schema}
-use Rattle.hall_sql.specs.WholeRows.{without_testers}
+use Rattle.hall_sql.specs.Tables.{IsLike, hall_schema, old_schema}
+use Rattle.hall_sql.specs.WholeRows.{AreRowsOf, without_testers}
 use Rattle.hall_sql.specs.Rows.{world_of}
-use Rattle.hall_sql.specs.declared.migration.Migrated.TheVariants.{Done}
+use Rattle.hall_sql.specs.declared.migration.Migrated.TheVariants.{Done, Occupied}
+use Rattle.hall_sql.proofs.AllRead.{bare_read}
 use Rattle.hall_sql.proofs.OpenedLemmas.{memory_serves}
+use Rattle.hall_sql.proofs.Wordings.{like_itself}
+use Rattle.hall_sql.proofs.WriteCauseLemmas.{cause_over}
 use Rattle.hall_desk.specs.Checked.{IsChecked}
-use Rattle.hall_tool.specs.CheckRun.{CopyText, IsFoundWritten, OldText}
+use Rattle.hall_tool.specs.CheckRun.{CannotCopy, CopyFails, CopyText, IsCopyUnread, IsFoundWritten, OldFails, OldText}
 use Rattle.hall_tool.specs.Shown.{IsShownBy}
 use Rattle.hall_tool.specs.WorldText.{WorldText}
 use Rattle.hall_tool.specs.declared.ending.Ending.{Ending}
@@ -27,18 +36,18 @@ use Rattle.hall_tool.specs.declared.fault.ToolFault.TheVariants.{Memory, Store}
 
 -- the text that was found was written, or none was found
 pub found_written : {W : Type 0} (Text : List ℕ → ℕ → Type 0) (contents : W → Option (List ℕ)) (old new : Tally W)
-    (found : Result Ending ToolFault) (ended : Result ℕ ToolFault)
+    (Why : Type 0) (found : Result Ending ToolFault) (ended : Result ℕ ToolFault)
     → IfOk found (λ ending. Text (string_bytes ending.line) ending.status)
-    → IfErr found (λ e. (e ≡ Memory) ⊎ (e ≡ Store))
+    → IfErr found (λ e. (e ≡ Memory) ⊎ (e ≡ Store)) → (IsErrOf found Store → Why)
     → IfOk found (λ ending. IsShownBy ending.status contents (string_bytes ending.line) old new ended)
-    → IfErr found (λ e. (ended ≡ Err e) × (new ≡ old)) → IsFoundWritten Text contents old new ended
-found_written Text contents old new (Ok ending) ended text cause shown fault =
+    → IfErr found (λ e. (ended ≡ Err e) × (new ≡ old)) → IsFoundWritten Text Why contents old new ended
+found_written Text contents old new Why (Ok ending) ended text cause why shown fault =
     inl (string_bytes ending.line, ending.status, text, shown)
-found_written Text contents old new (Err e) ended text cause shown fault = inr (
+found_written Text contents old new Why (Err e) ended text cause why shown fault = inr (
   fault.1,
   elim cause [
     | inl memory ↦ inl (let e : ended ≡ Err Memory = fault.0 ∙ ap Err memory in e)
-    | inr store ↦ inr (let e : ended ≡ Err Store = fault.0 ∙ ap Err store in e)
+    | inr store ↦ inr (let is : ended ≡ Err Store = fault.0 ∙ ap Err store in is, why (ap Err store))
   ],
 )
 
@@ -78,3 +87,75 @@ copy_text budget source left empty filled last count text status migrates kept (
       line,
       ends,
     )
+
+-- ---- why nothing was found
+
+-- the store failed where that is what is told
+pub store_failed : {R : Type 0} (fault : StoreFault) (e : ToolFault) → ((fault ≡ store.Memory) × (e ≡ Memory)) ⊎ ((fault ≡ store.Failed) × (e ≡ Store))
+    → IsErrOf {T = R} (Err e) Store → fault ≡ store.Failed
+store_failed fault e (inl memory) is = absurd (let same : e ≡ Store = cc in let no : Memory ≡ Store = sym memory.1 ∙ same in cc)
+store_failed fault e (inr failed) is = failed.0
+
+-- over memory the store is no cause
+no_cause : (old new : Held MemStore) → ¬ (IsStoreCause (state over_memory old) (state over_memory new))
+no_cause old new (inl (inl more)) = omega (arith, more)
+no_cause old new (inl (inr top)) = omega (arith, top)
+no_cause old new (inr shut) = let no : false ≡ true = sym shut ∙ (memory_serves old).1 in cc
+
+-- so that a call can fail there for what the tables keep alone
+keeps_none : (held : Held MemStore) → CanFail (state over_memory held) → KeepsNoWorld (state over_memory held).now.trees
+keeps_none held can = go (can (memory_serves held).0)
+  where
+    go : HasReason (λ db. KeepsNoWorld db.trees) (state over_memory held) → KeepsNoWorld (state over_memory held).now.trees
+    go (inl counted) = absurd (omega (arith, counted))
+    go (inr (inl shut)) = absurd (let no : false ≡ true = sym shut ∙ (memory_serves held).1 in cc)
+    go (inr (inr none)) = none
+
+-- the tables that were to take the rows had none
+pub bare_like : (held : Held MemStore) → IsBareDatabase hall_schema (state over_memory held).now → IsBareLike hall_schema (state over_memory held).now
+bare_like held bare = record { is = subst (λ s. IsLike hall_schema s) (sym bare.is) (like_itself hall_schema); empty = bare.empty }
+
+module _ (source left : State) (empty : Held MemStore) (bare : IsBareDatabase hall_schema (state over_memory empty).now) where
+  -- the copy was not made
+  pub copy_refused : (after : Held MemStore) (fault : StoreFault)
+      → Migrates source left (state over_memory empty) (state over_memory after) (Err fault) → fault ≡ store.Failed → CopyFails source left
+  copy_refused after fault migrates failed clean = go (migrates.cause clean (memory_serves after).0 failed)
+    where
+      go : MigrateFails source left (state over_memory empty) (state over_memory after)
+          → TablesFail old_schema source left ⊎ (CannotCopy source ⊎ IsCopyUnread source)
+      go (inl unread) = inl unread
+      go (inr (rows, own, inl (inl cause))) = absurd (no_cause empty after cause)
+      go (inr (rows, own, inl (inr unread))) = absurd (unread (bare_read (state over_memory empty).now (bare_like empty bare)))
+      go (inr (rows, own, inr (like, cannot))) = inr (inl (rows, own, (state over_memory empty).now, like, cannot))
+
+  -- it can't be held up by what the tables in memory held before, which was nothing
+  pub never_occupied : (after : Held MemStore) → (content_of (state over_memory empty)).world ≡ empty_world
+      → Migrates source left (state over_memory empty) (state over_memory after) (Ok Occupied) → CopyFails source left
+  never_occupied after none migrates clean = absurd ((migrates.taken clean (memory_serves after).0).some none)
+
+  -- or it was made, and was not read
+  pub copy_unread : (filled last : Held MemStore) (count : ℕ)
+      → Migrates source left (state over_memory empty) (state over_memory filled) (Ok (Done count))
+      → Kept (content_of (state over_memory filled)) (content_of (state over_memory last)) → CanFail (state over_memory last) → CopyFails source left
+  copy_unread filled last count migrates kept can clean =
+      let now = memory_serves last in
+      let before = memory_serves filled in
+      inr (inr (last, kept.world now.0 now.1 ∙ (migrates.taken clean before.0).held, keeps_none last can))
+
+-- after each row was found to be a record
+pub old_fails : (old mid new : State) → KeptTablesIn old_schema old mid → KeptTablesIn old_schema mid new → (HasCleanDisk mid → IsTrue mid.is_open)
+    → (HasCleanDisk mid → AreAllRead old_schema old.now.trees) → CopyFails mid new → OldFails old new
+old_fails old mid new first second serves whole fails clean =
+    let was : HasCleanDisk mid = omega (arith, second.follows.lasts.clean, clean) in
+    let opens = serves was in
+    let world = same_world old mid first was opens in
+    elim (fails clean) [
+      | inl unread ↦ inl (elim unread [
+        | inl cause ↦ cause_over old mid new first.follows.lasts was second.follows.lasts cause
+        | inr some ↦ absurd (some (subst (λ (d : Database). AreAllRead old_schema d.trees) (sym (first.same was opens)) (whole was)))
+      ])
+      | inr copy ↦ inr (elim copy [
+        | inl cannot ↦ inl (cannot.0, subst (λ w. AreRowsOf w cannot.0) world cannot.1, cannot.2, cannot.3, cannot.4)
+        | inr unread ↦ inr (unread.0, unread.1 ∙ world, unread.2)
+      ])
+    ]

@@ -1,20 +1,29 @@
 -- What is written of a database that is checked, how it is found, and how the command ends.
 use Rattle.std.specs.Prelude.{◌≡◌, ◌⊎◌, ℕ, List, Option, Result, Err}
+use Rattle.sqlite_trees.specs.declared.memory.MemStore.{MemStore}
 use Rattle.sqlite_trees.specs.declared.store.Store.{Ghosts}
+use Rattle.sqlite.specs.Effect.{Database}
 use Rattle.sqlite.specs.Held.{Held, state}
 use Rattle.sqlite.specs.State.{State, HasCleanDisk}
+use Rattle.sqlite.specs.Steps.{over_memory}
 use Rattle.hall_grid.specs.Device.{Tally}
 use Rattle.hall_sql.specs.AllRead.{AreAllRead}
 use Rattle.hall_sql.specs.BadRows.{AreNone, AreToldBad}
+use Rattle.hall_sql.specs.CanFail.{CanFail, KeepsNoWorld}
+use Rattle.hall_sql.specs.Cause.{IsStoreCause}
+use Rattle.hall_sql.specs.FillCause.{CannotFill, TablesFail}
 use Rattle.hall_sql.specs.Made.{all_tables, old_tables}
 use Rattle.hall_sql.specs.Migrate.{old_content_of}
 use Rattle.hall_sql.specs.OpenedRead.{IsCauseToRead, OpensToRead, StartsToRead}
 use Rattle.hall_sql.specs.Content.{content_of}
+use Rattle.hall_sql.specs.Standing.{IsBareLike}
 use Rattle.hall_sql.specs.Tables.{hall_schema, old_schema}
+use Rattle.hall_sql.specs.WholeRows.{AreRowsOf}
 use Rattle.hall_sql.specs.declared.bad_rows.BadRows.{BadRows}
 use Rattle.hall_sql.specs.declared.open.OpenFault.{OpenFault}
 use Rattle.hall_sql.specs.declared.open_read.FoundHall.{FoundHall}
 use Rattle.hall_sql.specs.declared.open_read.FoundHall.TheVariants.{Present, Old}
+use Rattle.hall_sql.specs.declared.rows.Rows.{Rows}
 use Rattle.hall_sql.specs.declared.tables.HallTable.{HallTable}
 use Rattle.hall_desk.specs.Checked.{IsChecked}
 use Rattle.hall_desk.specs.declared.sanity.Checked.{Checked}
@@ -58,13 +67,45 @@ abbrev pub FoundText : {S : Type 0} → Ghosts S → Option ℕ → FoundHall S 
 FoundText g budget (Present held) last = PresentText budget (state g held) (state g last)
 FoundText g budget (Old held) last = OldText budget (state g held) (state g last)
 
--- a text was found and written, with which its status goes; or none was, out of memory or as the store failed, and
--- nothing was written
-abbrev pub IsFoundWritten : {W : Type 0} → (List ℕ → ℕ → Type 0) → (W → Option (List ℕ)) → Tally W → Tally W
+-- ---- why nothing was found, where it wasn't out of memory
+
+-- The rows of tables of the version before can't be put into tables that hold nothing: the statement that adds one is
+-- refused, or they are more than can be counted.
+abbrev pub CannotCopy : State → Type 0
+CannotCopy old =
+    (rows : Rows) × AreRowsOf (old_content_of old).world rows × (bare : Database) × IsBareLike hall_schema bare
+    × CannotFill rows bare
+
+-- tables in memory hold the world of tables of the version before, and keep no world
+abbrev pub IsCopyUnread : State → Type 0
+IsCopyUnread old =
+    (copy : Held MemStore) × ((content_of (state over_memory copy)).world ≡ (old_content_of old).world)
+    × KeepsNoWorld (state over_memory copy).now.trees
+
+-- Why nothing was found of the world of tables of the version before, where their device was honest to the end: they
+-- aren't read whole, or can't be copied into memory, or what the copy keeps is no world.
+abbrev pub CopyFails : State → State → Type 0
+CopyFails old new = HasCleanDisk new → TablesFail old_schema old new ⊎ (CannotCopy old ⊎ IsCopyUnread old)
+
+-- Why nothing was found of such tables: so, but a row that is no record is told, so that where they aren't read, the
+-- cause lies in their store.
+abbrev pub OldFails : State → State → Type 0
+OldFails old new = HasCleanDisk new → IsStoreCause old new ⊎ (CannotCopy old ⊎ IsCopyUnread old)
+
+-- why nothing was found of a hall, which was left so: of the present version, a call that reads it can fail
+abbrev pub FoundFails : {S : Type 0} → Ghosts S → FoundHall S → Held S → Type 0
+FoundFails g (Present held) last = CanFail (state g last)
+FoundFails g (Old held) last = OldFails (state g held) (state g last)
+
+-- ---- the command
+
+-- a text was found and written, with which its status goes; or none was, out of memory or as the store failed for a
+-- cause of this kind, and nothing was written
+abbrev pub IsFoundWritten : {W : Type 0} → (List ℕ → ℕ → Type 0) → Type 0 → (W → Option (List ℕ)) → Tally W → Tally W
     → Result ℕ ToolFault → Type 0
-IsFoundWritten Text contents old new ended =
+IsFoundWritten Text Why contents old new ended =
     ((text : List ℕ) × (status : ℕ) × Text text status × IsShownBy status contents text old new ended)
-    ⊎ ((new ≡ old) × ((ended ≡ Err Memory) ⊎ (ended ≡ Err Store)))
+    ⊎ ((new ≡ old) × ((ended ≡ Err Memory) ⊎ ((ended ≡ Err Store) × Why)))
 
 -- the files handed out the database at the path, a hall's, what was found of it was written, and they were given it
 -- back; or they refused it, or it was refused, for this cause, and nothing was written
@@ -74,7 +115,8 @@ IsCheckAt {G} {S} files contents db budget old new writer written result =
     ((found : FoundHall S) × (between : G) × (last : Held S) × (ended : Result ℕ ToolFault)
     × OpensToRead files.store files.paths.image_at files.paths.tells files.paths.opens old db found between
     × StartsToRead files.store (files.paths.image_at db) found × files.paths.closes between last new
-    × IsFoundWritten (FoundText files.store budget found last) contents writer written ended
+    × IsFoundWritten (FoundText files.store budget found last) (FoundFails files.store found last) contents writer
+    written ended
     × (result ≡ command_end ended))
     ⊎ ((cause : OpenFault)
     × IsCauseToRead files.store files.paths.image_at files.paths.tells files.paths.refuses files.paths.opens

@@ -7,7 +7,7 @@ use Rattle.sqlite.specs.Held.{Held, state}
 use Rattle.hall_grid.specs.Device.{Rises}
 use Rattle.sqlite.specs.State.{State, HasCleanDisk}
 use Rattle.hall_store.specs.Store.{IsSettled, LeavesNoOther}
-use Rattle.hall_sql.specs.Migrate.{Migrates, StopsAtWorld, old_content_of}
+use Rattle.hall_sql.specs.Migrate.{MigrateFails, Migrates, StopsAtWorld, old_content_of}
 use Rattle.hall_sql.specs.Opened.{Starts, StartsOld}
 use Rattle.hall_sql.specs.Standing.{IsHall, KeptTablesIn, KeptRows}
 use Rattle.hall_sql.specs.Content.{content_of}
@@ -55,8 +55,9 @@ MigrateText source left old new line status =
 
 -- The tables of the source are never changed, also by a stop, which leaves a world that it could leave of the target
 -- before or the source's. What became of the migration was written on a line; at a device's fault, a first part of it;
--- another fault left the target's tables and the writer. However it ended, both are settled: while a store serves and
--- its device was honest, a stop leaves its world and no other.
+-- another fault left the target's tables and the writer, and where both devices were honest, a store failed for a cause
+-- of a migration's alone. However it ended, both are settled: while a store serves and its device was honest, a stop
+-- leaves its world and no other.
 pub record IsMigrateRun {O S W : Type 0} (g : Ghosts O) (h : Ghosts S) (contents : W → Option (List ℕ))
     (before after : Copying (Held O) (Held S) W) (result : Result ℕ ToolFault) : Type 0 where
   pub rested : KeptTablesIn old_schema (state g before.source) (state g after.source)
@@ -78,6 +79,8 @@ pub record IsMigrateRun {O S W : Type 0} (g : Ghosts O) (h : Ghosts S) (contents
       × (after.writer ≡ before.writer)
   pub store : IsErrOf result tool.Store → KeptRows (state h before.target) (state h after.target)
       × (after.writer ≡ before.writer)
+  pub cause : IsErrOf result tool.Store → HasCleanDisk (state g after.source) → HasCleanDisk (state h after.target)
+      → MigrateFails (state g before.source) (state g after.source) (state h before.target) (state h after.target)
 
 -- over a source that was taken over, the target was asked for: the files handed it out, the rows were copied from the
 -- world that the source held into the one that the target held, and the files were given it back, a hall's; or they

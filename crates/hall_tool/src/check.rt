@@ -1,10 +1,11 @@
 //! The command `check`: whether a database file is a hall's, whole, and sane.
-ghost use Rattle.std.specs.Prelude.{◌≡◌, ◌⊎◌, Err, IfOk, IfErr, string_bytes};
+ghost use Rattle.std.specs.Prelude.{◌≡◌, ◌⊎◌, Err, IfOk, IfErr, IsErrOf, string_bytes};
 ghost use Rattle.sqlite.specs.Held.{state};
 ghost use Rattle.hall_store.specs.Store.{Kept};
+ghost use Rattle.hall_sql.specs.CanFail.{CanFail};
 ghost use Rattle.hall_sql.specs.Standing.{KeptTablesIn};
 ghost use Rattle.hall_sql.specs.Tables.{old_schema};
-ghost use Rattle.hall_tool.specs.CheckRun.{CopyText, IsCheckAt, OldText, PresentText};
+ghost use Rattle.hall_tool.specs.CheckRun.{CopyFails, CopyText, IsCheckAt, OldFails, OldText, PresentText};
 ghost use Rattle.hall_tool.specs.Machine.{files_of};
 ghost use Rattle.hall_tool.specs.Shown.{IsShownBy};
 ghost use Rattle.hall_tool.specs.WorldText.{WorldText};
@@ -36,6 +37,7 @@ fn world_ending<S: WholeStore>(
     ensures text { IfOk result
         (λ ending. WorldText budget (S.content store.new) (string_bytes ending.line) ending.status) }
     ensures cause { IfErr result (λ e. (e ≡ ToolFault.Memory) ⊎ (e ≡ ToolFault.Store)) }
+    ensures fault { IsErrOf result ToolFault.Store → (S.content store.new).can_fail }
 {
     match check(alloc, store, budget) {
         Ok(checked) => Ok(world_text(alloc, budget, &checked)?),
@@ -52,6 +54,7 @@ fn present_ending<S: Alter + Drop>(
     ensures text { IfOk result (λ ending. PresentText budget (state S.Store store.old) (state S.Store store.new)
         (string_bytes ending.line) ending.status) }
     ensures cause { IfErr result (λ e. (e ≡ ToolFault.Memory) ⊎ (e ≡ ToolFault.Store)) }
+    ensures fault { IsErrOf result ToolFault.Store → CanFail (state S.Store store.new) }
 {
     let bad = match store.bad_rows(alloc) {
         Ok(bad) => bad,
@@ -76,6 +79,7 @@ fn copied_ending<S: Alter + Drop>(
     ensures text { IfOk result (λ ending. CopyText budget (state S.Store store.old) (state S.Store store.new)
         (string_bytes ending.line) ending.status) }
     ensures cause { IfErr result (λ e. (e ≡ ToolFault.Memory) ⊎ (e ≡ ToolFault.Store)) }
+    ensures fault { IsErrOf result ToolFault.Store → CopyFails (state S.Store store.old) (state S.Store store.new) }
 {
     store.in_old_hall();
     let mut copy = match open_in_memory(alloc) {
@@ -98,6 +102,7 @@ fn old_ending<S: Alter + Drop>(
     ensures text { IfOk result (λ ending. OldText budget (state S.Store store.old) (state S.Store store.new)
         (string_bytes ending.line) ending.status) }
     ensures cause { IfErr result (λ e. (e ≡ ToolFault.Memory) ⊎ (e ≡ ToolFault.Store)) }
+    ensures fault { IsErrOf result ToolFault.Store → OldFails (state S.Store store.old) (state S.Store store.new) }
 {
     let bad = match store.bad_rows(alloc) {
         Ok(bad) => bad,

@@ -1,8 +1,8 @@
 use Rattle.std.proofs.Common.{arith}
-use Rattle.std.proofs.lemmas.Result.{IfOk-weaker}
+use Rattle.std.proofs.lemmas.Result.{IfErr-weaker, IfOk-weaker}
 use Rattle.sqlite.specs.Held.{state}
 use Rattle.sqlite.specs.State.{HasCleanDisk}
-use Rattle.hall_sql.proofs.BadRowLemmas.{rounds_bad, rounds_may_be_asked}
+use Rattle.hall_sql.proofs.BadRowLemmas.{rounds_bad, rounds_cause, rounds_may_be_asked}
 use Rattle.hall_sql.proofs.bad_rows.bad_rounds.Goals as goal
 
 pub bad_in-requires : goal.bad_in-requires
@@ -14,3 +14,10 @@ returns-clause-bad g c clean =
     let has = c.requires.has in
     let was : HasCleanDisk old = omega (arith, (c.bad_in.ensures.rested has.schema has.tabled).follows.lasts.clean, clean) in
     IfOk-weaker c.bad_in.result _ _ (λ ids it. rounds_bad old (state g.S.Store c.bad_in.new.conn) was ids.items has it) (c.bad_in.ensures.bad clean)
+
+pub returns-clause-cause : goal.returns-clause-cause
+returns-clause-cause g c clean =
+    let old = state g.S.Store c.args.conn.now in
+    let has = c.requires.has in
+    let was : HasCleanDisk old = omega (arith, (c.bad_in.ensures.rested has.schema has.tabled).follows.lasts.clean, clean) in
+    IfErr-weaker c.bad_in.result _ _ (λ fault why failed. rounds_cause old (state g.S.Store c.bad_in.new.conn) was has (why failed)) (c.bad_in.ensures.cause clean)

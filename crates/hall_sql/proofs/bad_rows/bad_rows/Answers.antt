@@ -7,7 +7,9 @@ use Rattle.hall_sql.specs.Versions.{HasTable}
 use Rattle.hall_sql.specs.declared.tables.HallTable.TheVariants.{People}
 use Rattle.hall_sql.specs.declared.bad_rows.BadRows.{BadRows}
 use Rattle.hall_sql.proofs.BadRowLemmas.{told_next}
+use Rattle.hall_sql.proofs.CauseLemmas.{fails_as}
 use Rattle.hall_sql.proofs.RowReads.{rests_twice}
+use Rattle.hall_sql.proofs.WriteCauseLemmas.{cause_over}
 use Rattle.hall_sql.proofs.bad_rows.bad_rows.Goals as goal
 
 pub bad_rows_of-requires : goal.bad_rows_of-requires
@@ -45,10 +47,26 @@ loop-table-preserved g c =
     let tables = c.args.tables.now in
     let i = c.loop-table.table-index in
     let rows : BadRows = record { table = get_or tables i People; rowids = c.in_ok-rowids.rowids } in
-    let items = c.in_ok-add.ensures in (
+    let items = c.in_ok-add.ensures.added in (
       rests_twice old mid new so.0 it.rested,
       λ clean.
           let was : HasCleanDisk mid = omega (arith, second.follows.lasts.clean, clean) in
           rw (take_more tables i People c.loop-table-test.true, items)
           (told_next (take i tables) (get_or tables i People) over.schema old mid new c.loop-table.bad.items rows clean first second (so.1 was).1 refl (it.bad clean)),
     )
+
+pub returns-in_err-rowids-clause-cause : goal.returns-in_err-rowids-clause-cause
+returns-in_err-rowids-clause-cause g c clean =
+    let old = state g.S.Store c.args.conn.now in
+    let mid = state g.S.Store c.loop-table.conn in
+    let new = state g.S.Store c.bad_rows_of.new.conn in
+    let over = c.requires.has in
+    let first = c.loop-table.invariant.0 over.schema over.tabled in
+    let second = c.in_err-rowids.ensures.rested over.schema first.tabled in
+    let was : HasCleanDisk mid = omega (arith, second.follows.lasts.clean, clean) in
+    fails_as c.from_residual.result _ _ c.from_residual.ensures.1 (λ failed.
+    cause_over old mid new first.follows.lasts was second.follows.lasts (c.in_err-rowids.ensures.cause clean failed))
+
+pub returns-in_err-add-clause-cause : goal.returns-in_err-add-clause-cause
+returns-in_err-add-clause-cause g c clean =
+    fails_as c.from_residual-in_err-add.result _ _ c.from_residual-in_err-add.ensures.1 (λ failed. absurd (c.in_err-add.ensures.cause failed))

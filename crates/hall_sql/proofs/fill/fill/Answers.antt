@@ -1,7 +1,11 @@
-use Rattle.std.proofs.Common.{rules, ◌≡◌, IsTrue, sym, subst}
+use Rattle.std.proofs.Common.{rules, ◌≡◌, IsTrue, arith, inl, sym, subst}
+use Rattle.sqlite.specs.State.{HasCleanDisk}
 use Rattle.hall_sql.specs.Standing.{AddsOutcomes}
 use Rattle.sqlite.specs.Held.{state}
 use Rattle.hall_sql.specs.Fill.{AreFilled, Fills}
+use Rattle.hall_sql.specs.FillCause.{FillFails}
+use Rattle.hall_sql.proofs.CauseLemmas.{fails_as}
+use Rattle.hall_sql.proofs.WriteCauseLemmas.{commit_fails, whole_cause}
 use Rattle.hall_sql.proofs.LastLemmas.{survived}
 use Rattle.hall_sql.proofs.TransactionLemmas.{HasCommitted, commit_outcomes, committed, rolled_outcomes}
 use Rattle.hall_sql.proofs.fill.fill.Goals as goal
@@ -47,3 +51,28 @@ returns-in_err-fill_inside-clause-stops g c =
     subst (λ h. IsTrue old.is_open → AddsOutcomes Among old (state g.S.Store h)) (sym same)
     (λ opens. rolled_outcomes g.S.Store c.args.conn.now c.requires.hall Among (state g.S.Store c.fill_inside.new.tx.conn.now) (state g.S.Store c.drop-tx.new.self.0)
     it.carries c.drop-tx.ensures.survives)
+
+pub returns-in-Err-clause-cause : goal.returns-in-Err-clause-cause
+returns-in-Err-clause-cause g c clean failed =
+    let same : c.conn-2-1.given.0 ≡ c.commit.new.self.0 = search rules in
+    let it = rw c.transaction-tx.ensures.begun at c.in_ok-fill_inside.ensures in
+    let mid = state g.S.Store c.fill_inside.new.tx.conn.now in
+    let end = state g.S.Store c.commit.new.self.0 in
+    let late : HasCleanDisk end = subst (λ h. HasCleanDisk (state g.S.Store h)) same clean in
+    subst (λ h. FillFails c.args.rows.now (state g.S.Store c.args.conn.now) (state g.S.Store h)) (sym same)
+    (inl (commit_fails g.S.Store c.args.conn.now c.requires.hall (Fills c.args.rows.now) mid end c.in-Err.error it.carries it.done
+    (survived _ _ _ c.in-Err.ensures.survives) late (c.fault_of.ensures failed) (c.in-Err.ensures.err late)))
+
+pub returns-in_err-fill_inside-clause-cause : goal.returns-in_err-fill_inside-clause-cause
+returns-in_err-fill_inside-clause-cause g c clean =
+    let same : c.conn-1.given.0 ≡ c.drop-tx.new.self.0 = search rules in
+    let it = rw c.transaction-tx.ensures.begun at c.in_err-fill_inside.ensures in
+    let mid = state g.S.Store c.fill_inside.new.tx.conn.now in
+    let end = state g.S.Store c.drop-tx.new.self.0 in
+    let late : HasCleanDisk end = subst (λ h. HasCleanDisk (state g.S.Store h)) same clean in
+    let lasts = survived mid end _ c.drop-tx.ensures.survives in
+    let now : HasCleanDisk mid = omega (arith, lasts.clean, late) in
+    let was : HasCleanDisk (state g.S.Store c.args.conn.now) = omega (arith, it.carries.lasts.clean, now) in
+    fails_as c.from_residual.result _ _ c.from_residual.ensures.1 (λ failed.
+    subst (λ h. FillFails c.args.rows.now (state g.S.Store c.args.conn.now) (state g.S.Store h)) (sym same)
+    (whole_cause g.S.Store c.args.conn.now c.requires.hall mid end was lasts (λ goes. it.cause now goes failed)))

@@ -1,7 +1,8 @@
 use Rattle.std.proofs.Common.{rules, ◌≡◌}
 use Rattle.sqlite.specs.Held.{state}
 use Rattle.hall_sql.specs.WholeRows.{AreSameRows, count_of}
-use Rattle.hall_sql.proofs.MigrationLemmas.{compared, finds_nothing, finds_others, finds_these}
+use Rattle.hall_sql.proofs.MigrationLemmas.{compared, finds_nothing, finds_others, finds_these, six_fail, testers_fail}
+use Rattle.hall_sql.proofs.CauseLemmas.{fails_as}
 use Rattle.hall_sql.proofs.StoreLemmas.{rested_hall, rests_on}
 use Rattle.hall_sql.proofs.migration.compare.Goals as goal
 
@@ -77,3 +78,15 @@ pub returns-clause-whole : goal.returns-clause-whole
 returns-clause-whole g c =
     compared (state g.T.Store c.args.conn.now) (state g.T.Store c.read_rows.new.conn) (state g.T.Store c.has_testers.new.conn) c.requires.hall c.in_ok-held.ensures.rested
     (λ clean. (c.in_ok-held.ensures.served clean).0) c.in_ok-held.ensures.whole c.in_ok-has_testers.ensures.rested c.in_ok-has_testers.ensures.whole
+
+pub returns-in_err-held-clause-cause : goal.returns-in_err-held-clause-cause
+returns-in_err-held-clause-cause g c clean =
+    fails_as c.from_residual.result _ _ c.from_residual.ensures.1 (λ failed.
+    six_fail (state g.T.Store c.args.conn.now) (state g.T.Store c.read_rows.new.conn) (c.in_err-held.ensures.cause clean failed))
+
+pub returns-in_err-has_testers-clause-cause : goal.returns-in_err-has_testers-clause-cause
+returns-in_err-has_testers-clause-cause g c clean =
+    fails_as c.from_residual-in_err-has_testers.result _ _ c.from_residual-in_err-has_testers.ensures.1 (λ failed.
+    testers_fail (state g.T.Store c.args.conn.now) (state g.T.Store c.read_rows.new.conn) (state g.T.Store c.has_testers.new.conn) c.requires.hall
+    c.in_ok-held.ensures.rested (λ was. (c.in_ok-held.ensures.served was).0) c.in_err-has_testers.ensures.rested clean
+    (c.in_err-has_testers.ensures.cause clean failed))

@@ -3,8 +3,9 @@ use Rattle.std.specs.FinMap.{entries, values}
 use Rattle.sqlite.specs.Held.{state}
 use Rattle.hall_sql.specs.Standing.{KeptAnyTables}
 use Rattle.hall_sql.specs.Versions.{IsAnyHall}
-use Rattle.hall_sql.proofs.AllRead.{answers_read, people_read, places_read, protests_read, puzzles_read, read_before, rounds_read}
-use Rattle.hall_sql.proofs.RowReads.{rested_clean, rests_any, rests_twice, told_before}
+use Rattle.hall_sql.proofs.AllRead.{answers_fails, answers_read, people_fails, people_read, places_fails, places_read, protests_fails, protests_read, puzzles_fails, puzzles_read, read_before, rounds_fails, rounds_read}
+use Rattle.hall_sql.proofs.RowReads.{fails_first, fails_next, rested_clean, rests_any, rests_twice, told_before}
+use Rattle.hall_sql.proofs.CauseLemmas.{fails_as}
 use Rattle.hall_sql.proofs.WholeRows.{rows_of}
 use Rattle.hall_sql.proofs.rows.read_rows.Goals as goal
 
@@ -145,3 +146,86 @@ returns-clause-whole g c clean =
     let t4 = read_before 9 s0 s4 h0 r4 c4 (c.in_ok-places.ensures.served c4).0 (answers_read s4 s5 c4 (rests_any s0 s4 h0 r4) (c.in_ok-answers.ensures.whole c5)) in
     let t5 = read_before 12 s0 s5 h0 r5 c5 (c.in_ok-answers.ensures.served c5).0 (protests_read s5 s6 c5 (rests_any s0 s5 h0 r5) (c.in_ok-protests.ensures.whole clean)) in
     (t0, (t1, (t2, (t3, (t4, (t5, tt))))))
+
+pub returns-in_err-people-clause-cause : goal.returns-in_err-people-clause-cause
+returns-in_err-people-clause-cause g c clean =
+    let s0 = state g.S.Store c.args.conn.now in
+    let s1 = state g.S.Store c.all_people.new.conn in
+    let h0 : IsAnyHall s0 = c.requires.hall in
+    fails_as c.from_residual.result _ _ c.from_residual.ensures.1 (λ failed.
+    fails_first 0 s0 s1 (λ all. all.0) (people_fails s0 s1 (rested_clean s0 s1 h0 c.in_err-people.ensures.rested clean) h0 (c.in_err-people.ensures.cause clean failed)))
+
+pub returns-in_err-puzzles-clause-cause : goal.returns-in_err-puzzles-clause-cause
+returns-in_err-puzzles-clause-cause g c clean =
+    let s0 = state g.S.Store c.args.conn.now in
+    let s1 = state g.S.Store c.all_people.new.conn in
+    let s2 = state g.S.Store c.all_puzzles.new.conn in
+    let h0 : IsAnyHall s0 = c.requires.hall in
+    let r1 : KeptAnyTables s0 s1 = c.in_ok-people.ensures.rested in
+    fails_as c.from_residual-in_err-puzzles.result _ _ c.from_residual-in_err-puzzles.ensures.1 (λ failed.
+    fails_next 3 s0 s1 s2 h0 r1 c.in_err-puzzles.ensures.rested clean (λ was. (c.in_ok-people.ensures.served was).0) (λ all. all.1.0)
+    (λ was. puzzles_fails s1 s2 was (rests_any s0 s1 h0 r1) (c.in_err-puzzles.ensures.cause clean failed)))
+
+pub returns-in_err-heads-clause-cause : goal.returns-in_err-heads-clause-cause
+returns-in_err-heads-clause-cause g c clean =
+    let s0 = state g.S.Store c.args.conn.now in
+    let s1 = state g.S.Store c.all_people.new.conn in
+    let s2 = state g.S.Store c.all_puzzles.new.conn in
+    let s3 = state g.S.Store c.rounds.new.conn in
+    let h0 : IsAnyHall s0 = c.requires.hall in
+    let r1 : KeptAnyTables s0 s1 = c.in_ok-people.ensures.rested in
+    let r2 : KeptAnyTables s0 s2 = rests_twice s0 s1 s2 r1 c.in_ok-puzzles.ensures.rested in
+    fails_as c.from_residual-in_err-heads.result _ _ c.from_residual-in_err-heads.ensures.1 (λ failed.
+    fails_next 5 s0 s2 s3 h0 r2 c.in_err-heads.ensures.rested clean (λ was. (c.in_ok-puzzles.ensures.served was).0) (λ all. all.1.1.0)
+    (λ was. rounds_fails s2 s3 was (rests_any s0 s2 h0 r2) (c.in_err-heads.ensures.cause clean failed)))
+
+pub returns-in_err-places-clause-cause : goal.returns-in_err-places-clause-cause
+returns-in_err-places-clause-cause g c clean =
+    let s0 = state g.S.Store c.args.conn.now in
+    let s1 = state g.S.Store c.all_people.new.conn in
+    let s2 = state g.S.Store c.all_puzzles.new.conn in
+    let s3 = state g.S.Store c.rounds.new.conn in
+    let s4 = state g.S.Store c.all_places.new.conn in
+    let h0 : IsAnyHall s0 = c.requires.hall in
+    let r1 : KeptAnyTables s0 s1 = c.in_ok-people.ensures.rested in
+    let r2 : KeptAnyTables s0 s2 = rests_twice s0 s1 s2 r1 c.in_ok-puzzles.ensures.rested in
+    let r3 : KeptAnyTables s0 s3 = rests_twice s0 s2 s3 r2 c.in_ok-heads.ensures.rested in
+    fails_as c.from_residual-in_err-places.result _ _ c.from_residual-in_err-places.ensures.1 (λ failed.
+    fails_next 7 s0 s3 s4 h0 r3 c.in_err-places.ensures.rested clean (λ was. (c.in_ok-heads.ensures.served was).0) (λ all. all.1.1.1.0)
+    (λ was. places_fails s3 s4 was (rests_any s0 s3 h0 r3) (c.in_err-places.ensures.cause clean failed)))
+
+pub returns-in_err-answers-clause-cause : goal.returns-in_err-answers-clause-cause
+returns-in_err-answers-clause-cause g c clean =
+    let s0 = state g.S.Store c.args.conn.now in
+    let s1 = state g.S.Store c.all_people.new.conn in
+    let s2 = state g.S.Store c.all_puzzles.new.conn in
+    let s3 = state g.S.Store c.rounds.new.conn in
+    let s4 = state g.S.Store c.all_places.new.conn in
+    let s5 = state g.S.Store c.all_answers.new.conn in
+    let h0 : IsAnyHall s0 = c.requires.hall in
+    let r1 : KeptAnyTables s0 s1 = c.in_ok-people.ensures.rested in
+    let r2 : KeptAnyTables s0 s2 = rests_twice s0 s1 s2 r1 c.in_ok-puzzles.ensures.rested in
+    let r3 : KeptAnyTables s0 s3 = rests_twice s0 s2 s3 r2 c.in_ok-heads.ensures.rested in
+    let r4 : KeptAnyTables s0 s4 = rests_twice s0 s3 s4 r3 c.in_ok-places.ensures.rested in
+    fails_as c.from_residual-in_err-answers.result _ _ c.from_residual-in_err-answers.ensures.1 (λ failed.
+    fails_next 9 s0 s4 s5 h0 r4 c.in_err-answers.ensures.rested clean (λ was. (c.in_ok-places.ensures.served was).0) (λ all. all.1.1.1.1.0)
+    (λ was. answers_fails s4 s5 was (rests_any s0 s4 h0 r4) (c.in_err-answers.ensures.cause clean failed)))
+
+pub returns-in_err-protests-clause-cause : goal.returns-in_err-protests-clause-cause
+returns-in_err-protests-clause-cause g c clean =
+    let s0 = state g.S.Store c.args.conn.now in
+    let s1 = state g.S.Store c.all_people.new.conn in
+    let s2 = state g.S.Store c.all_puzzles.new.conn in
+    let s3 = state g.S.Store c.rounds.new.conn in
+    let s4 = state g.S.Store c.all_places.new.conn in
+    let s5 = state g.S.Store c.all_answers.new.conn in
+    let s6 = state g.S.Store c.all_protests.new.conn in
+    let h0 : IsAnyHall s0 = c.requires.hall in
+    let r1 : KeptAnyTables s0 s1 = c.in_ok-people.ensures.rested in
+    let r2 : KeptAnyTables s0 s2 = rests_twice s0 s1 s2 r1 c.in_ok-puzzles.ensures.rested in
+    let r3 : KeptAnyTables s0 s3 = rests_twice s0 s2 s3 r2 c.in_ok-heads.ensures.rested in
+    let r4 : KeptAnyTables s0 s4 = rests_twice s0 s3 s4 r3 c.in_ok-places.ensures.rested in
+    let r5 : KeptAnyTables s0 s5 = rests_twice s0 s4 s5 r4 c.in_ok-answers.ensures.rested in
+    fails_as c.from_residual-in_err-protests.result _ _ c.from_residual-in_err-protests.ensures.1 (λ failed.
+    fails_next 12 s0 s5 s6 h0 r5 c.in_err-protests.ensures.rested clean (λ was. (c.in_ok-answers.ensures.served was).0) (λ all. all.1.1.1.1.1.0)
+    (λ was. protests_fails s5 s6 was (rests_any s0 s5 h0 r5) (c.in_err-protests.ensures.cause clean failed)))

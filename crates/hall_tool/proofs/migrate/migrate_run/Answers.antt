@@ -2,6 +2,7 @@ use Rattle.std.proofs.Common.{inl, rules, refl}
 use Rattle.sqlite.specs.Held.{state}
 use Rattle.hall_sql.proofs.StoreLemmas.{rested_stayed}
 use Rattle.hall_sql.proofs.TransactionLemmas.{rests_itself}
+use Rattle.hall_tool.proofs.Checking.{store_failed}
 use Rattle.hall_tool.proofs.migrate.migrate_run.Goals as goal
 
 pub returns-in_err-line : goal.returns-in_err-line
@@ -17,6 +18,7 @@ returns-in_err-line g c = record {
   part = search rules;
   memory = λ _. (rested_stayed (rests_itself (state g.T.Store c.args.target.now) c.in_hall.ensures), refl);
   store = search rules;
+  cause = search rules;
 }
 
 pub returns-in_err-write_all-in-Ok : goal.returns-in_err-write_all-in-Ok
@@ -42,4 +44,21 @@ returns-in_err-write_all-in-Ok g c = record {
   );
   memory = search rules;
   store = search rules;
+  cause = search rules;
+}
+
+pub returns-in-Err : goal.returns-in-Err
+returns-in-Err g c = record {
+  rested = c.in-Err.ensures.source;
+  kept = c.in-Err.ensures.kept;
+  stops = c.in-Err.ensures.stops;
+  settled = search rules;
+  source_settled = search rules;
+  line = search rules;
+  same = search rules;
+  device = search rules;
+  part = search rules;
+  memory = search rules;
+  store = search rules;
+  cause = λ is clean late. c.in-Err.ensures.cause clean late (store_failed c.in-Err.fault c.told.result c.told.ensures is);
 }

@@ -1,9 +1,11 @@
 use Rattle.std.proofs.lemmas.Result.{IfOk-weaker}
 use Rattle.std.proofs.Common.{IfOk, subst}
+use Rattle.hall_store.specs.Store.{Fails}
 use Rattle.sqlite.specs.Held.{state}
 use Rattle.sqlite.specs.State.{HasCleanDisk}
 use Rattle.hall_sql.specs.AllRead.{AreAllRead}
 use Rattle.hall_sql.specs.BadRows.{AreNone, AreToldBad}
+use Rattle.hall_sql.specs.Cause.{IsStoreCause}
 use Rattle.hall_sql.specs.Made.{old_tables}
 use Rattle.hall_sql.specs.Tables.{old_schema}
 use Rattle.hall_sql.proofs.BadRowLemmas.{none_in_old}
@@ -26,3 +28,8 @@ returns-clause-whole g c =
     let new = state g.S.Store c.bad_rows.new.conn in
     subst (λ s. HasCleanDisk new → IfOk c.bad_rows.result (λ bad. AreNone bad.items → AreAllRead old_schema (state g.S.Store s).now.trees)) c.self.view_is
     (λ clean. IfOk-weaker c.bad_rows.result _ _ (λ bad told none. none_in_old _ bad.items told.1 none) (c.bad_rows.ensures.bad clean))
+
+pub returns-clause-cause : goal.returns-clause-cause
+returns-clause-cause g c =
+    let new = state g.S.Store c.bad_rows.new.conn in
+    subst (λ s. HasCleanDisk new → Fails (IsStoreCause (state g.S.Store s) new) c.bad_rows.result) c.self.view_is c.bad_rows.ensures.cause

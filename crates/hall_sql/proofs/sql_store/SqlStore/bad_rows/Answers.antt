@@ -1,13 +1,16 @@
 use Rattle.std.proofs.lemmas.Result.{IfOk-weaker}
 use Rattle.std.proofs.Common.{IfOk, subst}
+use Rattle.hall_store.specs.Store.{Fails}
 use Rattle.sqlite.specs.Held.{state}
 use Rattle.sqlite.specs.State.{HasCleanDisk}
 use Rattle.hall_sql.specs.AllRead.{AreAllRead}
 use Rattle.hall_sql.specs.BadRows.{AreNone, AreToldBad}
+use Rattle.hall_sql.specs.Cause.{IsStoreCause}
 use Rattle.hall_sql.specs.Made.{all_tables}
 use Rattle.hall_sql.specs.Tables.{hall_schema}
 use Rattle.hall_sql.proofs.StoreLemmas.{rested_hall}
 use Rattle.hall_sql.proofs.BadRowLemmas.{none_in_hall}
+use Rattle.hall_sql.proofs.FailLemmas.{store_fault}
 use Rattle.hall_sql.proofs.sql_store.SqlStore.bad_rows.Goals as goal
 
 pub invariant_of-self : goal.invariant_of-self
@@ -27,3 +30,12 @@ returns-clause-whole g c =
     let new = state g.S.Store c.bad_rows.new.conn in
     subst (λ s. HasCleanDisk new → IfOk c.bad_rows.result (λ bad. AreNone bad.items → AreAllRead hall_schema (state g.S.Store s).now.trees)) c.self.view_is
     (λ clean. IfOk-weaker c.bad_rows.result _ _ (λ bad told none. none_in_hall _ bad.items told.1 none) (c.bad_rows.ensures.bad clean))
+
+pub returns-clause-fault : goal.returns-clause-fault
+returns-clause-fault g c =
+    store_fault c.bad_rows.result _ (state g.S.Store c.bad_rows.new.conn) (rested_hall c.self.invariant c.bad_rows.ensures.rested) c.bad_rows.ensures.cause
+
+pub returns-clause-cause : goal.returns-clause-cause
+returns-clause-cause g c =
+    let new = state g.S.Store c.bad_rows.new.conn in
+    subst (λ s. HasCleanDisk new → Fails (IsStoreCause (state g.S.Store s) new) c.bad_rows.result) c.self.view_is c.bad_rows.ensures.cause
