@@ -1,11 +1,11 @@
 -- A parse of a simple command without subcommands has one kind of fault at most.
-use Rattle.std.proofs.Common.{ap, sym, inl, inr, arith, ◌≤◌, ℕ, Bool, zero, suc, true, false, cond, List, []}
+use Rattle.std.proofs.Common.{ap, sym, subst, inl, inr, arith, ◌≤◌, ℕ, Bool, zero, suc, true, false, cond, List, []}
 use Rattle.std.proofs.Common.{◌∷◌, ◌≡◌, Option, Some, None, length}
 use Rattle.std.specs.Prelude.{slice_get}
 use Rattle.std.specs.Option.{option_map_or}
 use Rattle.std.specs.Str.{chars}
 use Rattle.clap.specs.Lexer.{long_of, short_of}
-use Rattle.clap.specs.Simple.{Shape}
+use Rattle.clap.specs.Simple.{App, Shape}
 use Rattle.clap.specs.Walk.{Held, Row, Rule, Step, Text, Waiting, Walk, arg_by_id, arg_by_index, arg_by_long}
 use Rattle.clap.specs.Walk.{arg_by_short}
 use Rattle.clap.specs.Walk.{attached_value, nothing_held, settled, value, walk, walk_from, walked}
@@ -217,6 +217,8 @@ entered_one s None = search one_or_none
 entered_one s (Some p) = search one_or_none
 
 -- one kind at most, of a built command without subcommands
-pub built_one : (s : Shape) (words : List Text) → s.is_leaf ≡ true
-    → IsSingle (built_fault (record { top = s; subs = [] }) nothing_held words)
-built_one s words leaf = level_one s leaf nothing_held words _ _ (entered_one s _)
+pub built_one : (a : App) (words : List Text) → a.subs ≡ [] → a.top.is_leaf ≡ true
+    → IsSingle (built_fault a nothing_held words)
+built_one a words alone leaf =
+    subst (λ (subs : List Shape). IsSingle (built_fault (record { top = a.top; subs = subs }) nothing_held words))
+    (sym alone) (level_one a.top leaf nothing_held words _ _ (entered_one a.top _))

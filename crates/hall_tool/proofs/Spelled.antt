@@ -11,9 +11,10 @@ use Rattle.hall_tool.specs.declared.words.Command.{Command}
 use Rattle.hall_tool.specs.declared.words.Command.TheVariants.{Judge, Solve, Init, Serve, Replay, Table, Migrate}
 use Rattle.hall_tool.specs.declared.words.Command.TheVariants.{Check, Help, Version}
 use Rattle.hall_tool.specs.declared.words.Numbers.{Numbers}
-use Rattle.hall_tool.specs.Words.{AreSpelled, AsksForPage, IsNumber, IsNumberIfAny, IsTaken, SpellOneCommand}
+use Rattle.hall_tool.specs.Words.{AreSpelled, AsksForPage, IsNumber, IsNumberIfAny, SpellOneCommand}
 use Rattle.hall_tool.specs.Words.{budgets, connection_limits, options_of, page_of, ports}
 use Rattle.hall_tool.proofs.Spelling.{asked_is, none_is_some, same_kind}
+use Rattle.hall_tool.proofs.Taken.{TakenBy, taken_by}
 
 pub are_spelled : AreSpelled
 unfolding clap_on_literals
@@ -42,51 +43,6 @@ are_spelled = record {
   check_help = inr (DisplayHelp, refl, (refl, refl));
   version = inr (DisplayVersion, refl, refl);
 }
-
--- the same as IsTaken, by the page
-abbrev TakenBy : Page → List Row → Command → Type 0
-TakenBy pages.Hall rows command = ⊥
-TakenBy pages.Judge rows command = command ≡ Judge
-TakenBy pages.Solve rows command =
-    (budget : ℕ) × IsNumber budgets (first_of (codes "budget") rows) budget × (command ≡ Solve budget)
-TakenBy pages.Init rows command =
-    (db : Text) × (people : Text) × (first_of (codes "db") rows ≡ Some db) × (first_of (codes "people") rows ≡ Some people)
-    × (command ≡ Init db people)
-TakenBy pages.Serve rows command =
-    (db : Text) × (port : ℕ) × (connections : ℕ) × (first_of (codes "db") rows ≡ Some db)
-    × IsNumber ports (first_of (codes "port") rows) port
-    × IsNumber connection_limits (first_of (codes "connections") rows) connections
-    × (command ≡ Serve db port connections)
-TakenBy pages.Replay rows command =
-    (people : Text) × (first_of (codes "people") rows ≡ Some people) × (command ≡ Replay people)
-TakenBy pages.Table rows command =
-    (db : Text) × (round : Text) × (first_of (codes "db") rows ≡ Some db) × (first_of (codes "round") rows ≡ Some round)
-    × (command ≡ Table db round)
-TakenBy pages.Migrate rows command =
-    (from : Text) × (to : Text) × (first_of (codes "from") rows ≡ Some from) × (first_of (codes "to") rows ≡ Some to)
-    × (command ≡ Migrate from to)
-TakenBy pages.Check rows command =
-    (db : Text) × (budget : Option ℕ) × (first_of (codes "db") rows ≡ Some db)
-    × IsNumberIfAny budgets (first_of (codes "budget") rows) budget
-    × (command ≡ Check db budget)
-
-taken_by : (page : Page) (rows : List Row) (command : Command) → IsTaken page rows command → TakenBy page rows command
-taken_by page rows Judge t = subst (λ p. TakenBy p rows Judge) (sym t) refl
-taken_by page rows (Solve budget) t = subst (λ p. TakenBy p rows (Solve budget)) (sym t.0) (budget, t.1, refl)
-taken_by page rows (Init db people) t =
-    subst (λ p. TakenBy p rows (Init db people)) (sym t.0) (db, people, t.1, t.2, refl)
-taken_by page rows (Serve db port connections) t =
-    subst (λ p. TakenBy p rows (Serve db port connections)) (sym t.0)
-    (db, port, connections, t.1, t.2, t.3, refl)
-taken_by page rows (Replay people) t = subst (λ p. TakenBy p rows (Replay people)) (sym t.0) (people, t.1, refl)
-taken_by page rows (Table db round) t =
-    subst (λ p. TakenBy p rows (Table db round)) (sym t.0) (db, round, t.1, t.2, refl)
-taken_by page rows (Migrate from to) t =
-    subst (λ p. TakenBy p rows (Migrate from to)) (sym t.0) (from, to, t.1, t.2, refl)
-taken_by page rows (Check db budget) t =
-    subst (λ p. TakenBy p rows (Check db budget)) (sym t.0) (db, budget, t.1, t.2, refl)
-taken_by page rows (Help asked) t = absurd t
-taken_by page rows Version t = absurd t
 
 same_number : (numbers : Numbers) (text : Option Text) (m n : ℕ) → IsNumber numbers text m → IsNumber numbers text n
     → m ≡ n

@@ -1,11 +1,11 @@
 -- What the program's words spell.
 use Rattle.std.proofs.Common.{ap, sym, subst, refl, inl, inr, ◌∙◌, ◌≡◌, Bool, true, false, List, [], ◌∷◌, map}
 use Rattle.std.proofs.Common.{Option, Some, codes}
-use Rattle.std.specs.Prelude.{◌≢◌, ◌⊎◌, slice_get, unwrap_or}
+use Rattle.std.specs.Prelude.{◌≢◌, ◌⊎◌, IfErr, IfOk, IsErrAnd, Result, Ok, Err, slice_get, unwrap_or}
 use Rattle.std.specs.Str.{bytes_eq}
 use Rattle.std.proofs.lemmas.Slice.Eq.{bytes_eq-Decides}
-use Rattle.clap.specs.Words.{Kinds, HasKind, IsAmong, Row, Text, fault_of, first_of, first_value, is_simple}
-use Rattle.clap.specs.Words.{is_simple_and_free, kind_of, rows_of}
+use Rattle.clap.specs.Words.{App, Kinds, HasKind, IsAmong, Row, Text, fault_of, first_of, first_value, is_simple}
+use Rattle.clap.specs.Words.{is_simple_and_free, kind_of, matches_of, rows_of}
 use Rattle.clap.specs.declared.parser.matches.Found.{Found}
 use Rattle.clap.proofs.WalkLemmas.{first_value-rows}
 use Rattle.clap.specs.Simple.{argument_words, built}
@@ -22,7 +22,7 @@ use Rattle.hall_tool.specs.Pages.{command_line_of}
 use Rattle.hall_tool.specs.declared.words.WordsFault.{WordsFault}
 use Rattle.hall_tool.specs.declared.words.WordsFault.TheVariants.{Memory, Line}
 use Rattle.hall_tool.specs.Words.{AsksForPage, AsksNone, IfLine, IsTaken, SpellsCommand, SpellsNone, TakesNone}
-use Rattle.hall_tool.specs.Words.{IsNoNumber, IsNumber, budgets, faults_of, options_of, page_of}
+use Rattle.hall_tool.specs.Words.{IsTakenFrom, faults_of, options_of, page_of}
 use Rattle.hall_tool.proofs.OneKind.{IsSingle, built_one, only_kind}
 
 differs : (a b : Text) → a ≢ b → bytes_eq a b ≡ false
@@ -66,64 +66,63 @@ pub line_weaker : (fault : WordsFault) (claim other : Type 0) → (claim → oth
 line_weaker Memory claim other step p = tt
 line_weaker (Line error) claim other step p = step p
 
--- where the option's value is no budget, no command is taken
-pub no_budget : (rows : List Row) → IsNoNumber (IsNumber budgets (first_of (codes "budget") rows))
-    → TakesNone pages.Solve rows
-no_budget rows none Judge t = let page = t in cc
-no_budget rows none (Solve budget) t = none budget t.1
-no_budget rows none (Init db people) t = let page = t.0 in cc
-no_budget rows none (Serve db port connections) t = let page = t.0 in cc
-no_budget rows none (Replay people) t = let page = t.0 in cc
-no_budget rows none (Table db round) t = let page = t.0 in cc
-no_budget rows none (Migrate from to) t = let page = t.0 in cc
-no_budget rows none (Check db budget) t = let page = t.0 in cc
-no_budget rows none (Help page) t = absurd t
-no_budget rows none Version t = absurd t
+-- the same, of a fault that is passed on
+pub line_passed : {A : Type 0} (result : Result A WordsFault) (fault : WordsFault) (claim other : Type 0)
+    → IsErrAnd result (λ passed. passed ≡ fault) → (claim → other) → IfLine fault claim
+    → IfErr result (λ passed. IfLine passed other)
+line_passed (Ok done) fault claim other same step p = tt
+line_passed (Err passed) fault claim other same step p =
+    line_weaker passed claim other step (subst (λ f. IfLine f claim) (sym same) p)
 
--- clap's contract covers the program's lines
-pub line_simple : (page : Page) → is_simple (command_line_of page) ≡ true
-unfolding clap_on_literals
-line_simple pages.Hall = refl
-line_simple pages.Judge = refl
-line_simple pages.Solve = refl
-line_simple pages.Init = refl
-line_simple pages.Serve = refl
-line_simple pages.Replay = refl
-line_simple pages.Table = refl
-line_simple pages.Migrate = refl
-line_simple pages.Check = refl
+-- a command is then not taken
+pub none_passed : (page : Page) (rows : List Row) (result : Result Command WordsFault) (fault : WordsFault)
+    (claim : Type 0) → IsErrAnd result (λ passed. passed ≡ fault) → (claim → TakesNone page rows) → IfLine fault claim
+    → IsTakenFrom page rows result
+none_passed page rows (Ok command) fault claim same step p = absurd same
+none_passed page rows (Err passed) fault claim same step p =
+    line_passed {A = Command} (Err passed) fault claim (TakesNone page rows) same step p
 
-pub line_free : (page : Page) → is_simple_and_free (command_line_of page) ≡ true
+-- clap's contract covers the program's lines, and none has subcommands
+line_covered : (page : Page) → (is_simple (command_line_of page) ≡ true)
+    × (is_simple_and_free (command_line_of page) ≡ true)
+    × ((built (command_line_of page)).subs ≡ [])
+    × ((built (command_line_of page)).top.is_leaf ≡ true)
 unfolding clap_on_literals
-line_free pages.Hall = refl
-line_free pages.Judge = refl
-line_free pages.Solve = refl
-line_free pages.Init = refl
-line_free pages.Serve = refl
-line_free pages.Replay = refl
-line_free pages.Table = refl
-line_free pages.Migrate = refl
-line_free pages.Check = refl
+line_covered pages.Hall = (refl, refl, refl, refl)
+line_covered pages.Judge = (refl, refl, refl, refl)
+line_covered pages.Solve = (refl, refl, refl, refl)
+line_covered pages.Init = (refl, refl, refl, refl)
+line_covered pages.Serve = (refl, refl, refl, refl)
+line_covered pages.Replay = (refl, refl, refl, refl)
+line_covered pages.Table = (refl, refl, refl, refl)
+line_covered pages.Migrate = (refl, refl, refl, refl)
+line_covered pages.Check = (refl, refl, refl, refl)
 
 one_fault : (page : Page) (words : List Text) → IsSingle (fault_of (command_line_of page) words)
-one_fault pages.Hall words =
-    built_one (built (command_line_of pages.Hall)).top (argument_words (built (command_line_of pages.Hall)) words) refl
-one_fault pages.Judge words =
-    built_one (built (command_line_of pages.Judge)).top (argument_words (built (command_line_of pages.Judge)) words) refl
-one_fault pages.Solve words =
-    built_one (built (command_line_of pages.Solve)).top (argument_words (built (command_line_of pages.Solve)) words) refl
-one_fault pages.Init words =
-    built_one (built (command_line_of pages.Init)).top (argument_words (built (command_line_of pages.Init)) words) refl
-one_fault pages.Serve words =
-    built_one (built (command_line_of pages.Serve)).top (argument_words (built (command_line_of pages.Serve)) words) refl
-one_fault pages.Replay words =
-    built_one (built (command_line_of pages.Replay)).top (argument_words (built (command_line_of pages.Replay)) words) refl
-one_fault pages.Table words =
-    built_one (built (command_line_of pages.Table)).top (argument_words (built (command_line_of pages.Table)) words) refl
-one_fault pages.Migrate words =
-    built_one (built (command_line_of pages.Migrate)).top (argument_words (built (command_line_of pages.Migrate)) words) refl
-one_fault pages.Check words =
-    built_one (built (command_line_of pages.Check)).top (argument_words (built (command_line_of pages.Check)) words) refl
+one_fault page words =
+    built_one (built (command_line_of page)) (argument_words (command_line_of page) words)
+    (line_covered page).2 (line_covered page).3
+
+-- a line is that of the page which the words name
+pub record IsLineOf (words : List Text) (page : Page) (line : App) : Type 0 where
+  pub named : page ≡ page_of words
+  pub is : line ≡ command_line_of page
+
+module _ {words : List Text} {page : Page} {line : App} (it : IsLineOf words page line) where
+  same_line : line ≡ command_line_of (page_of words)
+  same_line = it.is ∙ ap command_line_of it.named
+
+  pub line_simple : is_simple line ≡ true
+  line_simple = ap is_simple same_line ∙ (line_covered (page_of words)).0
+
+  pub line_free : is_simple_and_free line ≡ true
+  line_free = ap is_simple_and_free same_line ∙ (line_covered (page_of words)).1
+
+  pub line_faults : fault_of line words ≡ faults_of words
+  line_faults = ap (λ (a : App). fault_of a words) same_line
+
+  pub line_options : matches_of line words ≡ options_of words
+  line_options = ap (λ (a : App). matches_of a words) same_line
 
 pub none_is_some : (k : ErrorKind) → ◌≡◌ {A = Kinds} [] (k ∷ []) → ⊥
 none_is_some k e = cc
@@ -148,13 +147,21 @@ asked_is page kind Version asks = inr (asks, refl)
 module _ (words : List Text) where
   -- words that the line takes
   module _ (rows : List Row) (fine : faults_of words ≡ []) (same : rows ≡ options_of words) where
-    pub taken_spells : (command : Command) → IsTaken (page_of words) rows command → SpellsCommand words command
-    taken_spells command t = inl (fine, subst (λ (rs : List Row). IsTaken (page_of words) rs command) same t)
+    pub taken_spells : (result : Result Command WordsFault) → IsTakenFrom (page_of words) rows result
+        → IfOk result (SpellsCommand words)
+    taken_spells (Ok command) t =
+        inl (fine, subst (λ (rs : List Row). IsTaken (page_of words) rs command) same t)
+    taken_spells (Err fault) t = tt
 
-    pub none_taken : TakesNone (page_of words) rows → SpellsNone words
+    none_taken : TakesNone (page_of words) rows → SpellsNone words
     none_taken none command (inl run) =
         none command (subst (λ (rs : List Row). IsTaken (page_of words) rs command) (sym same) run.1)
     none_taken none command (inr asked) = absurd (none_is_some asked.0 (sym fine ∙ asked.1))
+
+    pub taken_tells : (result : Result Command WordsFault) → IsTakenFrom (page_of words) rows result
+        → IfErr result (λ fault. IfLine fault (SpellsNone words))
+    taken_tells (Ok command) t = tt
+    taken_tells (Err fault) t = line_weaker fault _ (SpellsNone words) none_taken t
 
   whole : (k : ErrorKind) → IsAmong k (faults_of words) → faults_of words ≡ k ∷ []
   whole k among = only_kind (faults_of words) k (one_fault (page_of words) words) among

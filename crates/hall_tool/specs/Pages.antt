@@ -1,11 +1,12 @@
 -- The command lines of the program, as clap reads them.
-use Rattle.std.specs.Prelude.{Some, true, codes}
+use Rattle.std.specs.Prelude.{List, [], ◌∷◌, Some, true, codes}
 use Rattle.clap.specs.Words.{App, Rule, Text, new_app, new_rule, with_rule}
 use Rattle.clap.specs.Simple.{on_top}
 use Rattle.clap.specs.declared.builder.action.ArgAction.TheVariants.{Set}
 use Rattle.hall_tool.specs.declared.pages.Page.{Page}
 use Rattle.hall_tool.specs.declared.pages.Page.TheVariants.{Hall, Judge, Solve, Init, Serve, Replay, Table}
 use Rattle.hall_tool.specs.declared.pages.Page.TheVariants.{Migrate, Check}
+use Rattle.hall_tool.specs.declared.pages.ValueOption.{ValueOption}
 
 -- the option `--NAME VALUE`: one value, any text, given once
 abbrev pub option_named : Text → Rule
@@ -14,6 +15,11 @@ option_named name = record (new_rule name) {
   action = Some Set;
   value_names = 1;
 }
+
+-- the command line with these options added, one after another
+abbrev pub with_options : App → List ValueOption → App
+with_options line [] = line
+with_options line (option ∷ options) = with_options (with_rule line (option_named option.name.now)) options
 
 -- what clap reads of a page's command line: of a command, whose name it passes over, the words after it, and of the
 -- program's own all words; each takes `--help` (clap adds it), and the program's own `--version`

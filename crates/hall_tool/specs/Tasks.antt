@@ -1,6 +1,7 @@
 -- What is done with a hall, on a machine, over stores with some content, readers and writers: where it leads, and how
 -- it ends.
 use Rattle.std.specs.Prelude.{◌≡◌, ◌⊎◌, ℕ, List, Option, Some, None, Result, Ok, Err}
+use Rattle.hall_grid.specs.Device.{Tally}
 use Rattle.hall_store.specs.Store.{Content, Kept}
 use Rattle.hall_desk.specs.Census.{census_of}
 use Rattle.hall_desk.specs.declared.census.Census.{Census}
@@ -23,23 +24,24 @@ abbrev pub command_end : Result ℕ ToolFault → Result ℕ CommandFault
 command_end (Ok status) = Ok status
 command_end (Err fault) = Err (Tool fault)
 
--- the people of the list are imported, and neither the machine nor the reader is asked
-abbrev pub DoesInit : {N S R W : Type 0} → Kinds S R W → List ℕ → OnHost N S R W → OnHost N S R W
+-- this is done over the store and the writer, and neither the machine nor the reader is asked
+abbrev pub DoesOnStore : {N S R W : Type 0} → Kinds S R W
+    → (Content → Content → Tally W → Tally W → Result ℕ ToolFault → Type 0) → OnHost N S R W → OnHost N S R W
     → Result ℕ CommandFault → Type 0
-DoesInit k list before after result =
+DoesOnStore k Done before after result =
     (ended : Result ℕ ToolFault)
-    × IsInitRun k list (k.content before.stand.kept) (k.content after.stand.kept) before.stand.writer
-    after.stand.writer ended
+    × Done (k.content before.stand.kept) (k.content after.stand.kept) before.stand.writer after.stand.writer ended
     × (result ≡ command_end ended) × (after.host ≡ before.host) × (after.stand.reader ≡ before.stand.reader)
 
--- the table of the round is written, and neither the machine nor the reader is asked
+-- the people of the list are imported
+abbrev pub DoesInit : {N S R W : Type 0} → Kinds S R W → List ℕ → OnHost N S R W → OnHost N S R W
+    → Result ℕ CommandFault → Type 0
+DoesInit k list = DoesOnStore k (IsInitRun k list)
+
+-- the table of the round is written
 abbrev pub DoesTable : {N S R W : Type 0} → Kinds S R W → List ℕ → OnHost N S R W → OnHost N S R W
     → Result ℕ CommandFault → Type 0
-DoesTable k round before after result =
-    (ended : Result ℕ ToolFault)
-    × IsTableRun k round (k.content before.stand.kept) (k.content after.stand.kept) before.stand.writer
-    after.stand.writer ended
-    × (result ≡ command_end ended) × (after.host ≡ before.host) × (after.stand.reader ≡ before.stand.reader)
+DoesTable k round = DoesOnStore k (IsTableRun k round)
 
 -- the people of the list are imported, and the records of the reader are answered; the machine isn't asked
 abbrev pub DoesReplay : {N S R W : Type 0} → Kinds S R W → List ℕ → OnHost N S R W → OnHost N S R W

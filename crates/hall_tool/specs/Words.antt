@@ -1,6 +1,6 @@
 -- Which command the words after the program's name spell, by clap's rules for a simple command.
-use Rattle.std.specs.Prelude.{◌≡◌, ◌≢◌, ◌⊎◌, ⊤, ◌≤◌, ℕ, List, [], ◌∷◌, ◌++◌, Option, Some, None, codes}
-use Rattle.std.specs.Prelude.{if◌then◌else◌}
+use Rattle.std.specs.Prelude.{◌≡◌, ◌≢◌, ◌⊎◌, ⊤, ◌≤◌, ℕ, List, [], ◌∷◌, ◌++◌, Option, Some, None, Result, Ok, Err}
+use Rattle.std.specs.Prelude.{codes, if◌then◌else◌}
 use Rattle.std.specs.Str.{bytes_eq}
 use Rattle.std.specs.Str.Parse.{IsNumeral, digits_value, without_leading_plus}
 use Rattle.clap.specs.Words.{Kinds, Row, Text, fault_of, first_of, matches_of}
@@ -143,6 +143,11 @@ IsNoNumberIfAny numbers text = (number : Option ℕ) → IsNumberIfAny numbers t
 -- no command is that of the page and the options
 abbrev pub TakesNone : Page → List Row → Type 0
 TakesNone page options = (command : Command) → IsTaken page options command → ⊥
+
+-- the command is that of the page and the options; or none is, if a line is wrong
+abbrev pub IsTakenFrom : Page → List Row → Result Command WordsFault → Type 0
+IsTakenFrom page options (Ok command) = IsTaken page options command
+IsTakenFrom page options (Err fault) = IfLine fault (TakesNone page options)
 
 -- an error of this kind asks for nothing
 abbrev pub AsksNone : ErrorKind → Type 0

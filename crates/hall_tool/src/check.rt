@@ -1,5 +1,5 @@
 //! The command `check`: whether a database file is a hall's, whole, and sane.
-ghost use Rattle.std.specs.Prelude.{◌≡◌, ◌⊎◌, Err, IfOk, IfErr, IsErrOf, string_bytes};
+ghost use Rattle.std.specs.Prelude.{◌≡◌, Err, IfOk, IfErr, IsErrOf, string_bytes};
 ghost use Rattle.sqlite.specs.Held.{state};
 ghost use Rattle.hall_store.specs.Store.{Kept};
 ghost use Rattle.hall_sql.specs.CanFail.{CanFail};
@@ -8,6 +8,7 @@ ghost use Rattle.hall_sql.specs.Tables.{old_schema};
 ghost use Rattle.hall_tool.specs.CheckRun.{CopyFails, CopyText, IsCheckAt, OldFails, OldText, PresentText};
 ghost use Rattle.hall_tool.specs.Machine.{files_of};
 ghost use Rattle.hall_tool.specs.Shown.{IsShownBy};
+ghost use Rattle.hall_tool.specs.Status.{IsOfMemoryOrStore};
 ghost use Rattle.hall_tool.specs.WorldText.{WorldText};
 
 use crate::bad_text::bad_text;
@@ -36,8 +37,8 @@ fn world_ending<S: WholeStore>(
     ensures kept { Kept (S.content store.old) (S.content store.new) }
     ensures text { IfOk result
         (λ ending. WorldText budget (S.content store.new) (string_bytes ending.line) ending.status) }
-    ensures cause { IfErr result (λ e. (e ≡ ToolFault.Memory) ⊎ (e ≡ ToolFault.Store)) }
     ensures fault { IsErrOf result ToolFault.Store → (S.content store.new).can_fail }
+    ensures cause { IfErr result IsOfMemoryOrStore }
 {
     match check(alloc, store, budget) {
         Ok(checked) => Ok(world_text(alloc, budget, &checked)?),
@@ -53,8 +54,8 @@ fn present_ending<S: Alter + Drop>(
 ) -> Result<Ending, ToolFault>
     ensures text { IfOk result (λ ending. PresentText budget (state S.Store store.old) (state S.Store store.new)
         (string_bytes ending.line) ending.status) }
-    ensures cause { IfErr result (λ e. (e ≡ ToolFault.Memory) ⊎ (e ≡ ToolFault.Store)) }
     ensures fault { IsErrOf result ToolFault.Store → CanFail (state S.Store store.new) }
+    ensures cause { IfErr result IsOfMemoryOrStore }
 {
     let bad = match store.bad_rows(alloc) {
         Ok(bad) => bad,
@@ -78,8 +79,8 @@ fn copied_ending<S: Alter + Drop>(
     ensures rested { KeptTablesIn old_schema (state S.Store store.old) (state S.Store store.new) }
     ensures text { IfOk result (λ ending. CopyText budget (state S.Store store.old) (state S.Store store.new)
         (string_bytes ending.line) ending.status) }
-    ensures cause { IfErr result (λ e. (e ≡ ToolFault.Memory) ⊎ (e ≡ ToolFault.Store)) }
     ensures fault { IsErrOf result ToolFault.Store → CopyFails (state S.Store store.old) (state S.Store store.new) }
+    ensures cause { IfErr result IsOfMemoryOrStore }
 {
     store.in_old_hall();
     let mut copy = match open_in_memory(alloc) {
@@ -101,8 +102,8 @@ fn old_ending<S: Alter + Drop>(
 ) -> Result<Ending, ToolFault>
     ensures text { IfOk result (λ ending. OldText budget (state S.Store store.old) (state S.Store store.new)
         (string_bytes ending.line) ending.status) }
-    ensures cause { IfErr result (λ e. (e ≡ ToolFault.Memory) ⊎ (e ≡ ToolFault.Store)) }
     ensures fault { IsErrOf result ToolFault.Store → OldFails (state S.Store store.old) (state S.Store store.new) }
+    ensures cause { IfErr result IsOfMemoryOrStore }
 {
     let bad = match store.bad_rows(alloc) {
         Ok(bad) => bad,

@@ -1,7 +1,7 @@
 //! The command lines of the program, as clap reads them.
 ghost use Rattle.std.specs.Prelude.{◌≡◌, IfOk, false};
-ghost use Rattle.clap.specs.Words.{app_of, rule_of};
-ghost use Rattle.hall_tool.specs.Pages.{command_line_of, option_named};
+ghost use Rattle.clap.specs.Words.{app_of, new_app, rule_of};
+ghost use Rattle.hall_tool.specs.Pages.{command_line_of, option_named, with_options};
 
 use crate::help::VERSION;
 use clap::{Arg, ArgAction, Command};
@@ -74,14 +74,29 @@ pub(crate) fn command_line<'a>(alloc: Global, page: Page) -> Result<Command<'a>,
 {
     match page {
         Page::Hall => Ok(hall_line(alloc)),
-        Page::Judge => Ok(judge_line(alloc)),
-        Page::Solve => solve_line(alloc),
-        Page::Init => init_line(alloc),
-        Page::Serve => serve_line(alloc),
-        Page::Replay => replay_line(alloc),
-        Page::Table => table_line(alloc),
-        Page::Migrate => migrate_line(alloc),
-        Page::Check => check_line(alloc),
+        Page::Judge => line(alloc, "judge", "hall judge < FILE", &[]),
+        Page::Solve => line(alloc, "solve", "hall solve [--budget N] < FILE", &[BUDGET]),
+        Page::Init => line(alloc, "init", "hall init --db F --people L", &[DB, PEOPLE]),
+        Page::Serve => line(
+            alloc,
+            "serve",
+            "hall serve --db F --port N [--connections N]",
+            &[DB, PORT, CONNECTIONS],
+        ),
+        Page::Replay => line(alloc, "replay", "hall replay --people L < FILE", &[PEOPLE]),
+        Page::Table => line(alloc, "table", "hall table --db F --round R", &[DB, ROUND]),
+        Page::Migrate => line(
+            alloc,
+            "migrate",
+            "hall migrate --from F --to G",
+            &[FROM, TO],
+        ),
+        Page::Check => line(
+            alloc,
+            "check",
+            "hall check --db F [--budget N]",
+            &[DB, BUDGET],
+        ),
     }
 }
 
@@ -95,76 +110,24 @@ fn hall_line<'a>(alloc: Global) -> Command<'a>
         .override_usage("hall judge|solve|init|serve|table|replay|migrate|check [OPTIONS] < FILE")
 }
 
-fn judge_line<'a>(alloc: Global) -> Command<'a>
-    ensures { app_of result ≡ command_line_of Page.Judge }
+/// The command line of the command of this name, which may go so, with these options.
+fn line<'a>(
+    alloc: Global,
+    name: &'a str,
+    usage: &'a str,
+    options: &[ValueOption],
+) -> Result<Command<'a>, AllocError>
+    ensures { IfOk result (λ line. app_of line ≡ with_options (new_app name.now) options.now) }
 {
-    Command::new(alloc, "judge").override_usage("hall judge < FILE")
+    let mut line = Command::new(alloc, name).override_usage(usage);
+    for named in options {
+        line = line.arg(option(alloc, *named))?;
+    }
+    Ok(line)
 }
 
-fn solve_line<'a>(alloc: Global) -> Result<Command<'a>, AllocError>
-    ensures { IfOk result (λ line. app_of line ≡ command_line_of Page.Solve) }
-{
-    Command::new(alloc, "solve")
-        .override_usage("hall solve [--budget N] < FILE")
-        .arg(option(alloc, &BUDGET))
-}
-
-fn init_line<'a>(alloc: Global) -> Result<Command<'a>, AllocError>
-    ensures { IfOk result (λ line. app_of line ≡ command_line_of Page.Init) }
-{
-    Command::new(alloc, "init")
-        .override_usage("hall init --db F --people L")
-        .arg(option(alloc, &DB))?
-        .arg(option(alloc, &PEOPLE))
-}
-
-fn serve_line<'a>(alloc: Global) -> Result<Command<'a>, AllocError>
-    ensures { IfOk result (λ line. app_of line ≡ command_line_of Page.Serve) }
-{
-    Command::new(alloc, "serve")
-        .override_usage("hall serve --db F --port N [--connections N]")
-        .arg(option(alloc, &DB))?
-        .arg(option(alloc, &PORT))?
-        .arg(option(alloc, &CONNECTIONS))
-}
-
-fn replay_line<'a>(alloc: Global) -> Result<Command<'a>, AllocError>
-    ensures { IfOk result (λ line. app_of line ≡ command_line_of Page.Replay) }
-{
-    Command::new(alloc, "replay")
-        .override_usage("hall replay --people L < FILE")
-        .arg(option(alloc, &PEOPLE))
-}
-
-fn table_line<'a>(alloc: Global) -> Result<Command<'a>, AllocError>
-    ensures { IfOk result (λ line. app_of line ≡ command_line_of Page.Table) }
-{
-    Command::new(alloc, "table")
-        .override_usage("hall table --db F --round R")
-        .arg(option(alloc, &DB))?
-        .arg(option(alloc, &ROUND))
-}
-
-fn migrate_line<'a>(alloc: Global) -> Result<Command<'a>, AllocError>
-    ensures { IfOk result (λ line. app_of line ≡ command_line_of Page.Migrate) }
-{
-    Command::new(alloc, "migrate")
-        .override_usage("hall migrate --from F --to G")
-        .arg(option(alloc, &FROM))?
-        .arg(option(alloc, &TO))
-}
-
-fn check_line<'a>(alloc: Global) -> Result<Command<'a>, AllocError>
-    ensures { IfOk result (λ line. app_of line ≡ command_line_of Page.Check) }
-{
-    Command::new(alloc, "check")
-        .override_usage("hall check --db F [--budget N]")
-        .arg(option(alloc, &DB))?
-        .arg(option(alloc, &BUDGET))
-}
-
-fn option<'a>(alloc: Global, named: &ValueOption) -> Arg<'a>
-    ensures rule { rule_of result ≡ option_named named.now.name.now }
+fn option<'a>(alloc: Global, named: ValueOption) -> Arg<'a>
+    ensures rule { rule_of result ≡ option_named named.name.now }
     ensures local { result.global ≡ false }
 {
     Arg::new(alloc, named.name)

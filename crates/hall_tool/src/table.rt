@@ -1,5 +1,5 @@
 //! The command `table`.
-ghost use Rattle.std.specs.Prelude.{◌≡◌, ◌⊎◌, ℕ, List, None, Option, IfOk, IfErr, IfSome, IsErrOf, string_bytes};
+ghost use Rattle.std.specs.Prelude.{◌≡◌, ℕ, List, None, Option, IfOk, IfErr, IfSome, IsErrOf, string_bytes};
 ghost use Rattle.std.specs.Io.KnownBytes.{Appends};
 ghost use Rattle.hall_grid.specs.Device.{Rises};
 ghost use Rattle.hall_policy.specs.Ranges.{IsRoundId};
@@ -9,6 +9,7 @@ ghost use Rattle.hall_desk.specs.Plan.{planned_reply};
 ghost use Rattle.hall_desk.specs.declared.reply.Reply.{Reply};
 ghost use Rattle.hall_http.specs.Device.{WritesPart};
 ghost use Rattle.hall_tool.specs.SeedText.{denial_of};
+ghost use Rattle.hall_tool.specs.Status.{IsOfMemoryOrStore};
 ghost use Rattle.hall_tool.specs.TableText.{IsOtherReply, IsTableOver, IsTableWritten, MayFail, TableText};
 
 use crate::ending::Ending;
@@ -46,7 +47,7 @@ fn denied(alloc: Global, rule: u8) -> Result<Ending, AllocError>
 /// What is written of the reply to a request for a table.
 fn written(alloc: Global, reply: &Reply) -> Result<Ending, ToolFault>
     ensures written { IfOk result (λ a. IsTableWritten reply.now (string_bytes a.line) a.status) }
-    ensures cause { IfErr result (λ e. (e ≡ ToolFault.Memory) ⊎ (e ≡ ToolFault.Store)) }
+    ensures cause { IfErr result IsOfMemoryOrStore }
     ensures fault { IsErrOf result ToolFault.Store → IsOtherReply reply.now }
 {
     match reply {
@@ -62,7 +63,7 @@ fn written(alloc: Global, reply: &Reply) -> Result<Ending, ToolFault>
 /// What is written of the plan for a table.
 fn written_of(alloc: Global, plan: Plan) -> Result<Ending, ToolFault>
     ensures written { IfOk result (λ a. IsTableWritten (planned_reply plan) (string_bytes a.line) a.status) }
-    ensures cause { IfErr result (λ e. (e ≡ ToolFault.Memory) ⊎ (e ≡ ToolFault.Store)) }
+    ensures cause { IfErr result IsOfMemoryOrStore }
     ensures fault { IsErrOf result ToolFault.Store → IsOtherReply (planned_reply plan) }
 {
     let ending = written(alloc, plan.reply());
@@ -80,7 +81,7 @@ fn table_of<S: ReadStore>(
     ensures told { IfOk result (λ a. (given : Reply)
         × IsTableOver (S.content (kept_by desk.new)) round given
         × IsTableWritten given (string_bytes a.line) a.status) }
-    ensures cause { IfErr result (λ e. (e ≡ ToolFault.Memory) ⊎ (e ≡ ToolFault.Store)) }
+    ensures cause { IfErr result IsOfMemoryOrStore }
     ensures fault { IsErrOf result ToolFault.Store → MayFail (S.content (kept_by desk.new)) }
 {
     let Some(t) = Moment::new(0) else {
@@ -107,7 +108,7 @@ fn table_ending<S: ReadStore>(
     ensures kept { Kept (S.content (kept_by desk.old)) (S.content (kept_by desk.new)) }
     ensures text { IfOk result
         (λ a. TableText round.now (S.content (kept_by desk.new)) (string_bytes a.line) a.status) }
-    ensures cause { IfErr result (λ e. (e ≡ ToolFault.Memory) ⊎ (e ≡ ToolFault.Store)) }
+    ensures cause { IfErr result IsOfMemoryOrStore }
     ensures fault { IsErrOf result ToolFault.Store → MayFail (S.content (kept_by desk.new)) }
 {
     match round_id(alloc, round)? {

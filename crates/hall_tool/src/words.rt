@@ -3,7 +3,7 @@ ghost use Rattle.std.specs.Prelude.{◌≡◌, ◌≤◌, IfOk, IfErr, IfSome, M
 ghost use Rattle.clap.specs.Words.{first_of, found_of, kind_of, rows_of};
 ghost use Rattle.hall_tool.specs.Words.{IfLine, SpellsNone, IsNumber, IsNumberIfAny, IsNumberWithin, SpellsCommand};
 ghost use Rattle.hall_tool.specs.Words.{page_of};
-ghost use Rattle.hall_tool.specs.Words.{IsNoNumber, IsNoNumberIfAny, IsTaken, TakesNone, AsksForPage, AsksNone};
+ghost use Rattle.hall_tool.specs.Words.{IsNoNumber, IsNoNumberIfAny, IsTakenFrom, AsksForPage, AsksNone};
 
 use crate::pages::{
     BUDGET, CONNECTIONS, DB, FROM, PEOPLE, PORT, Page, ROUND, TO, ValueOption, command_line,
@@ -110,6 +110,12 @@ impl From<AllocError> for WordsFault {
     }
 }
 
+/// A command line, as clap reads it.
+type Line<'a> = clap::Command<'a>;
+
+/// The command that words name, or why they name none.
+type Taken = Result<Command, WordsFault>;
+
 /// Reads the words after the program's name. The first one names the command, and the words after it are read by
 /// the rules of that command.
 pub fn read_words(alloc: Global, words: &[String]) -> Result<Command, WordsFault>
@@ -145,14 +151,8 @@ fn page_of(words: &[String]) -> Page
 }
 
 /// The command of words that its line takes.
-fn taken<'a>(
-    alloc: Global,
-    line: &mut clap::Command<'a>,
-    page: Page,
-    matches: &ArgMatches<'a>,
-) -> Result<Command, WordsFault>
-    ensures command { IfOk result (IsTaken page (rows_of (found_of matches.now))) }
-    ensures fault { IfErr result (λ fault. IfLine fault (TakesNone page (rows_of (found_of matches.now)))) }
+fn taken(alloc: Global, line: &mut Line<'_>, page: Page, matches: &ArgMatches<'_>) -> Taken
+    ensures { IsTakenFrom page (rows_of (found_of matches.now)) result }
 {
     match page {
         Page::Hall => Err(refusal(line, ErrorKind::MissingSubcommand, NO_COMMAND)),
@@ -167,44 +167,27 @@ fn taken<'a>(
     }
 }
 
-fn solve_taken<'a>(
-    alloc: Global,
-    line: &mut clap::Command<'a>,
-    matches: &ArgMatches<'a>,
-) -> Result<Command, WordsFault>
-    ensures command { IfOk result (IsTaken Page.Solve (rows_of (found_of matches.now))) }
-    ensures fault { IfErr result (λ fault. IfLine fault (TakesNone Page.Solve (rows_of (found_of matches.now)))) }
+fn solve_taken(alloc: Global, line: &mut Line<'_>, matches: &ArgMatches<'_>) -> Taken
+    ensures { IsTakenFrom Page.Solve (rows_of (found_of matches.now)) result }
 {
-    match number(alloc, line, matches, &BUDGET, &BUDGETS) {
-        Ok(budget) => Ok(Command::Solve { budget }),
-        Err(fault) => Err(fault),
-    }
+    let budget = number(alloc, line, matches, BUDGET, BUDGETS)?;
+    Ok(Command::Solve { budget })
 }
 
-fn init_taken<'a>(
-    alloc: Global,
-    line: &mut clap::Command<'a>,
-    matches: &ArgMatches<'a>,
-) -> Result<Command, WordsFault>
-    ensures command { IfOk result (IsTaken Page.Init (rows_of (found_of matches.now))) }
-    ensures fault { IfErr result (λ fault. IfLine fault (TakesNone Page.Init (rows_of (found_of matches.now)))) }
+fn init_taken(alloc: Global, line: &mut Line<'_>, matches: &ArgMatches<'_>) -> Taken
+    ensures { IsTakenFrom Page.Init (rows_of (found_of matches.now)) result }
 {
-    let db = word(alloc, line, matches, &DB)?;
-    let people = word(alloc, line, matches, &PEOPLE)?;
+    let db = word(alloc, line, matches, DB)?;
+    let people = word(alloc, line, matches, PEOPLE)?;
     Ok(Command::Init { db, people })
 }
 
-fn serve_taken<'a>(
-    alloc: Global,
-    line: &mut clap::Command<'a>,
-    matches: &ArgMatches<'a>,
-) -> Result<Command, WordsFault>
-    ensures command { IfOk result (IsTaken Page.Serve (rows_of (found_of matches.now))) }
-    ensures fault { IfErr result (λ fault. IfLine fault (TakesNone Page.Serve (rows_of (found_of matches.now)))) }
+fn serve_taken(alloc: Global, line: &mut Line<'_>, matches: &ArgMatches<'_>) -> Taken
+    ensures { IsTakenFrom Page.Serve (rows_of (found_of matches.now)) result }
 {
-    let db = word(alloc, line, matches, &DB)?;
-    let port = number(alloc, line, matches, &PORT, &PORTS)?;
-    let connections = number(alloc, line, matches, &CONNECTIONS, &CONNECTION_LIMITS)?;
+    let db = word(alloc, line, matches, DB)?;
+    let port = number(alloc, line, matches, PORT, PORTS)?;
+    let connections = number(alloc, line, matches, CONNECTIONS, CONNECTION_LIMITS)?;
     Ok(Command::Serve {
         db,
         port,
@@ -212,54 +195,34 @@ fn serve_taken<'a>(
     })
 }
 
-fn replay_taken<'a>(
-    alloc: Global,
-    line: &mut clap::Command<'a>,
-    matches: &ArgMatches<'a>,
-) -> Result<Command, WordsFault>
-    ensures command { IfOk result (IsTaken Page.Replay (rows_of (found_of matches.now))) }
-    ensures fault { IfErr result (λ fault. IfLine fault (TakesNone Page.Replay (rows_of (found_of matches.now)))) }
+fn replay_taken(alloc: Global, line: &mut Line<'_>, matches: &ArgMatches<'_>) -> Taken
+    ensures { IsTakenFrom Page.Replay (rows_of (found_of matches.now)) result }
 {
-    let people = word(alloc, line, matches, &PEOPLE)?;
+    let people = word(alloc, line, matches, PEOPLE)?;
     Ok(Command::Replay { people })
 }
 
-fn table_taken<'a>(
-    alloc: Global,
-    line: &mut clap::Command<'a>,
-    matches: &ArgMatches<'a>,
-) -> Result<Command, WordsFault>
-    ensures command { IfOk result (IsTaken Page.Table (rows_of (found_of matches.now))) }
-    ensures fault { IfErr result (λ fault. IfLine fault (TakesNone Page.Table (rows_of (found_of matches.now)))) }
+fn table_taken(alloc: Global, line: &mut Line<'_>, matches: &ArgMatches<'_>) -> Taken
+    ensures { IsTakenFrom Page.Table (rows_of (found_of matches.now)) result }
 {
-    let db = word(alloc, line, matches, &DB)?;
-    let round = word(alloc, line, matches, &ROUND)?;
+    let db = word(alloc, line, matches, DB)?;
+    let round = word(alloc, line, matches, ROUND)?;
     Ok(Command::Table { db, round })
 }
 
-fn migrate_taken<'a>(
-    alloc: Global,
-    line: &mut clap::Command<'a>,
-    matches: &ArgMatches<'a>,
-) -> Result<Command, WordsFault>
-    ensures command { IfOk result (IsTaken Page.Migrate (rows_of (found_of matches.now))) }
-    ensures fault { IfErr result (λ fault. IfLine fault (TakesNone Page.Migrate (rows_of (found_of matches.now)))) }
+fn migrate_taken(alloc: Global, line: &mut Line<'_>, matches: &ArgMatches<'_>) -> Taken
+    ensures { IsTakenFrom Page.Migrate (rows_of (found_of matches.now)) result }
 {
-    let from = word(alloc, line, matches, &FROM)?;
-    let to = word(alloc, line, matches, &TO)?;
+    let from = word(alloc, line, matches, FROM)?;
+    let to = word(alloc, line, matches, TO)?;
     Ok(Command::Migrate { from, to })
 }
 
-fn check_taken<'a>(
-    alloc: Global,
-    line: &mut clap::Command<'a>,
-    matches: &ArgMatches<'a>,
-) -> Result<Command, WordsFault>
-    ensures command { IfOk result (IsTaken Page.Check (rows_of (found_of matches.now))) }
-    ensures fault { IfErr result (λ fault. IfLine fault (TakesNone Page.Check (rows_of (found_of matches.now)))) }
+fn check_taken(alloc: Global, line: &mut Line<'_>, matches: &ArgMatches<'_>) -> Taken
+    ensures { IsTakenFrom Page.Check (rows_of (found_of matches.now)) result }
 {
-    let db = word(alloc, line, matches, &DB)?;
-    let budget = number_if_any(alloc, line, matches, &BUDGET, &BUDGETS)?;
+    let db = word(alloc, line, matches, DB)?;
+    let budget = number_if_any(alloc, line, matches, BUDGET, BUDGETS)?;
     Ok(Command::Check { db, budget })
 }
 
@@ -279,13 +242,13 @@ fn asked(page: Page, error: Error) -> Result<Command, WordsFault>
 /// The value that the words give the option.
 fn word(
     alloc: Global,
-    line: &mut clap::Command<'_>,
+    line: &mut Line<'_>,
     matches: &ArgMatches<'_>,
-    option: &ValueOption,
+    option: ValueOption,
 ) -> Result<Word, WordsFault>
-    ensures word { IfOk result (λ word. first_of option.now.name.now (rows_of (found_of matches.now)) ≡ Some word) }
+    ensures word { IfOk result (λ word. first_of option.name.now (rows_of (found_of matches.now)) ≡ Some word) }
     ensures fault { IfErr result (λ fault. IfLine fault
-        (first_of option.now.name.now (rows_of (found_of matches.now)) ≡ None)) }
+        (first_of option.name.now (rows_of (found_of matches.now)) ≡ None)) }
 {
     match matches.get_str(option.name) {
         Some(text) => Ok(Word::new(String::from_str(alloc, text)?)),
@@ -296,38 +259,34 @@ fn word(
 /// The number that the words give the option, or the usual one where they give none.
 fn number(
     alloc: Global,
-    line: &mut clap::Command<'_>,
+    line: &mut Line<'_>,
     matches: &ArgMatches<'_>,
-    option: &ValueOption,
-    numbers: &Numbers,
+    option: ValueOption,
+    numbers: Numbers,
 ) -> Result<u64, WordsFault>
     ensures number { IfOk result
-        (IsNumber numbers.now (first_of option.now.name.now (rows_of (found_of matches.now)))) }
+        (IsNumber numbers (first_of option.name.now (rows_of (found_of matches.now)))) }
     ensures fault { IfErr result (λ fault. IfLine fault
-        (IsNoNumber (IsNumber numbers.now (first_of option.now.name.now (rows_of (found_of matches.now)))))) }
+        (IsNoNumber (IsNumber numbers (first_of option.name.now (rows_of (found_of matches.now)))))) }
 {
-    match (matches.get_str(option.name), numbers.usual) {
-        (Some(text), _) => match number_within(text, numbers.least, numbers.most) {
-            Some(number) => Ok(number),
-            None => Err(no_number(alloc, line, option, numbers, text)),
-        },
-        (None, Some(usual)) => Ok(usual),
-        (None, None) => Err(missing(alloc, line, option)),
+    match number_if_any(alloc, line, matches, option, numbers)?.or(numbers.usual) {
+        Some(number) => Ok(number),
+        None => Err(missing(alloc, line, option)),
     }
 }
 
 /// The number that the words give the option, if they give any.
 fn number_if_any(
     alloc: Global,
-    line: &mut clap::Command<'_>,
+    line: &mut Line<'_>,
     matches: &ArgMatches<'_>,
-    option: &ValueOption,
-    numbers: &Numbers,
+    option: ValueOption,
+    numbers: Numbers,
 ) -> Result<Option<u64>, WordsFault>
     ensures number { IfOk result
-        (IsNumberIfAny numbers.now (first_of option.now.name.now (rows_of (found_of matches.now)))) }
+        (IsNumberIfAny numbers (first_of option.name.now (rows_of (found_of matches.now)))) }
     ensures fault { IfErr result (λ fault. IfLine fault
-        (IsNoNumberIfAny numbers.now (first_of option.now.name.now (rows_of (found_of matches.now))))) }
+        (IsNoNumberIfAny numbers (first_of option.name.now (rows_of (found_of matches.now))))) }
 {
     match matches.get_str(option.name) {
         Some(text) => match number_within(text, numbers.least, numbers.most) {
@@ -351,9 +310,9 @@ fn number_within(text: &str, least: u64, most: u64) -> Option<u64>
 
 fn no_number(
     alloc: Global,
-    line: &mut clap::Command<'_>,
-    option: &ValueOption,
-    numbers: &Numbers,
+    line: &mut Line<'_>,
+    option: ValueOption,
+    numbers: Numbers,
     text: &str,
 ) -> WordsFault {
     let Ok(message) = format!(in alloc;
@@ -365,7 +324,7 @@ fn no_number(
     refusal(line, ErrorKind::ValueValidation, message.as_str())
 }
 
-fn missing(alloc: Global, line: &mut clap::Command<'_>, option: &ValueOption) -> WordsFault {
+fn missing(alloc: Global, line: &mut Line<'_>, option: ValueOption) -> WordsFault {
     let Ok(message) = format!(in alloc;
         "the following required arguments were not provided:\n  --{} <{}>",
         option.name, option.value
@@ -376,7 +335,7 @@ fn missing(alloc: Global, line: &mut clap::Command<'_>, option: &ValueOption) ->
 }
 
 /// An error of the line in the form of clap's own.
-fn refusal(line: &mut clap::Command<'_>, kind: ErrorKind, message: &str) -> WordsFault {
+fn refusal(line: &mut Line<'_>, kind: ErrorKind, message: &str) -> WordsFault {
     match line.error(kind, message) {
         Ok(error) => WordsFault::Line(error),
         Err(AllocError) => WordsFault::Memory,
