@@ -24,6 +24,7 @@ use Rattle.hall_http.specs.Turns.{IsOverRightly, IsPlaceKept, IsPlaceTurned}
 use Rattle.hall_http.specs.Reading.{at_first}
 use Rattle.hall_http.specs.declared.client.Client.{Client}
 use Rattle.hall_http.specs.declared.client.Step.{Step}
+use Rattle.hall_http.specs.declared.clients.Away.{Away}
 use Rattle.hall_http.specs.declared.clients.Clients.{Clients}
 use Rattle.hall_http.specs.declared.clients.Departure.{Departure}
 use Rattle.hall_http.specs.declared.clients.Departure.TheVariants as departure
@@ -277,12 +278,13 @@ module _ {P : Type 0} (traffic : P → Traffic) where
     unheard = of_none many turns (λ i d inside. (kept.numbered.known i d inside).1)
 
     -- a newcomer was turned away
-    module _ (u : Clients P) (closed : Closed P) (place : ℕ) (next : (traffic closed.peer).number ≡ many)
+    module _ (u : Clients P) (closed : Closed P) (why : Away) (place : ℕ)
+        (next : (traffic closed.peer).number ≡ many)
         (items : u.places.items ≡ s.places.items)
-        (gone : u.gone.items ≡ s.gone.items ++ (closed, (departure.TurnedAway, place)) ∷ [])
+        (gone : u.gone.items ≡ s.gone.items ++ (closed, (departure.TurnedAway why, place)) ∷ [])
         (untouched : IsUntouched (traffic closed.peer)) where
       abbrev away : Past P
-      away = (closed, (departure.TurnedAway, place))
+      away = (closed, (departure.TurnedAway why, place))
 
       away_found : (n : ℕ) (b : Bool) → (n == many) ≡ b → IsHandedOut few (many + 1) n
           → ((other : ℕ) × (w : Client P) × IsAt u other w × (number w ≡ n)) ⊎ HasGone traffic n u.gone.items

@@ -65,6 +65,10 @@ pub not_some : {X : Type 0} (o : Option X) → false ≡ is_some o → o ≡ Non
 not_some (Some x) e = absurd cc
 not_some None e = refl
 
+pub some_of : {X : Type 0} (o : Option X) → is_some o ≡ true → (x : X) × (o ≡ Some x)
+some_of (Some x) e = (x, refl)
+some_of None e = absurd cc
+
 pub read_at : {X : Type 0} (xs : List (Option X)) (i : ℕ) (o w : Option X) → i < length xs → o ≡ get_or xs i o → o ≡ w
     → get_or xs i None ≡ w
 read_at xs i o w inside is same = element xs i None o inside ∙ sym is ∙ same

@@ -15,7 +15,8 @@ use Rattle.hall_http.specs.Crowd.{AreHeard, heard_first, heard_last, heard_other
 use Rattle.hall_http.specs.Peer.{Traffic}
 use Rattle.hall_http.specs.Resting.{AreRests, RestingSession, after_rests, still}
 use Rattle.hall_http.specs.Laws.{FirstPartsLast}
-use Rattle.hall_http.specs.Serving.{AreAnsweredWhileOpen, GoesOn, IsAnsweredOver, LeavesRunOver, RunsOver, WaitsForSearch}
+use Rattle.hall_http.specs.Serving.{AreAnsweredWhileOpen, GoesOn, IsAnsweredOver, LeavesRunOver, RunsOver}
+use Rattle.hall_http.specs.Serving.{WaitsForSearch}
 use Rattle.hall_http.specs.Steps.{StandsRightly, gated}
 use Rattle.hall_http.specs.Turns.{Turn, exchanges_of, service_of}
 use Rattle.hall_http.specs.declared.client.Step.{Step}

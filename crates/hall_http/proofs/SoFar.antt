@@ -1,6 +1,6 @@
 -- What was served so far.
 use Rattle.std.proofs.Common.{◌≡◌, ◌∙◌, sym, ap, subst, refl, arith, inl, inr, ℕ, ◌+◌, List, [], ◌∷◌, ◌++◌}
-use Rattle.std.proofs.Common.{◌⊎◌, ◌≢◌, ◌==◌, append_assoc, get_or, true, false, Option, Some, None}
+use Rattle.std.proofs.Common.{◌⊎◌, ◌≢◌, ◌==◌, append_assoc, get_or, length, ◌≤◌, true, false, Option, Some, None}
 use Rattle.std.specs.Prelude.{All, Bool}
 use Rattle.std.proofs.lemmas.Bool.{eqb-true, eqb-false}
 use Rattle.std.proofs.lemmas.List.{append-nil, map-append}
@@ -13,12 +13,14 @@ use Rattle.hall_http.specs.Crowd.{AllLeave, AreAsSaid, HasLeft, IsFree, KeepsPla
 use Rattle.hall_http.specs.Crowd.{WasHandedOut, WasHere, WasNext, WasToGo, WasTurnedAway, number_past}
 use Rattle.hall_http.specs.Crowd.{AreAtTurns, at_first, at_other, at_turn}
 use Rattle.hall_http.specs.Crowd.{AreHeard, heard_first, heard_last, heard_other, heard_turn}
-use Rattle.hall_http.specs.Crowd.{HaveHeard, IsNoTurn, StandsThere}
+use Rattle.hall_http.specs.Crowd.{HaveHeard, IsNoTurn, MayTurnAway, StandsThere, WasStillHere, WasTaken}
 use Rattle.hall_http.specs.Steps.{StandsRightly}
 use Rattle.hall_http.specs.Turns.{Turn, Service, exchanges_of, goes_on}
 use Rattle.hall_http.specs.declared.client.Client.{Client}
 use Rattle.hall_http.specs.declared.client.Step.{Step}
 use Rattle.hall_http.specs.declared.client.Step.TheVariants as step
+use Rattle.hall_http.specs.declared.clients.Away.{Away}
+use Rattle.hall_http.specs.declared.clients.Away.TheVariants as away
 use Rattle.hall_http.specs.declared.clients.Clients.{Clients}
 use Rattle.hall_http.specs.declared.clients.Departure.{Departure}
 use Rattle.hall_http.specs.declared.clients.Departure.TheVariants as departure
@@ -69,25 +71,35 @@ module _ {P : Type 0} (traffic : P → Traffic) where
   has_before s m still place number (k, at, same) =
       let (j, there, equal) = still place k at in (j, there, equal ∙ same)
 
-  -- who was turned away among those that had gone was so among those that have
+  -- some more have gone
   abbrev pub Grows : List (Past P) → List (Past P) → Type 0
-  Grows gone more = (number : ℕ) → WasTurnedAway traffic gone number → WasTurnedAway traffic more number
+  Grows gone more = (last : List (Past P)) × (more ≡ gone ++ last)
 
   grows_same : (gone more : List (Past P)) → more ≡ gone → Grows gone more
-  grows_same gone more same number away = rw same away
+  grows_same gone more same = ([], same ∙ sym (append-nil gone))
 
   pub grows_none : (gone : List (Past P)) → Grows gone gone
-  grows_none gone number away = away
+  grows_none gone = ([], sym (append-nil gone))
 
   pub grows_by : (gone last more : List (Past P)) → more ≡ gone ++ last → Grows gone more
-  grows_by gone last more all number (front, one, rest, is, turned, same) = (
-    front,
-    one,
-    rest ++ last,
-    all ∙ ap (λ (gone : List (Past P)). gone ++ last) is ∙ append_assoc front (one ∷ rest) last,
-    turned,
-    same,
-  )
+  grows_by gone last more all = (last, all)
+
+  split_grown : (gone last more front rest : List (Past P)) (one : Past P) → more ≡ gone ++ last
+      → gone ≡ front ++ one ∷ rest → more ≡ front ++ one ∷ (rest ++ last)
+  split_grown gone last more front rest one all is =
+      all ∙ ap (λ (gone : List (Past P)). gone ++ last) is ∙ append_assoc front (one ∷ rest) last
+
+  -- who was turned away among those that had gone was so among those that have
+  away_grown : (gone more : List (Past P)) → Grows gone more → (number : ℕ) → WasTurnedAway traffic gone number
+      → WasTurnedAway traffic more number
+  away_grown gone more (last, all) number (front, one, rest, is, why, turned, same) =
+      (front, one, rest ++ last, split_grown gone last more front rest one all is, why, turned, same)
+
+  -- and who was still here then was so
+  here_grown : (gone more : List (Past P)) → Grows gone more → (number other : ℕ)
+      → WasStillHere traffic gone number other → WasStillHere traffic more number other
+  here_grown gone more (last, all) number other (front, one, rest, is, same, apart) =
+      (front, one, rest ++ last, split_grown gone last more front rest one all is, same, apart)
 
   -- none goes
   pub loses_none : (went : Departure) (place : ℕ) (s u : Clients P) → u.gone ≡ s.gone → MayLose traffic went place s u
@@ -113,8 +125,8 @@ module _ {P : Type 0} (traffic : P → Traffic) where
   pub receives_grows : (place : ℕ) (peer : P) (s u : Clients P) → Receives place peer s u
       → Grows s.gone.items u.gone.items
   receives_grows place peer s u (inl (free, same)) = grows_same s.gone.items u.gone.items same
-  receives_grows place peer s u (inr (closed, is, more)) =
-      grows_by s.gone.items ((closed, (departure.TurnedAway, place)) ∷ []) u.gone.items more
+  receives_grows place peer s u (inr (closed, why, is, may, more)) =
+      grows_by s.gone.items ((closed, (departure.TurnedAway why, place)) ∷ []) u.gone.items more
 
   -- none has gone at the end
   pub leave_none : (s : Clients P) → AllLeave traffic s s
@@ -136,7 +148,8 @@ module _ {P : Type 0} (traffic : P → Traffic) where
   keeps_grown : (gone more : List (Past P)) → Grows gone more → (place : ℕ) (one : Next P)
       → KeepsPlace traffic gone place one → KeepsPlace traffic more place one
   keeps_grown gone more grows place (next.Newcomer other peer) (inl differs) = inl differs
-  keeps_grown gone more grows place (next.Newcomer other peer) (inr away) = inr (grows ((traffic peer).number) away)
+  keeps_grown gone more grows place (next.Newcomer other peer) (inr away) =
+      inr (away_grown gone more grows ((traffic peer).number) away)
   keeps_grown gone more grows place (next.Turn other) keeps = tt
   keeps_grown gone more grows place (next.Gone other) keeps = keeps
   keeps_grown gone more grows place next.End keeps = tt
@@ -155,9 +168,20 @@ module _ {P : Type 0} (traffic : P → Traffic) where
   next_grown gone more grows steps one place number (front, rest, is, was) =
       (front, rest, is, for_grown gone more grows front place number was)
 
+  taken_grown : (gone more : List (Past P)) → Grows gone more → (steps : Nexts P) (place number : ℕ) (why : Away)
+      → WasTaken traffic gone steps place number why → WasTaken traffic more steps place number why
+  taken_grown gone more grows steps place number away.NoPlace (inl beyond) = inl beyond
+  taken_grown gone more grows steps place number away.NoPlace (inr (other, was, here)) = inr (
+    other,
+    for_grown gone more grows steps place other was,
+    here_grown gone more grows number other here,
+  )
+  taken_grown gone more grows steps place number (away.NoMemory refusal) was = was
+
   to_go_grown : (gone more : List (Past P)) → Grows gone more → (steps : Nexts P) (went : Departure) (place number : ℕ)
       → WasToGo traffic gone steps went place number → WasToGo traffic more steps went place number
-  to_go_grown gone more grows steps departure.TurnedAway place number was = was
+  to_go_grown gone more grows steps (departure.TurnedAway why) place number (front, rest, peer, is, same, taken) =
+      (front, rest, peer, is, same, taken_grown gone more grows front place number why taken)
   to_go_grown gone more grows steps departure.Over place number was =
       next_grown gone more grows steps (next.Turn place) place number was
   to_go_grown gone more grows steps departure.LetGo place number was =
@@ -209,8 +233,14 @@ module _ {P : Type 0} (traffic : P → Traffic) where
 
   to_go_more : (gone : List (Past P)) (steps : Nexts P) (one : Next P) (went : Departure) (place number : ℕ)
       → WasToGo traffic gone steps went place number → WasToGo traffic gone (steps ++ one ∷ []) went place number
-  to_go_more gone steps one departure.TurnedAway place number (rest, handed) =
-      (rest ++ one ∷ [], handed_more steps rest one place number handed)
+  to_go_more gone steps one (departure.TurnedAway why) place number (front, rest, peer, is, same, taken) = (
+    front,
+    rest ++ one ∷ [],
+    peer,
+    ap (λ (all : Nexts P). all ++ one ∷ []) is ∙ append_assoc front (next.Newcomer place peer ∷ rest) (one ∷ []),
+    same,
+    taken,
+  )
   to_go_more gone steps one departure.Over place number was =
       next_more gone steps one (next.Turn place) place number was
   to_go_more gone steps one departure.LetGo place number was =
@@ -303,8 +333,10 @@ module _ {P : Type 0} (traffic : P → Traffic) where
           gone = left_lost grows (next.Gone place) departure.LetGo place (next_here grows (next.Gone place) place) lost;
         }
 
-    -- a newcomer came for the place
-    module _ (place : ℕ) (peer : P) where
+    -- a newcomer came for the place, which is one of 500, or none that there is
+    module _ (long : length s.places.items ≡ 500) (place : ℕ) (peer : P)
+        (apart : (k : Client P) → IsAt s place k
+        → All (λ past. number_past traffic past ≢ (traffic k.peer).number) s.gone.items) where
       abbrev came : Next P
       came = next.Newcomer place peer
 
@@ -315,9 +347,9 @@ module _ {P : Type 0} (traffic : P → Traffic) where
       keeps_from true other e k at (inl (free, same)) =
           let clash = sym free ∙ subst (λ (place : ℕ). IsAt s place k) (eqb-true _ _ e) at in
           absurd cc
-      keeps_from true other e k at (inr (closed, is, more)) =
-          let one : Past P = (closed, (departure.TurnedAway, place)) in
-          inr (s.gone.items, one, [], more, refl, ap (λ (p : P). (traffic p).number) is)
+      keeps_from true other e k at (inr (closed, why, is, may, more)) =
+          let one : Past P = (closed, (departure.TurnedAway why, place)) in
+          inr (s.gone.items, one, [], more, why, refl, ap (λ (p : P). (traffic p).number) is)
 
       here_comes : Receives place peer s u → (other : ℕ) (l : Client P) → IsAt u other l
           → HasAt traffic s other (traffic l.peer).number
@@ -329,16 +361,37 @@ module _ {P : Type 0} (traffic : P → Traffic) where
       here_comes receives other l at (inr (here, same)) =
           rw here ([], (steps, peer, refl, sym same), All-nil (KeepsPlace traffic u.gone.items place))
 
+      -- a newcomer was turned away as it may be
+      was_taken : (closed : Closed P) (why : Away)
+          → u.gone.items ≡ s.gone.items ++ (closed, (departure.TurnedAway why, place)) ∷ [] → MayTurnAway s place why
+          → WasTaken traffic u.gone.items steps place ((traffic closed.peer).number) why
+      was_taken closed away.NoPlace more (inl beyond) = inl (subst (λ (n : ℕ). n ≤ place) long beyond)
+      was_taken closed away.NoPlace more (inr (k, at)) =
+          let one : Past P = (closed, (departure.TurnedAway away.NoPlace, place)) in
+          let grows = grows_by s.gone.items (one ∷ []) u.gone.items more in
+          inr (
+            (traffic k.peer).number,
+            for_grown s.gone.items u.gone.items grows steps place ((traffic k.peer).number) (said.here place k at),
+            (s.gone.items, one, [], more, refl, apart k at),
+          )
+      was_taken closed (away.NoMemory refusal) more may = tt
+
       left_comes : Receives place peer s u → All (HasLeft traffic u.gone.items (steps ++ came ∷ [])) u.gone.items
       left_comes (inl (free, same)) =
           subst (All (HasLeft traffic u.gone.items (steps ++ came ∷ []))) (sym same)
           (left_still (grows_same s.gone.items u.gone.items same) came)
-      left_comes (inr (closed, is, more)) =
-          let one : Past P = (closed, (departure.TurnedAway, place)) in
+      left_comes (inr (closed, why, is, may, more)) =
+          let one : Past P = (closed, (departure.TurnedAway why, place)) in
+          let grows = grows_by s.gone.items (one ∷ []) u.gone.items more in
           subst (All (HasLeft traffic u.gone.items (steps ++ came ∷ []))) (sym more)
-          (All-push (HasLeft traffic u.gone.items (steps ++ came ∷ [])) s.gone.items one
-          (left_still (grows_by s.gone.items (one ∷ []) u.gone.items more) came)
-          ([], (steps, peer, refl, sym (ap (λ (p : P). (traffic p).number) is))))
+          (All-push (HasLeft traffic u.gone.items (steps ++ came ∷ [])) s.gone.items one (left_still grows came) (
+            steps,
+            [],
+            peer,
+            refl,
+            sym (ap (λ (p : P). (traffic p).number) is),
+            was_taken closed why more may,
+          ))
 
       comes_said : ComesTo traffic place peer s u → Receives place peer s u
           → AreAsSaid traffic (steps ++ came ∷ []) u
@@ -373,10 +426,13 @@ module _ {P : Type 0} (traffic : P → Traffic) where
         → MayLose traffic departure.LetGo place s u → AreAsSaid traffic (since old then) u
     said_gone place is still free lost = rw (more, is) (gone_said (since old now) s u said place still free lost)
 
-    pub said_comes : (place : ℕ) (peer : P) → one ≡ next.Newcomer place peer → ComesTo traffic place peer s u
-        → Receives place peer s u → AreAsSaid traffic (since old then) u
-    said_comes place peer is comes receives =
-        rw (more, is) (comes_said (since old now) s u said place peer comes receives)
+    pub said_comes : length s.places.items ≡ 500 → (place : ℕ) (peer : P)
+        → ((k : Client P) → IsAt s place k
+        → All (λ past. number_past traffic past ≢ (traffic k.peer).number) s.gone.items)
+        → one ≡ next.Newcomer place peer → ComesTo traffic place peer s u → Receives place peer s u
+        → AreAsSaid traffic (since old then) u
+    said_comes long place peer apart is comes receives =
+        rw (more, is) (comes_said (since old now) s u said long place peer apart comes receives)
 
 module _ {H C : Type 0} (service : Service H C) where
   -- nothing was answered

@@ -1,6 +1,6 @@
 -- All connections that came, and what each was told.
 use Rattle.std.specs.Prelude.{◌≡◌, ◌≢◌, ◌<◌, ◌≤◌, ◌+◌, ◌⊎◌, ⊤, ℕ, List, [], ◌∷◌, ◌++◌, All, Option, Some, None}
-use Rattle.std.specs.Prelude.{Bool, true, false}
+use Rattle.std.specs.Prelude.{Bool, true, false, length}
 use Rattle.std.proofs.Common.{get_or}
 use Rattle.hall_http.specs.Answered.{IsUnavailable}
 use Rattle.hall_http.specs.Peer.{Traffic, IsOver, IsUntouched}
@@ -19,6 +19,8 @@ use Rattle.hall_http.specs.Serving.{AreAnsweredWhileOpen, LeavesRunOver, RunsOve
 use Rattle.hall_http.specs.declared.client.Client.{Client}
 use Rattle.hall_http.specs.declared.client.Step.{Step}
 use Rattle.hall_http.specs.declared.client.Step.TheVariants as step
+use Rattle.hall_http.specs.declared.clients.Away.{Away}
+use Rattle.hall_http.specs.declared.clients.Away.TheVariants as away
 use Rattle.hall_http.specs.declared.clients.Clients.{Clients}
 use Rattle.hall_http.specs.declared.clients.Departure.{Departure}
 use Rattle.hall_http.specs.declared.clients.Departure.TheVariants as departure
@@ -67,7 +69,7 @@ AreApart traffic (one ∷ rest) =
 -- How a connection may go, by what came of it and went to it: one that was turned away was left untouched; and one is
 -- over where no more goes to it, or where it was told that no more is sent and no more comes of it.
 abbrev pub MayGo : Departure → Traffic → Type 0
-MayGo departure.TurnedAway t = IsUntouched t
+MayGo (departure.TurnedAway why) t = IsUntouched t
 MayGo departure.Over t = IsOver t
 MayGo departure.LetGo t = Unit {0}
 MayGo departure.AtEnd t = Unit {0}
@@ -143,12 +145,18 @@ Admits traffic place peer s u =
     × ((few many : ℕ) (turns : List Turn) → (traffic peer).number ≡ many → AreKept traffic few many turns s
     → AreKept traffic few (many + 1) turns u)
 
--- a newcomer got the place, which was free; or it was turned away
+-- a newcomer for the place may be turned away so: as it has none only where a connection is at it, or where it isn't
+-- one of those that there are
+abbrev pub MayTurnAway : {P : Type 0} → Clients P → ℕ → Away → Type 0
+MayTurnAway {P} s place away.NoPlace = (length s.places.items ≤ place) ⊎ ((k : Client P) × IsAt s place k)
+MayTurnAway s place (away.NoMemory refusal) = Unit {0}
+
+-- a newcomer got the place, which was free; or it was turned away, as it may be
 abbrev pub Receives : {P : Type 0} → ℕ → P → Clients P → Clients P → Type 0
 Receives {P} place peer s u =
     (IsFree s place × (u.gone.items ≡ s.gone.items))
-    ⊎ ((closed : Closed P) × (closed.peer ≡ peer)
-    × (u.gone.items ≡ s.gone.items ++ (closed, (departure.TurnedAway, place)) ∷ []))
+    ⊎ ((closed : Closed P) × (why : Away) × (closed.peer ≡ peer) × MayTurnAway s place why
+    × (u.gone.items ≡ s.gone.items ++ (closed, (departure.TurnedAway why, place)) ∷ []))
 
 -- requests were answered one after another by a responder, at the clock's moments, and this is true of them
 pub record AreHandled {H C : Type 0} (service : Service H C) (Holds : List Turn → Type 0) (before after : H × C) :
@@ -174,7 +182,7 @@ Serves service traffic place before s after u =
 abbrev pub WasTurnedAway : {P : Type 0} → (P → Traffic) → List (Past P) → ℕ → Type 0
 WasTurnedAway {P} traffic gone number =
     (front : List (Past P)) × (one : Past P) × (rest : List (Past P)) × (gone ≡ front ++ one ∷ rest)
-    × (one.1.0 ≡ departure.TurnedAway) × (number_past traffic one ≡ number)
+    × (why : Away) × (one.1.0 ≡ departure.TurnedAway why) × (number_past traffic one ≡ number)
 
 -- by this, whoever has the place keeps it: it isn't let go, and no newcomer gets it
 abbrev pub KeepsPlace : {P : Type 0} → (P → Traffic) → List (Past P) → ℕ → Next P → Type 0
@@ -199,11 +207,26 @@ abbrev pub WasNext : {P : Type 0} → (P → Traffic) → List (Past P) → Next
 WasNext {P} traffic gone steps one place number =
     (front rest : Nexts P) × (steps ≡ front ++ one ∷ rest) × IsFor traffic gone front place number
 
+-- when the connection of this number went, the other was still here: it isn't among those that had gone by then
+abbrev pub WasStillHere : {P : Type 0} → (P → Traffic) → List (Past P) → ℕ → ℕ → Type 0
+WasStillHere {P} traffic gone number other =
+    (front : List (Past P)) × (one : Past P) × (rest : List (Past P)) × (gone ≡ front ++ one ∷ rest)
+    × (number_past traffic one ≡ number) × All (λ past. number_past traffic past ≢ other) front
+
+-- After these steps the place couldn't be given to the newcomer of this number. It isn't one of the 500; or another had
+-- it, which was handed out for it before, wasn't let go since, and was still here. Or there was no memory.
+abbrev pub WasTaken : {P : Type 0} → (P → Traffic) → List (Past P) → Nexts P → ℕ → ℕ → Away → Type 0
+WasTaken traffic gone steps place number away.NoPlace =
+    (500 ≤ place) ⊎ ((other : ℕ) × IsFor traffic gone steps place other × WasStillHere traffic gone number other)
+WasTaken traffic gone steps place number (away.NoMemory refusal) = Unit {0}
+
 -- By what the sockets said, the connection of this number that was handed out for the place was to go so, or may have,
--- before the end: turned away after it was handed out; over after a turn of its place; let go where its place was.
+-- before the end: turned away as it was handed out, where the place was taken; over after a turn of its place; let go
+-- where its place was.
 abbrev pub WasToGo : {P : Type 0} → (P → Traffic) → List (Past P) → Nexts P → Departure → ℕ → ℕ → Type 0
-WasToGo {P} traffic gone steps departure.TurnedAway place number =
-    (rest : Nexts P) × WasHandedOut traffic steps rest place number
+WasToGo {P} traffic gone steps (departure.TurnedAway why) place number =
+    (front rest : Nexts P) × (peer : P) × (steps ≡ front ++ next.Newcomer place peer ∷ rest)
+    × ((traffic peer).number ≡ number) × WasTaken traffic gone front place number why
 WasToGo traffic gone steps departure.Over place number = WasNext traffic gone steps (next.Turn place) place number
 WasToGo traffic gone steps departure.LetGo place number = WasNext traffic gone steps (next.Gone place) place number
 WasToGo traffic gone steps departure.AtEnd place number = ⊥

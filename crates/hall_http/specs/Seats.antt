@@ -31,6 +31,12 @@ abbrev pub IsOpen : Places → ℕ → Type 0
 IsOpen places place =
     (place < length places.visits.items) × (get_or places.visits.items place None ≡ None) × (places.here < places.left)
 
+-- one more newcomer was lost, and nobody's place was touched
+abbrev pub LosesOne : Places → Places → Type 0
+LosesOne old new =
+    (length new.lost.items ≡ length old.lost.items + 1) × (new.freed.items ≡ old.freed.items)
+    × (new.visits.items ≡ old.visits.items)
+
 -- As many as may come have come, and have gone: each that was given a place has left it, and the others couldn't be set
 -- up. All places are free.
 pub record HaveAllGone (places : Places) : Type 0 where

@@ -1,17 +1,18 @@
 //! The open connections, each at a place of its own.
-ghost use Rattle.std.specs.Prelude.{◌≡◌, ◌<◌, ℕ, List, [], IfOk, None, Some, length, slice_set, true};
+ghost use Rattle.std.specs.Prelude.{◌≡◌, ◌<◌, ℕ, List, [], IfOk, None, Some, length, slice_set, false, true};
 ghost use Rattle.hall_http.specs.Connection.{Exchange};
 ghost use Rattle.hall_http.specs.Crowd.{Admits, AllLeave, AnswersNoMore, AreGone, AreKept, AreSomeKept, IsAt, IsFree};
-ghost use Rattle.hall_http.specs.Crowd.{MayGo, MayLose, Receives, Serves};
+ghost use Rattle.hall_http.specs.Crowd.{MayGo, MayLose, MayTurnAway, Receives, Serves};
 ghost use Rattle.hall_http.specs.Peer.{IsUntouched};
 ghost use Rattle.hall_http.specs.Steps.{StandsRightly};
 ghost use Rattle.hall_http.specs.Turns.{IsClient, IsOverRightly, IsPlaceKept, IsPlaceTurned, goes_on, service_of};
 ghost use Rattle.hall_http.specs.declared.client.Client.{Client};
 ghost use Rattle.hall_http.specs.declared.client.Step.TheVariants as Step;
+ghost use Rattle.hall_http.specs.declared.clients.Away.TheVariants as Away;
 
 use crate::client::{Client, Step};
 use crate::connection::Clock;
-use crate::inbox::Inbox;
+use crate::inbox::{Inbox, NoInbox};
 use crate::peer::{Closed, Peer};
 use crate::responder::Responder;
 use crate::routes::Routes;
@@ -21,11 +22,20 @@ use std::alloc::{AllocError, Global};
 /// The most open connections. A process may usually have 1,024 files open.
 pub(crate) const MOST_CLIENTS: usize = 500;
 
+/// Why a newcomer was turned away.
+#[derive(Clone, Copy)]
+pub enum Away {
+    /// Another connection had its place, or that isn't one of those that there are.
+    NoPlace,
+    /// There was no memory for its bytes.
+    NoMemory(NoInbox),
+}
+
 /// How a connection went that came.
 #[derive(Clone, Copy)]
 pub enum Departure {
-    /// It was turned away, for want of a place or of memory.
-    TurnedAway,
+    /// It was turned away.
+    TurnedAway(Away),
     /// It was over after its turn.
     Over,
     /// The sockets let it go.
@@ -88,7 +98,8 @@ fn take_at<P>(place: &mut Option<Client<P>>) -> Option<Client<P>>
 impl<P: Peer + Drop> Clients<P> {
     /// None yet, with so many places.
     pub(crate) fn new(alloc: Global, most: usize) -> Result<Clients<P>, AllocError>
-        ensures { IfOk result (λ clients. (n : ℕ) → AreKept P.traffic n n [] clients) }
+        ensures kept { IfOk result (λ clients. (n : ℕ) → AreKept P.traffic n n [] clients) }
+        ensures long { IfOk result (λ clients. length clients.places.items ≡ most) }
     {
         let mut places = Vec::with_capacity(alloc, most)?;
         for _place in 0..most {
@@ -100,27 +111,41 @@ impl<P: Peer + Drop> Clients<P> {
         })
     }
 
+    /// Whether the place is one of those that there are, and none is at it.
+    fn is_free(&self, place: usize) -> bool
+        ensures free { result ≡ true → (place < length self.now.places.items) × IsFree self.now place }
+        ensures taken { result ≡ false → MayTurnAway self.now place Away.NoPlace }
+    {
+        if place >= self.places.len() {
+            return false;
+        }
+        self.places[place].is_none()
+    }
+
     /// Lets a newcomer have the place, if it is free, or else turns it away.
     pub(crate) fn seat(&mut self, place: usize, inbox: Inbox, peer: P)
         requires { IsUntouched (P.traffic peer) }
         ensures admits { Admits P.traffic place peer self.old self.new }
         ensures receives { Receives place peer self.old self.new }
+        ensures long { length self.new.places.items ≡ length self.old.places.items }
     {
-        if place >= self.places.len() || self.places[place].is_some() {
-            self.turn_away(place, peer);
+        if !self.is_free(place) {
+            self.turn_away(place, peer, Away::NoPlace);
             return;
         }
         self.places[place] = Some(Client::new(inbox, peer));
     }
 
     /// Turns a newcomer away that was to have the place. It is sent nothing.
-    pub(crate) fn turn_away(&mut self, place: usize, peer: P)
-        requires { IsUntouched (P.traffic peer) }
+    pub(crate) fn turn_away(&mut self, place: usize, peer: P, why: Away)
+        requires untouched { IsUntouched (P.traffic peer) }
+        requires may { MayTurnAway self.old place why }
         ensures admits { Admits P.traffic place peer self.old self.new }
         ensures receives { Receives place peer self.old self.new }
+        ensures long { length self.new.places.items ≡ length self.old.places.items }
     {
         let closed = Closed::new(peer);
-        self.gone = self.gone.and(&closed, &(Departure::TurnedAway, place));
+        self.gone = self.gone.and(&closed, &(Departure::TurnedAway(why), place));
     }
 
     /// The connection at the place has its turn.
@@ -140,6 +165,7 @@ impl<P: Peer + Drop> Clients<P> {
             StandsRightly H.may_wait k.connection responder.new result }
         ensures none { IsFree self.new place → result ≡ Step.Over }
         ensures gone { self.new.gone ≡ self.old.gone }
+        ensures long { length self.new.places.items ≡ length self.old.places.items }
     {
         if place >= self.places.len() {
             return Step::Over;
@@ -152,6 +178,7 @@ impl<P: Peer + Drop> Clients<P> {
         requires { AreSomeKept P.traffic self.old }
         ensures kept { AnswersNoMore P.traffic self.old self.new }
         ensures gone { self.new.gone ≡ self.old.gone }
+        ensures long { length self.new.places.items ≡ length self.old.places.items }
     {
         for place in 0..self.places.len() {
             self.finish_one(place);
@@ -163,6 +190,7 @@ impl<P: Peer + Drop> Clients<P> {
         requires { AreSomeKept P.traffic self.old }
         ensures kept { AnswersNoMore P.traffic self.old self.new }
         ensures gone { self.new.gone ≡ self.old.gone }
+        ensures long { length self.new.places.items ≡ length self.old.places.items }
     {
         if place >= self.places.len() {
             return;
@@ -178,6 +206,7 @@ impl<P: Peer + Drop> Clients<P> {
             self.new.places.items ≡ slice_set self.old.places.items place None }
         ensures kept { AnswersNoMore P.traffic self.old self.new }
         ensures lost { MayLose P.traffic departure place self.old self.new }
+        ensures long { length self.new.places.items ≡ length self.old.places.items }
     {
         if place >= self.places.len() {
             return;

@@ -1,5 +1,5 @@
 //! The system's sockets: who comes, whose turn it is, and who has waited too long.
-ghost use Rattle.std.specs.Prelude.{◌≡◌, IfOk, IfSome, None, Some, get_or, true};
+ghost use Rattle.std.specs.Prelude.{◌≡◌, ◌≤◌, ◌+◌, IfOk, IfSome, None, Some, get_or, true};
 ghost use Rattle.hall_http.specs.declared.places.Visit.{Visit};
 ghost use Rattle.hall_http.specs.declared.server.Next.TheVariants as Next;
 ghost use Rattle.hall_http.specs.Coming.{logged};
@@ -456,7 +456,9 @@ impl<'r, N: time::Clock> Schedule<'r, N> {
     /// Reads the clock. Of the milliseconds since it was last read, no more than these count; and so many do where it
     /// can't be read.
     fn count_time(&mut self, most: u64)
-        ensures { AreStill self.old.places self.new.places }
+        ensures still { AreStill self.old.places self.new.places }
+        ensures on { self.old.now ≤ self.new.now }
+        ensures most { self.new.now ≤ self.old.now + most }
     {
         let passed = match self.time.monotonic() {
             Ok(since) => {

@@ -31,6 +31,12 @@ pub struct Inbox {
     passed: usize,
 }
 
+/// That there was no memory for the inbox of a newcomer. Only a refusal of it makes one.
+#[derive(Clone, Copy)]
+pub struct NoInbox {
+    refused: (),
+}
+
 impl Model for Inbox {
     ghost use Rattle.std.specs.Prelude.{◌≤◌, List, ℕ, drop, vec_len, vec_capacity};
 
@@ -48,6 +54,16 @@ impl Inbox {
     {
         let bytes = Vec::with_capacity(alloc, ROOM)?;
         Ok(Inbox { bytes, passed: 0 })
+    }
+
+    /// With no bytes, for a newcomer.
+    pub(crate) fn of_newcomer(alloc: Global) -> Result<Inbox, NoInbox>
+        ensures { IfOk result (λ inbox. inbox ≡ []) }
+    {
+        match Inbox::new(alloc) {
+            Ok(inbox) => Ok(inbox),
+            Err(_) => Err(NoInbox { refused: () }),
+        }
     }
 
     /// Forgets all its bytes.

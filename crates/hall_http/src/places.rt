@@ -100,7 +100,7 @@ pub(crate) struct Places {
 
 impl Places {
     ghost use Rattle.hall_http.specs.Seats.{AreFresh, AreStill, Follows, HaveAllGone, IsKnown, IsOpen, LetsGo};
-    ghost use Rattle.hall_http.specs.Seats.{MayLetGo};
+    ghost use Rattle.hall_http.specs.Seats.{LosesOne, MayLetGo};
     ghost use Rattle.hall_http.specs.Seats.{are_full};
 
     /// So many places, all free, for so many connections.
@@ -189,7 +189,8 @@ impl Places {
     /// A newcomer can't be set up.
     pub(crate) fn lose(&mut self, now: u64)
         requires { self.old.here < self.old.left }
-        ensures { AreStill self.old self.new }
+        ensures still { AreStill self.old self.new }
+        ensures lost { LosesOne self.old self.new }
     {
         self.left -= 1;
         self.lost = self.lost.and(&(), &now);

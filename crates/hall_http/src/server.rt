@@ -1,5 +1,5 @@
 //! Many connections at once: which of them goes a step is the sockets' choice, and what a step is isn't.
-ghost use Rattle.std.specs.Prelude.{◌≡◌, ◌≢◌, ◌+◌, [], ◌∷◌, ◌++◌, true, IfOk, OnErr};
+ghost use Rattle.std.specs.Prelude.{◌≡◌, ◌≢◌, ◌+◌, [], ◌∷◌, ◌++◌, true, IfOk, OnErr, length};
 ghost use Rattle.hall_http.specs.declared.client.Step.TheVariants as Step;
 ghost use Rattle.hall_http.specs.declared.server.ServeAllEnd.TheVariants as ServeAllEnd;
 ghost use Rattle.hall_http.specs.declared.server.Next.TheVariants as Next;
@@ -17,7 +17,7 @@ ghost use Rattle.hall_http.specs.Turns.{goes_on, service_of};
 ghost use Rattle.hall_http.specs.declared.client.Client.{Client};
 
 use crate::client::Step;
-use crate::clients::{Clients, Departure, Gone, MOST_CLIENTS};
+use crate::clients::{Away, Clients, Departure, Gone, MOST_CLIENTS};
 use crate::connection::Clock;
 use crate::inbox::Inbox;
 use crate::peer::Peer;
@@ -117,7 +117,8 @@ fn serve_clients<S: Store, N: Sockets, C: Clock>(
     sockets: &mut N,
     clock: &mut C,
 ) -> ServeAllEnd
-    requires { AreKept N.Peer.traffic (N.said sockets.old).count (N.said sockets.old).count [] clients.old }
+    requires none { AreKept N.Peer.traffic (N.said sockets.old).count (N.said sockets.old).count [] clients.old }
+    requires long { length clients.old.places.items ≡ 500 }
     ensures served { (all : AreServed S.content C.now_gives N.Peer.traffic result
         (kept_by desk.old, clock.old) (kept_by desk.new, clock.new) clients.new.gone.items)
         × AreAtTurns N.Peer.traffic clients.new.gone.items (since (N.said sockets.old) (N.said sockets.new)) all.turns
@@ -142,7 +143,8 @@ fn handle_all<H: Responder, S: Sockets, C: Clock>(
     responder: &mut H,
     clock: &mut C,
 ) -> ServeAllEnd
-    requires { AreKept S.Peer.traffic (S.said sockets.old).count (S.said sockets.old).count [] clients.old }
+    requires none { AreKept S.Peer.traffic (S.said sockets.old).count (S.said sockets.old).count [] clients.old }
+    requires long { length clients.old.places.items ≡ 500 }
     ensures done { AreDone S.Peer.traffic result (S.said sockets.old) (S.said sockets.new) }
     ensures over { result ≡ ServeAllEnd.Served → S.is_over sockets.new }
     ensures said { AreAsSaid S.Peer.traffic (since (S.said sockets.old) (S.said sockets.new)) clients.new }
@@ -175,10 +177,11 @@ fn let_in<P: Peer + Drop>(alloc: Global, clients: &mut Clients<P>, place: usize,
     requires { IsUntouched (P.traffic peer) }
     ensures admits { Admits P.traffic place peer clients.old clients.new }
     ensures receives { Receives place peer clients.old clients.new }
+    ensures long { length clients.new.places.items ≡ length clients.old.places.items }
 {
-    match Inbox::new(alloc) {
+    match Inbox::of_newcomer(alloc) {
         Ok(inbox) => clients.seat(place, inbox, peer),
-        Err(_) => clients.turn_away(place, peer),
+        Err(refusal) => clients.turn_away(place, peer, Away::NoMemory(refusal)),
     }
 }
 
@@ -199,6 +202,7 @@ fn visit<P: Peer + Drop, H: Responder, C: Clock>(
     ensures stands { (k : Client P) → IsAt clients.new place k →
         (result ≢ Step.Over) × StandsRightly H.may_wait k.connection responder.new result }
     ensures over { IsFree clients.new place → goes_on result ≡ true → result ≡ Step.Over }
+    ensures long { length clients.new.places.items ≡ length clients.old.places.items }
 {
     let step = clients.turn(alloc, routes, place, responder, clock);
     match step {

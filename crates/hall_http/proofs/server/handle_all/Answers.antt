@@ -7,7 +7,8 @@ use Rattle.hall_http.specs.declared.server.Next.TheVariants as next
 use Rattle.hall_http.specs.declared.server.ServeAllEnd.TheVariants as end
 use Rattle.hall_http.proofs.Comings.{done_start, done_step, done_turn, done_last, done_all, same_count, since_more}
 use Rattle.hall_http.proofs.SoFar.{grows_none, handled_start, handled_turn, handled_keeps, handled_admits, keeps_all}
-use Rattle.hall_http.proofs.SoFar.{hears_last, hears_turn, loses_grows, receives_grows, stands_there, still_same, turn_said}
+use Rattle.hall_http.proofs.SoFar.{hears_last, hears_turn, loses_grows, receives_grows, stands_there}
+use Rattle.hall_http.proofs.SoFar.{still_same, turn_said}
 use Rattle.hall_http.proofs.SoFar.{said_comes, said_gone, said_none, said_still, said_turn}
 use Rattle.hall_http.proofs.server.handle_all.Goals as goal
 use Rattle.hall_http.proofs.server.handle_all.Goals.{in-Newcomer, in-Turn+else-not-goes_on, in-Gone}
@@ -15,8 +16,9 @@ use Rattle.hall_http.proofs.server.handle_all.Goals.{in-Newcomer, in-Turn+else-n
 pub loop-step-init : goal.loop-step-init
 loop-step-init g c = record {
   so_far = handled_start _ g.S.Peer.Peer.traffic g.H.Responder.may_wait _ (g.S.Sockets.said c.args.sockets.now) _
-      c.requires;
-  said = said_none g.S.Peer.Peer.traffic _ _ _ _ c.requires;
+      c.requires.none;
+  said = said_none g.S.Peer.Peer.traffic _ _ _ _ c.requires.none;
+  long = c.requires.long;
   done = done_start g.S.Peer.Peer.traffic _;
 }
 
@@ -41,12 +43,15 @@ loop-step-preserved g c =
           let more = since_more g.S.Peer.Peer.traffic old now _ done one then w.in-Newcomer.ensures.nexts in
           let clients = w.let_in.new.clients in
           rw (w.clients-is, w.responder-is, w.clock-is, w.sockets-is) (record {
-            so_far = handled_admits _ g.S.Peer.Peer.traffic g.H.Responder.may_wait old now _ _ _ so_far then one more clients
-                (receives_grows g.S.Peer.Peer.traffic place w.in-Newcomer.peer c.loop-step.clients clients w.let_in.ensures.receives) place
-                w.in-Newcomer.peer w.in-Newcomer.ensures.fresh.0 w.in-Newcomer.ensures.count w.in-Newcomer.ensures.heard
-                tt w.let_in.ensures.admits;
-            said = said_comes g.S.Peer.Peer.traffic old now c.loop-step.clients then one more said clients place
-                w.in-Newcomer.peer refl w.let_in.ensures.admits.0 w.let_in.ensures.receives;
+            so_far = handled_admits _ g.S.Peer.Peer.traffic g.H.Responder.may_wait old now _ _ _ so_far then one more
+                clients
+                (receives_grows g.S.Peer.Peer.traffic place w.in-Newcomer.peer c.loop-step.clients clients
+                w.let_in.ensures.receives) place w.in-Newcomer.peer w.in-Newcomer.ensures.fresh.0
+                w.in-Newcomer.ensures.count w.in-Newcomer.ensures.heard tt w.let_in.ensures.admits;
+            said = said_comes g.S.Peer.Peer.traffic old now c.loop-step.clients then one more said clients
+                c.loop-step.invariant.long place w.in-Newcomer.peer (so_far.holds.0.numbered.left place) refl
+                w.let_in.ensures.admits.0 w.let_in.ensures.receives;
+            long = w.let_in.ensures.long ∙ c.loop-step.invariant.long;
             done = done_step g.S.Peer.Peer.traffic old now _ done one then w.in-Newcomer.ensures.fresh
                 w.in-Newcomer.ensures.count w.in-Newcomer.ensures.nexts w.in-Newcomer.ensures.most tt;
           })
@@ -70,16 +75,17 @@ loop-step-preserved g c =
           let grows = loses_grows g.S.Peer.Peer.traffic departure.Over place c.loop-step.clients clients
           w.visit-step.ensures.lost in
           rw (w.clients-is, w.responder-is, w.clock-is, w.sockets-is) (record {
-            so_far = handled_turn _ g.S.Peer.Peer.traffic g.H.Responder.may_wait old now _ _ _ so_far later one more clients
-                grows true _ place refl (count ∙ same_count _) said (rw on at w.visit-step.ensures.serves)
+            so_far = handled_turn _ g.S.Peer.Peer.traffic g.H.Responder.may_wait old now _ _ _ so_far later one more
+                clients grows true _ place refl (count ∙ same_count _) said (rw on at w.visit-step.ensures.serves)
                 (hears_turn _ g.S.Peer.Peer.traffic g.H.Responder.may_wait old now _ _ _ so_far later one more clients
                 grows place how heard w.visit-step.new.responder
-                (stands_there g.S.Peer.Peer.traffic g.H.Responder.may_wait clients w.visit-step.new.responder place how on
-                w.visit-step.ensures.stands (λ free. w.visit-step.ensures.over free on))
+                (stands_there g.S.Peer.Peer.traffic g.H.Responder.may_wait clients w.visit-step.new.responder place how
+                on w.visit-step.ensures.stands (λ free. w.visit-step.ensures.over free on))
                 (turn_said g.S.Peer.Peer.traffic _ c.loop-step.clients clients said place w.visit-step.ensures.serves.0
                 w.visit-step.ensures.lost));
             said = said_turn g.S.Peer.Peer.traffic old now c.loop-step.clients later one more said clients place refl
                 w.visit-step.ensures.serves.0 w.visit-step.ensures.lost;
+            long = w.visit-step.ensures.long ∙ c.loop-step.invariant.long;
             done = done_step g.S.Peer.Peer.traffic old now _ done one later tt count nexts most tt;
           })
       | in-Gone w ↦
@@ -88,12 +94,14 @@ loop-step-preserved g c =
           let more = since_more g.S.Peer.Peer.traffic old now _ done one then w.in-Gone.ensures.nexts in
           let clients = w.forget.new.self in
           rw (w.clients-is, w.responder-is, w.clock-is, w.sockets-is) (record {
-            so_far = handled_keeps _ g.S.Peer.Peer.traffic g.H.Responder.may_wait old now _ _ _ so_far then one more clients
+            so_far = handled_keeps _ g.S.Peer.Peer.traffic g.H.Responder.may_wait old now _ _ _ so_far then one more
+                clients
                 (loses_grows g.S.Peer.Peer.traffic departure.LetGo place c.loop-step.clients clients
                 w.forget.ensures.lost) (w.in-Gone.ensures.count ∙ same_count _) w.in-Gone.ensures.heard tt
                 w.forget.ensures.kept;
             said = said_gone g.S.Peer.Peer.traffic old now c.loop-step.clients then one more said clients place refl
                 w.forget.ensures.kept.0 w.forget.ensures.none w.forget.ensures.lost;
+            long = w.forget.ensures.long ∙ c.loop-step.invariant.long;
             done = done_step g.S.Peer.Peer.traffic old now _ done one then tt w.in-Gone.ensures.count
                 w.in-Gone.ensures.nexts w.in-Gone.ensures.most tt;
           })

@@ -1,4 +1,4 @@
-use Rattle.std.proofs.Common.{true}
+use Rattle.std.proofs.Common.{◌≡◌, length, true}
 use Rattle.hall_http.specs.Coming.{since}
 use Rattle.hall_http.specs.Crowd.{AreAsSaid, AreHandled, AreKeptAtTurns}
 use Rattle.hall_http.specs.Turns.{service_of}
@@ -11,5 +11,6 @@ invariant-loop-step g l = record {
       (λ turns. AreKeptAtTurns g.H.Responder.may_wait g.S.Peer.Peer.traffic true (g.S.Sockets.said l.fn.sockets)
       (g.S.Sockets.said l.sockets) turns l.clients) ((l.fn.responder, true), l.fn.clock) ((l.responder, true), l.clock);
   said : AreAsSaid g.S.Peer.Peer.traffic (since (g.S.Sockets.said l.fn.sockets) (g.S.Sockets.said l.sockets)) l.clients;
+  long : length l.clients.places.items ≡ 500;
   done : DoneSoFar g.S.Peer.Peer.traffic (g.S.Sockets.said l.fn.sockets) (g.S.Sockets.said l.sockets) l._step;
 }

@@ -21,3 +21,6 @@ returns-clause-unique g c = λ h s sane.
 pub returns-clause-right : goal.returns-clause-right
 returns-clause-right g c = λ h s sane.
     right_answers (g.S.ReadStore.content (kept_by c.serve_clients-end.new.desk)).world (c.serve_clients-end.ensures.sane h s sane)
+
+pub serve_clients-end-requires-clause-none : goal.serve_clients-end-requires-clause-none
+serve_clients-end-requires-clause-none g c = c.in_ok-clients.ensures.kept (g.N.Sockets.said c.args.sockets.now).count

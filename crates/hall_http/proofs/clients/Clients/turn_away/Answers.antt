@@ -6,9 +6,10 @@ pub returns-clause-admits : goal.returns-clause-admits
 returns-clause-admits g c = (
   λ other l at. inl (l, at, refl),
   λ few many turns next kept.
-      kept_away g.P.Peer.traffic few many turns c.args.self.now kept _ c.new-closed.result c.args.place
-      (rw c.new-closed.ensures next) refl c.and-self.ensures (rw c.new-closed.ensures c.requires),
+      kept_away g.P.Peer.traffic few many turns c.args.self.now kept _ c.new-closed.result c.args.why c.args.place
+      (rw c.new-closed.ensures next) refl c.and-self.ensures (rw c.new-closed.ensures c.requires.untouched),
 )
 
 pub returns-clause-receives : goal.returns-clause-receives
-returns-clause-receives g c = inr (c.new-closed.result, c.new-closed.ensures, c.and-self.ensures)
+returns-clause-receives g c =
+    inr (c.new-closed.result, c.args.why, c.new-closed.ensures, c.requires.may, c.and-self.ensures)
