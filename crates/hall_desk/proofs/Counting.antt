@@ -1,5 +1,5 @@
 -- Counts by keys, and what the sentences of a sane world count.
-use Rattle.std.proofs.Common.{◌≡◌, ◌↔◌, ◌≤◌, ◌<◌, ◌==◌, ◌&&◌, ℕ, Bool, true, false, List, IsTrue, Decides, inl, inr, refl, sym, ap, ◌∙◌, arith}
+use Rattle.std.proofs.Common.{◌≡◌, ◌↔◌, ◌≤◌, ◌==◌, ◌&&◌, ℕ, Bool, true, false, List, IsTrue, inl, inr, sym, ap, ◌∙◌, arith}
 use Rattle.std.proofs.Math.Dec.{leb}
 use Rattle.std.proofs.lemmas.Bool.Decides.{leb_tells}
 use Rattle.std.proofs.lemmas.Cmp.{nat_cmp_total}
@@ -17,11 +17,17 @@ use Rattle.hall_policy.proofs.Orders.{text_total, same_texts}
 use Rattle.hall_policy.proofs.Texts.{text_decides}
 use Rattle.hall_desk.specs.Groups.{to_puzzle, to_puzzle_cmp, with_number, with_number_cmp, in_round, in_round_cmp}
 use Rattle.hall_desk.specs.Sentences.{is_numbered_alike}
+use Rattle.hall_desk.specs.Tally.{IsTally, counted_of}
 use Rattle.hall_desk.proofs.Scans.{tied}
 
 -- a count by a test that answers alike
-pub same_count : {X : Type 0} (p q : X → Bool) → ((x : X) → p x ≡ q x) → (xs : List X) → count_by p xs ≡ count_by q xs
+same_count : {X : Type 0} (p q : X → Bool) → ((x : X) → p x ≡ q x) → (xs : List X) → count_by p xs ≡ count_by q xs
 same_count p q same xs = ap (λ f. count_by f xs) (λ i x. same x i)
+
+-- what was counted of a key is the count of those that tie with it
+pub counted_alike : {K X : Type 0} {rows kept : List X} (counts : List (K × ℕ)) (R : K → K → Ordering) (key_of : X → K) (p : X → Bool) (key : K) →
+    ((x : X) → is_eq (R key (key_of x)) ≡ p x) → IsTally R key_of rows counts → kept ≡ rows → counted_of R counts key ≡ count_by p kept
+counted_alike {rows} counts R key_of p key ties tally same = tally key ∙ same_count (λ x. is_eq (R key (key_of x))) p ties rows ∙ ap (count_by p) (sym same)
 
 -- whether a count is at most so much, or at least
 pub at_most : (told n most : ℕ) → told ≡ n → IsTrue (leb told most) ↔ (n ≤ most)

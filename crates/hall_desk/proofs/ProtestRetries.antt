@@ -2,7 +2,7 @@
 use Rattle.std.proofs.Common.{◌≡◌, ◌≢◌, ◌⊎◌, ◌≤◌, inl, inr, ℕ, true, false, List, Option, Some, None, refl, sym, ap, ◌∙◌, subst, arith, lit<, suc}
 use Rattle.std.proofs.Math.Bool.{and-false}
 use Rattle.std.specs.FinMap.{get}
-use Rattle.hall_policy.specs.World.{World, place_of, protest_of, IsTesterOf}
+use Rattle.hall_policy.specs.World.{World, place_of, protest_of}
 use Rattle.hall_policy.specs.Actions.{number_of, last_rule}
 use Rattle.hall_policy.specs.First.{First, NoneBelow, Forbids, Repeated}
 use Rattle.hall_policy.specs.declared.rule.Rule.{Rule}
@@ -25,7 +25,7 @@ use Rattle.hall_desk.specs.declared.reply.Reply.{Reply}
 use Rattle.hall_desk.specs.declared.reply.Reply.TheVariants as reply
 use Rattle.hall_desk.proofs.ProtestTokens.{denied_by, token_decides, repeated_protest}
 use Rattle.hall_desk.proofs.Remaining.{remains_on, still_released, step_remains, records_stay}
-use Rattle.hall_desk.proofs.Retries.{same_caller}
+use Rattle.hall_desk.proofs.Retries.{same_caller, hand_before}
 
 -- an accepted protest: no rule before the token's forbade it, and its row stands in the world after it
 pub record IsAcceptedProtest (world kept : World) (t : ℕ) (caller : Option Person) (id token : List ℕ) (number : ℕ) (text : List ℕ) : Type 0 where
@@ -119,41 +119,8 @@ module _ (world later : World) (remains : KeptRecords world later) (caller : Opt
       let no : true ≡ false = sym (still_released world later id was_released.0 round_stays was_released.2) ∙ (missing round_stays.after round_stays.found).0 in
       absurd (cc)
   forbade rule.Missing few (asked, inr gone) = inr (refl, gone)
-  forbade rule.OwnPuzzle few (asked, (free, (person, is, (entrant, hand)))) = inl (
-    asked,
-    (
-      free,
-      (
-        person,
-        is,
-        (
-          entrant,
-          elim hand [
-            | inl (q, r, entry, named, at, (place, lists), own) ↦
-                let one : id ≡ q = cc in
-                inl (
-                  q,
-                  was_released.0,
-                  entry,
-                  named,
-                  subst (λ (x : List ℕ). get world.rounds x ≡ Some was_released.0) one was_released.1,
-                  (place, subst (λ (x : List ℕ). place_of world x place ≡ Some entry) one (sym (round_stays.places place) ∙ subst (λ (x : List ℕ). place_of later x place ≡ Some entry) (sym one) lists)),
-                  own,
-                )
-            | inr (q, r, named, at, tests) ↦
-                let one : id ≡ q = cc in
-                inr (
-                  q,
-                  was_released.0,
-                  named,
-                  subst (λ (x : List ℕ). get world.rounds x ≡ Some was_released.0) one was_released.1,
-                  subst (λ (x : List ℕ). IsTesterOf world x person.name) one ((round_stays.testers person.name).0 (subst (λ (x : List ℕ). IsTesterOf later x person.name) (sym one) tests)),
-                )
-          ],
-        ),
-      ),
-    ),
-  )
+  forbade rule.OwnPuzzle few (asked, (free, (person, is, (entrant, hand)))) =
+      inl (asked, (free, (person, is, (entrant, hand_before world later id was_released.0 person.name was_released.1 round_stays hand))))
   forbade _ few h = absurd (omega arith)
 
   -- so a rule before the token's forbids the retry only where its number is missing

@@ -4,6 +4,7 @@ use Rattle.std.proofs.Math.Bool.{and-false}
 use Rattle.std.specs.FinMap.{get}
 use Rattle.hall_policy.specs.World.{World, place_of, IsTesterOf}
 use Rattle.hall_policy.specs.Actions.{number_of, last_rule}
+use Rattle.hall_policy.specs.Rules.{HasHandIn}
 use Rattle.hall_policy.specs.First.{First, NoneBelow, Forbids, Repeated}
 use Rattle.hall_policy.specs.declared.rule.Rule.{Rule}
 use Rattle.hall_policy.specs.declared.rule.Rule.TheVariants as rule
@@ -21,7 +22,7 @@ use Rattle.hall_store.specs.Caller.{caller_of}
 use Rattle.hall_desk.specs.Shown.{told_verdict, is_sealed}
 use Rattle.hall_desk.specs.Step.{Step, Decided, answer_row}
 use Rattle.hall_desk.specs.Promises.{IsToldAgain, IsAcceptedNow, IsAcceptedRow, IsRetryOf, AcceptedAnswersStay}
-use Rattle.hall_desk.specs.Records.{KeptRecords}
+use Rattle.hall_desk.specs.Records.{KeptRecords, StaysReleased}
 use Rattle.hall_desk.specs.declared.reply.Reply.{Reply}
 use Rattle.hall_desk.specs.declared.reply.Reply.TheVariants as reply
 use Rattle.hall_desk.proofs.Tokens.{denied_by, token_decides, repeated_text, first_reply}
@@ -94,6 +95,17 @@ same_caller world later key person remains is = remains.callers key person is �
 pub same_told : (a b : Round) (verdict : ℕ) → a.mode ≡ b.mode → told_verdict a verdict ≡ told_verdict b verdict
 same_told a b verdict same = ap (λ (m : Mode). if is_sealed m then None else Some verdict) same
 
+-- who has a hand in a round that stays had it before
+pub hand_before : (world later : World) (id : List ℕ) (round : Round) (name : List ℕ) → get world.rounds id ≡ Some round → StaysReleased world later id round →
+    HasHandIn later (Some id) name → HasHandIn world (Some id) name
+hand_before world later id round name found stays (inl (q, r, entry, named, at, (place, lists), own)) =
+    let one : id ≡ q = cc in
+    let listed = sym (stays.places place) ∙ subst (λ (x : List ℕ). place_of later x place ≡ Some entry) (sym one) lists in
+    inl (id, round, entry, refl, found, (place, listed), own)
+hand_before world later id round name found stays (inr (q, r, named, at, tests)) =
+    let one : id ≡ q = cc in
+    inr (id, round, refl, found, (stays.testers name).0 (subst (λ (x : List ℕ). IsTesterOf later x name) (sym one) tests))
+
 module _ (world later : World) (remains : KeptRecords world later) (caller : Option Person) (t u : ℕ) (id : List ℕ) (number : ℕ) (token answer again : List ℕ)
     (round : Round) (found : get world.rounds id ≡ Some round) (none : NoneBelow 6 world caller (action.Submit id number token answer) t) where
   -- the answer's round was released, since a draft is missing for a Submit
@@ -119,41 +131,8 @@ module _ (world later : World) (remains : KeptRecords world later) (caller : Opt
       let no : true ≡ false = sym (still_released world later id round now was_released) ∙ (missing now.after now.found).0 in
       absurd (cc)
   forbade rule.Missing few (asked, inr gone) = (asked, inr (sym ((remains.rounds id round found was_released).places number) ∙ gone))
-  forbade rule.OwnPuzzle few (asked, (free, (person, is, (entrant, hand)))) = (
-    asked,
-    (
-      free,
-      (
-        person,
-        is,
-        (
-          entrant,
-          elim hand [
-            | inl (q, r, entry, named, at, (place, lists), own) ↦
-                let one : id ≡ q = cc in
-                inl (
-                  q,
-                  round,
-                  entry,
-                  named,
-                  subst (λ (x : List ℕ). get world.rounds x ≡ Some round) one found,
-                  (place, subst (λ (x : List ℕ). place_of world x place ≡ Some entry) one (sym ((remains.rounds id round found was_released).places place) ∙ subst (λ (x : List ℕ). place_of later x place ≡ Some entry) (sym one) lists)),
-                  own,
-                )
-            | inr (q, r, named, at, tests) ↦
-                let one : id ≡ q = cc in
-                inr (
-                  q,
-                  round,
-                  named,
-                  subst (λ (x : List ℕ). get world.rounds x ≡ Some round) one found,
-                  subst (λ (x : List ℕ). IsTesterOf world x person.name) one (((remains.rounds id round found was_released).testers person.name).0 (subst (λ (x : List ℕ). IsTesterOf later x person.name) (sym one) tests)),
-                )
-          ],
-        ),
-      ),
-    ),
-  )
+  forbade rule.OwnPuzzle few (asked, (free, (person, is, (entrant, hand)))) =
+      (asked, (free, (person, is, (entrant, hand_before world later id round person.name found (remains.rounds id round found was_released) hand))))
   forbade _ few h = absurd (omega arith)
 
   -- so no rule before the token's forbids the retry

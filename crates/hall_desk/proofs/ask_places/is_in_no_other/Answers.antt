@@ -1,4 +1,3 @@
-use Rattle.std.proofs.Common.{◌≡◌, not}
 use Rattle.hall_desk.proofs.Standing.{no_other}
 use Rattle.hall_desk.proofs.ask_places.is_in_no_other.Goals as goal
 

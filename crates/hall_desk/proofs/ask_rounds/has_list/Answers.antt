@@ -1,9 +1,7 @@
-use Rattle.std.proofs.Common.{◌≡◌, ◌↔◌, ◌∙◌, IsTrue, Option, Some, None, List, ap, sym, subst, option_map}
+use Rattle.std.proofs.Common.{◌↔◌, ◌∙◌, IsTrue, ap, subst, option_map}
 use Rattle.std.proofs.lemmas.Result.{IfOk-weaker}
 use Rattle.std.specs.List.{filter}
 use Rattle.hall_policy.specs.Lists.{AreEntries}
-use Rattle.hall_policy.specs.World.{same_text}
-use Rattle.hall_policy.specs.declared.record.Entry.{Entry}
 use Rattle.hall_desk.specs.Asking.{CanAsk}
 use Rattle.hall_desk.specs.Sentences.{HasList, IsListTold}
 use Rattle.hall_desk.specs.Whole.{world_of_whole}

@@ -1,4 +1,4 @@
-use Rattle.std.proofs.Common.{◌≡◌, ◌++◌, [], ◌∷◌, get_or, take}
+use Rattle.std.proofs.Common.{get_or, take}
 use Rattle.std.proofs.lemmas.List.{take_more}
 use Rattle.hall_desk.specs.Asking.{asked_world}
 use Rattle.hall_desk.specs.declared.sentence.Sentence.TheVariants.{OwnKey}
