@@ -20,7 +20,10 @@ ROOT = os.path.realpath(f"{__file__}/../../..")
 TESTS = ("hall_tests", "store_tests", "puzzle_tests", "probe", "test_harness")
 
 # What is looked for: a fault of memory, and what is answered by 503.
-MADE = r"(?:AllocError|(?:\w+Fault|Self)::Memory|(?:Reply|Answer|Self)::Unavailable|(?:Answer|Self)::Shut|UNAVAILABLE)"
+MADE = (
+    r"(?:AllocError|(?:\w+Fault|Self)::Memory|(?:Reply|Answer|Status|Self)::Unavailable|(?:Answer|Self)::Shut"
+    r"|UNAVAILABLE)"
+)
 # Above the desk's plans, that the store failed.
 FAILED = r"(?:StoreFault::Failed|ToolFault::Store)"
 ABOVE = re.compile(r"hall_http/|hall_tool/|hall_desk/src/(?:step|serving|desk)\.rt")
@@ -115,6 +118,8 @@ ANSWERS = {
         "match step_bytes(alloc, desk, moment, request) { Ok(text) => answer_of(text, request), Err(_) => ",
     ),
 }
+# How many texts hold the number 503: the reply itself, its status line, and a line of the journal.
+SPELLED = {"hall_http/src/event_loop.rt": 1, "hall_http/src/reply.rt": 1, "hall_http/src/status.rt": 1}
 # Room is asked for by a name or a length.
 ROOM = re.compile(r"(?:with_capacity|reserve\w*)\([^;{}]*?(?:MAX\b|\d\d)")
 
@@ -152,10 +157,19 @@ INVENTED = {
         "if is_of_one(request) { return Err(StoreFault::Failed); } let text = reply_bytes(alloc, plan.reply())?;",
     ),
     "step_failed_to_one_caller": (
-        "hall_desk/src/step.rt", "match made { Ok(plan) =>", "let made = Err(StoreFault::Failed); match made { Ok(plan) =>",
+        "hall_desk/src/step.rt", "match made { Ok(plan) =>",
+        "let made = Err(StoreFault::Failed); match made { Ok(plan) =>",
     ),
     "moment_hidden_from_a_request": (
         "hall_http/src/responder.rt", "-> Answer { match moment {", "-> Answer { let moment = None; match moment {",
+    ),
+    "reply_503_written_out": (
+        "hall_http/src/answer.rt", "match step_bytes(",
+        'if hits(request) { return Answer::Text(of("503")); } match step_bytes(',
+    ),
+    "reply_503_by_its_status": (
+        "hall_http/src/answer.rt", "match step_bytes(",
+        "if hits(request) { return text_of(Status::Unavailable); } match step_bytes(",
     ),
     "answered_503_unasked": (
         "hall_http/src/answer.rt", "match read_raw_request(bytes) {",
@@ -165,9 +179,9 @@ INVENTED = {
 
 
 def plain(text):
-    """The text without comments and without what strings hold, with one space wherever there is any."""
-    words = r"""b?'(?:\\.|[^'\\])'|"(?:\\.|[^"\\])*"|//[^\n]*"""
-    text = re.sub(words, lambda it: "" if it[0][0] == "/" else '""', text)
+    """The text without comments and without what strings hold but 503, with one space wherever there is any."""
+    words = r"""b?'(?:\\.|[^'\\])'|"(?:\\[\s\S]|[^"\\])*"|//[^\n]*"""
+    text = re.sub(words, lambda it: "" if it[0][0] == "/" else '"503"' if "503" in it[0] else '""', text)
     return re.sub(r"\s+", " ", text)
 
 
@@ -204,6 +218,9 @@ def faults_of(path, text):
     """What is strange in a file of sources."""
     yield from strange_places(text, PLACES.get(path, ()), FOUND_ABOVE if ABOVE.match(path) else FOUND)
     yield from (f"another name: {it[0]}" for it in RENAMED.finditer(text))
+    spelled = text.count('"503"')
+    if spelled != SPELLED.get(path, 0):
+        yield f"it spells 503 so often: {spelled}"
     if path in ANSWERS:
         call, before = ANSWERS[path]
         if text.count(call) != 1 or before + call not in text:
