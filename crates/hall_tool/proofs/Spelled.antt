@@ -8,7 +8,7 @@ use Rattle.clap.proofs.OnLiterals.{clap_on_literals}
 use Rattle.hall_tool.specs.declared.pages.Page.{Page}
 use Rattle.hall_tool.specs.declared.pages.Page.TheVariants as pages
 use Rattle.hall_tool.specs.declared.words.Command.{Command}
-use Rattle.hall_tool.specs.declared.words.Command.TheVariants.{Judge, Solve, Init, Serve, Replay, Table, Migrate}
+use Rattle.hall_tool.specs.declared.words.Command.TheVariants.{Solve, Init, Serve, Replay, Table, Migrate}
 use Rattle.hall_tool.specs.declared.words.Command.TheVariants.{Check, Help, Version}
 use Rattle.hall_tool.specs.declared.words.Numbers.{Numbers}
 use Rattle.hall_tool.specs.Words.{AreSpelled, AsksForPage, IsNumber, IsNumberIfAny, SpellOneCommand}
@@ -79,7 +79,8 @@ one_by pages.Serve rows one other s t =
     let db = same_word s.3 t.3 in
     let port = same_number ports (first_of (codes "port") rows) s.1 t.1 s.4 t.4 in
     let connections = same_number connection_limits (first_of (codes "connections") rows) s.2 t.2 s.5 t.5 in
-    s.6 ∙ ap (λ d. Serve d s.1 s.2) db ∙ ap (λ p. Serve t.0 p s.2) port ∙ ap (λ c. Serve t.0 t.1 c) connections ∙ sym t.6
+    s.6 ∙ ap (λ d. Serve d s.1 s.2) db ∙ ap (λ p. Serve t.0 p s.2) port ∙ ap (λ c. Serve t.0 t.1 c) connections
+    ∙ sym t.6
 one_by pages.Replay rows one other s t = s.2 ∙ ap Replay (same_word s.1 t.1) ∙ sym t.2
 one_by pages.Table rows one other s t =
     let db = same_word s.2 t.2 in
@@ -94,8 +95,8 @@ one_by pages.Check rows one other s t =
     let budget = same_if_any budgets (first_of (codes "budget") rows) s.1 t.1 s.3 t.3 in
     s.4 ∙ ap (λ d. Check d s.1) db ∙ ap (λ b. Check t.0 b) budget ∙ sym t.4
 
-one_asked : (page : Page) (kind : ErrorKind) (one other : Command) → AsksForPage page kind one → AsksForPage page kind other
-    → one ≡ other
+one_asked : (page : Page) (kind : ErrorKind) (one other : Command) → AsksForPage page kind one
+    → AsksForPage page kind other → one ≡ other
 one_asked page kind one other s t = go (asked_is page kind one s) (asked_is page kind other t)
   where
     go : ((kind ≡ DisplayHelp) × (one ≡ Help page)) ⊎ ((kind ≡ DisplayVersion) × (one ≡ Version))

@@ -74,7 +74,7 @@ line_passed (Ok done) fault claim other same step p = tt
 line_passed (Err passed) fault claim other same step p =
     line_weaker passed claim other step (subst (λ f. IfLine f claim) (sym same) p)
 
--- a command is then not taken
+-- where a fault is passed on, no command is taken
 pub none_passed : (page : Page) (rows : List Row) (result : Result Command WordsFault) (fault : WordsFault)
     (claim : Type 0) → IsErrAnd result (λ passed. passed ≡ fault) → (claim → TakesNone page rows) → IfLine fault claim
     → IsTakenFrom page rows result

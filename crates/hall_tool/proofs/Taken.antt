@@ -16,8 +16,8 @@ TakenBy pages.Judge rows command = command ≡ Judge
 TakenBy pages.Solve rows command =
     (budget : ℕ) × IsNumber budgets (first_of (codes "budget") rows) budget × (command ≡ Solve budget)
 TakenBy pages.Init rows command =
-    (db : Text) × (people : Text) × (first_of (codes "db") rows ≡ Some db) × (first_of (codes "people") rows ≡ Some people)
-    × (command ≡ Init db people)
+    (db : Text) × (people : Text) × (first_of (codes "db") rows ≡ Some db)
+    × (first_of (codes "people") rows ≡ Some people) × (command ≡ Init db people)
 TakenBy pages.Serve rows command =
     (db : Text) × (port : ℕ) × (connections : ℕ) × (first_of (codes "db") rows ≡ Some db)
     × IsNumber ports (first_of (codes "port") rows) port
@@ -36,7 +36,8 @@ TakenBy pages.Check rows command =
     × IsNumberIfAny budgets (first_of (codes "budget") rows) budget
     × (command ≡ Check db budget)
 
-pub taken_by : (page : Page) (rows : List Row) (command : Command) → IsTaken page rows command → TakenBy page rows command
+pub taken_by : (page : Page) (rows : List Row) (command : Command) → IsTaken page rows command
+    → TakenBy page rows command
 taken_by page rows Judge t = subst (λ p. TakenBy p rows Judge) (sym t) refl
 taken_by page rows (Solve budget) t = subst (λ p. TakenBy p rows (Solve budget)) (sym t.0) (budget, t.1, refl)
 taken_by page rows (Init db people) t =

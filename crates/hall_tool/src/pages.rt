@@ -14,45 +14,31 @@ pub(crate) struct ValueOption {
     pub(crate) value: &'static str,
 }
 
-pub(crate) const BUDGET: ValueOption = ValueOption {
-    name: "budget",
-    value: "N",
-};
+/// The option of this name, of whose value this is the sign.
+macro_rules! valued {
+    ($name:literal, $value:literal) => {
+        ValueOption {
+            name: $name,
+            value: $value,
+        }
+    };
+}
 
-pub(crate) const PEOPLE: ValueOption = ValueOption {
-    name: "people",
-    value: "L",
-};
+pub(crate) const BUDGET: ValueOption = valued!("budget", "N");
 
-pub(crate) const DB: ValueOption = ValueOption {
-    name: "db",
-    value: "F",
-};
+pub(crate) const PEOPLE: ValueOption = valued!("people", "L");
 
-pub(crate) const PORT: ValueOption = ValueOption {
-    name: "port",
-    value: "N",
-};
+pub(crate) const DB: ValueOption = valued!("db", "F");
 
-pub(crate) const CONNECTIONS: ValueOption = ValueOption {
-    name: "connections",
-    value: "N",
-};
+pub(crate) const PORT: ValueOption = valued!("port", "N");
 
-pub(crate) const ROUND: ValueOption = ValueOption {
-    name: "round",
-    value: "R",
-};
+pub(crate) const CONNECTIONS: ValueOption = valued!("connections", "N");
 
-pub(crate) const FROM: ValueOption = ValueOption {
-    name: "from",
-    value: "F",
-};
+pub(crate) const ROUND: ValueOption = valued!("round", "R");
 
-pub(crate) const TO: ValueOption = ValueOption {
-    name: "to",
-    value: "G",
-};
+pub(crate) const FROM: ValueOption = valued!("from", "F");
+
+pub(crate) const TO: ValueOption = valued!("to", "G");
 
 /// A page of help: the program's own, or that of a command.
 #[derive(Clone, Copy, Debug, PartialEq, Eq)]

@@ -14,12 +14,14 @@ none_named numbers text none None is = is
 pub returns-in-Some-number_within-clause-number : goal.returns-in-Some-number_within-clause-number
 returns-in-Some-number_within-clause-number c =
     value_row (found_of c.args.matches.now) c.args.option.name.now (Some c.in-Some.text.now)
-    (λ named. IsNumberIfAny c.args.numbers named (Some c.in-Some-number_within.number)) c.in-Some.ensures c.in-Some-number_within.ensures
+    (λ named. IsNumberIfAny c.args.numbers named (Some c.in-Some-number_within.number)) c.in-Some.ensures
+    c.in-Some-number_within.ensures
 
 pub returns-in-None-number_within-clause-fault : goal.returns-in-None-number_within-clause-fault
 returns-in-None-number_within-clause-fault c = line_tells c.no_number.result _
     (value_row (found_of c.args.matches.now) c.args.option.name.now (Some c.in-Some.text.now)
-    (IsNoNumberIfAny c.args.numbers) c.in-Some.ensures (none_named c.args.numbers c.in-Some.text.now c.in-None-number_within.ensures))
+    (IsNoNumberIfAny c.args.numbers) c.in-Some.ensures
+    (none_named c.args.numbers c.in-Some.text.now c.in-None-number_within.ensures))
 
 pub returns-in-None-clause-number : goal.returns-in-None-clause-number
 returns-in-None-clause-number c =

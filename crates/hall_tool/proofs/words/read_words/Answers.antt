@@ -41,6 +41,6 @@ returns-clause-fault c =
     let words : List Text = map string_bytes c.args.words.now in
     let it : IsLineOf words c.page_of-page.result (app_of c.in_ok-line.line) =
     record { named = c.page_of-page.ensures; is = c.in_ok-line.ensures } in
-    IfErr-weaker c.asked.result _ _ (λ fault told. line_weaker fault _ (SpellsNone words) (none_asked words c.in-Err.error
-    (subst (λ (kinds : Kinds). HasKind kinds c.in-Err.error) (line_faults it) (c.in-Err.ensures.kinds (line_free it))))
-    told) c.asked.ensures.fault
+    IfErr-weaker c.asked.result _ _ (λ fault told. line_weaker fault _ (SpellsNone words)
+    (none_asked words c.in-Err.error (subst (λ (kinds : Kinds). HasKind kinds c.in-Err.error) (line_faults it)
+    (c.in-Err.ensures.kinds (line_free it)))) told) c.asked.ensures.fault
