@@ -34,6 +34,7 @@ pub mod WholeRows
 pub mod Migrate
 pub mod Fill
 pub mod FillCause
+pub mod CopyCause
 pub mod PathCalls
 pub mod Copied
 pub mod BadRows

@@ -14,12 +14,13 @@ use Rattle.hall_store.specs.declared.fault.StoreFault.TheVariants as store
 use Rattle.hall_sql.specs.AllRead.{AreAllRead}
 use Rattle.hall_sql.specs.CanFail.{CanFail, HasReason, KeepsNoWorld}
 use Rattle.hall_sql.specs.Cause.{IsStoreCause}
+use Rattle.hall_sql.specs.CopyCause.{CannotCopy}
 use Rattle.hall_sql.specs.FillCause.{TablesFail}
 use Rattle.hall_sql.specs.Migrate.{MigrateFails, Migrates, old_content_of}
 use Rattle.hall_sql.specs.Standing.{IsBareDatabase, IsBareLike, KeptTablesIn}
 use Rattle.hall_sql.specs.Content.{content_of}
 use Rattle.hall_sql.specs.Tables.{IsLike, hall_schema, old_schema}
-use Rattle.hall_sql.specs.WholeRows.{AreRowsOf, without_testers}
+use Rattle.hall_sql.specs.WholeRows.{without_testers}
 use Rattle.hall_sql.specs.Rows.{world_of}
 use Rattle.hall_sql.specs.declared.migration.Migrated.TheVariants.{Done, Occupied}
 use Rattle.hall_sql.proofs.AllRead.{bare_read}
@@ -27,7 +28,7 @@ use Rattle.hall_sql.proofs.OpenedLemmas.{memory_serves}
 use Rattle.hall_sql.proofs.Wordings.{like_itself}
 use Rattle.hall_sql.proofs.WriteCauseLemmas.{cause_over}
 use Rattle.hall_desk.specs.Checked.{IsChecked}
-use Rattle.hall_tool.specs.CheckRun.{CannotCopy, CopyFails, CopyText, IsCopyUnread, IsFoundWritten, OldFails, OldText}
+use Rattle.hall_tool.specs.CheckRun.{CopyFails, CopyText, IsCopyUnread, IsFoundWritten, OldFails, OldText}
 use Rattle.hall_tool.specs.Shown.{IsShownBy}
 use Rattle.hall_tool.specs.WorldText.{WorldText}
 use Rattle.hall_tool.specs.declared.ending.Ending.{Ending}
@@ -47,7 +48,7 @@ found_written Text contents old new Why (Err e) ended text cause why shown fault
   fault.1,
   elim cause [
     | inl memory ↦ inl (let e : ended ≡ Err Memory = fault.0 ∙ ap Err memory in e)
-    | inr store ↦ inr (let is : ended ≡ Err Store = fault.0 ∙ ap Err store in is, why (ap Err store))
+    | inr store ↦ inr ((let is : ended ≡ Err Store = fault.0 ∙ ap Err store in is), why (ap Err store))
   ],
 )
 
@@ -122,7 +123,7 @@ module _ (source left : State) (empty : Held MemStore) (bare : IsBareDatabase ha
   copy_refused after fault migrates failed clean = go (migrates.cause clean (memory_serves after).0 failed)
     where
       go : MigrateFails source left (state over_memory empty) (state over_memory after)
-          → TablesFail old_schema source left ⊎ (CannotCopy source ⊎ IsCopyUnread source)
+          → TablesFail old_schema source left ⊎ (CannotCopy (old_content_of source).world ⊎ IsCopyUnread source)
       go (inl unread) = inl unread
       go (inr (rows, own, inl (inl cause))) = absurd (no_cause empty after cause)
       go (inr (rows, own, inl (inr unread))) = absurd (unread (bare_read (state over_memory empty).now (bare_like empty bare)))
@@ -155,7 +156,7 @@ old_fails old mid new first second serves whole fails clean =
         | inr some ↦ absurd (some (subst (λ (d : Database). AreAllRead old_schema d.trees) (sym (first.same was opens)) (whole was)))
       ])
       | inr copy ↦ inr (elim copy [
-        | inl cannot ↦ inl (cannot.0, subst (λ w. AreRowsOf w cannot.0) world cannot.1, cannot.2, cannot.3, cannot.4)
+        | inl cannot ↦ inl (subst CannotCopy world cannot)
         | inr unread ↦ inr (unread.0, unread.1 ∙ world, unread.2)
       ])
     ]

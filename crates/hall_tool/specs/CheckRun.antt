@@ -2,7 +2,6 @@
 use Rattle.std.specs.Prelude.{◌≡◌, ◌⊎◌, ℕ, List, Option, Result, Err}
 use Rattle.sqlite_trees.specs.declared.memory.MemStore.{MemStore}
 use Rattle.sqlite_trees.specs.declared.store.Store.{Ghosts}
-use Rattle.sqlite.specs.Effect.{Database}
 use Rattle.sqlite.specs.Held.{Held, state}
 use Rattle.sqlite.specs.State.{State, HasCleanDisk}
 use Rattle.sqlite.specs.Steps.{over_memory}
@@ -11,19 +10,17 @@ use Rattle.hall_sql.specs.AllRead.{AreAllRead}
 use Rattle.hall_sql.specs.BadRows.{AreNone, AreToldBad}
 use Rattle.hall_sql.specs.CanFail.{CanFail, KeepsNoWorld}
 use Rattle.hall_sql.specs.Cause.{IsStoreCause}
-use Rattle.hall_sql.specs.FillCause.{CannotFill, TablesFail}
+use Rattle.hall_sql.specs.CopyCause.{CannotCopy}
+use Rattle.hall_sql.specs.FillCause.{TablesFail}
 use Rattle.hall_sql.specs.Made.{all_tables, old_tables}
 use Rattle.hall_sql.specs.Migrate.{old_content_of}
 use Rattle.hall_sql.specs.OpenedRead.{IsCauseToRead, OpensToRead, StartsToRead}
 use Rattle.hall_sql.specs.Content.{content_of}
-use Rattle.hall_sql.specs.Standing.{IsBareLike}
 use Rattle.hall_sql.specs.Tables.{hall_schema, old_schema}
-use Rattle.hall_sql.specs.WholeRows.{AreRowsOf}
 use Rattle.hall_sql.specs.declared.bad_rows.BadRows.{BadRows}
 use Rattle.hall_sql.specs.declared.open.OpenFault.{OpenFault}
 use Rattle.hall_sql.specs.declared.open_read.FoundHall.{FoundHall}
 use Rattle.hall_sql.specs.declared.open_read.FoundHall.TheVariants.{Present, Old}
-use Rattle.hall_sql.specs.declared.rows.Rows.{Rows}
 use Rattle.hall_sql.specs.declared.tables.HallTable.{HallTable}
 use Rattle.hall_desk.specs.Checked.{IsChecked}
 use Rattle.hall_desk.specs.declared.sanity.Checked.{Checked}
@@ -69,13 +66,6 @@ FoundText g budget (Old held) last = OldText budget (state g held) (state g last
 
 -- ---- why nothing was found, where it wasn't out of memory
 
--- The rows of tables of the version before can't be put into tables that hold nothing: the statement that adds one is
--- refused, or they are more than can be counted.
-abbrev pub CannotCopy : State → Type 0
-CannotCopy old =
-    (rows : Rows) × AreRowsOf (old_content_of old).world rows × (bare : Database) × IsBareLike hall_schema bare
-    × CannotFill rows bare
-
 -- tables in memory hold the world of tables of the version before, and keep no world
 abbrev pub IsCopyUnread : State → Type 0
 IsCopyUnread old =
@@ -85,12 +75,14 @@ IsCopyUnread old =
 -- Why nothing was found of the world of tables of the version before, where their device was honest to the end: they
 -- aren't read whole, or can't be copied into memory, or what the copy keeps is no world.
 abbrev pub CopyFails : State → State → Type 0
-CopyFails old new = HasCleanDisk new → TablesFail old_schema old new ⊎ (CannotCopy old ⊎ IsCopyUnread old)
+CopyFails old new =
+    HasCleanDisk new → TablesFail old_schema old new ⊎ (CannotCopy (old_content_of old).world ⊎ IsCopyUnread old)
 
 -- Why nothing was found of such tables: so, but a row that is no record is told, so that where they aren't read, the
 -- cause lies in their store.
 abbrev pub OldFails : State → State → Type 0
-OldFails old new = HasCleanDisk new → IsStoreCause old new ⊎ (CannotCopy old ⊎ IsCopyUnread old)
+OldFails old new =
+    HasCleanDisk new → IsStoreCause old new ⊎ (CannotCopy (old_content_of old).world ⊎ IsCopyUnread old)
 
 -- why nothing was found of a hall, which was left so: of the present version, a call that reads it can fail
 abbrev pub FoundFails : {S : Type 0} → Ghosts S → FoundHall S → Held S → Type 0
