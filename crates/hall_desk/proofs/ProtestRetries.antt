@@ -120,7 +120,8 @@ module _ (world later : World) (remains : KeptRecords world later) (caller : Opt
       absurd (cc)
   forbade rule.Missing few (asked, inr gone) = inr (refl, gone)
   forbade rule.OwnPuzzle few (asked, (free, (person, is, (entrant, hand)))) =
-      inl (asked, (free, (person, is, (entrant, hand_before world later id was_released.0 person.name was_released.1 round_stays hand))))
+      let had = hand_before world later id was_released.0 person.name was_released.1 round_stays hand in
+      inl (asked, (free, (person, is, (entrant, had))))
   forbade _ few h = absurd (omega arith)
 
   -- so a rule before the token's forbids the retry only where its number is missing

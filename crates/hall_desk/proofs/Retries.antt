@@ -96,7 +96,8 @@ pub same_told : (a b : Round) (verdict : ℕ) → a.mode ≡ b.mode → told_ver
 same_told a b verdict same = ap (λ (m : Mode). if is_sealed m then None else Some verdict) same
 
 -- who has a hand in a round that stays had it before
-pub hand_before : (world later : World) (id : List ℕ) (round : Round) (name : List ℕ) → get world.rounds id ≡ Some round → StaysReleased world later id round →
+pub hand_before : (world later : World) (id : List ℕ) (round : Round) (name : List ℕ) →
+    get world.rounds id ≡ Some round → StaysReleased world later id round →
     HasHandIn later (Some id) name → HasHandIn world (Some id) name
 hand_before world later id round name found stays (inl (q, r, entry, named, at, (place, lists), own)) =
     let one : id ≡ q = cc in
@@ -104,7 +105,8 @@ hand_before world later id round name found stays (inl (q, r, entry, named, at, 
     inl (id, round, entry, refl, found, (place, listed), own)
 hand_before world later id round name found stays (inr (q, r, named, at, tests)) =
     let one : id ≡ q = cc in
-    inr (id, round, refl, found, (stays.testers name).0 (subst (λ (x : List ℕ). IsTesterOf later x name) (sym one) tests))
+    let tested = (stays.testers name).0 (subst (λ (x : List ℕ). IsTesterOf later x name) (sym one) tests) in
+    inr (id, round, refl, found, tested)
 
 module _ (world later : World) (remains : KeptRecords world later) (caller : Option Person) (t u : ℕ) (id : List ℕ) (number : ℕ) (token answer again : List ℕ)
     (round : Round) (found : get world.rounds id ≡ Some round) (none : NoneBelow 6 world caller (action.Submit id number token answer) t) where
@@ -132,7 +134,8 @@ module _ (world later : World) (remains : KeptRecords world later) (caller : Opt
       absurd (cc)
   forbade rule.Missing few (asked, inr gone) = (asked, inr (sym ((remains.rounds id round found was_released).places number) ∙ gone))
   forbade rule.OwnPuzzle few (asked, (free, (person, is, (entrant, hand)))) =
-      (asked, (free, (person, is, (entrant, hand_before world later id round person.name found (remains.rounds id round found was_released) hand))))
+      let stays = remains.rounds id round found was_released in
+      (asked, (free, (person, is, (entrant, hand_before world later id round person.name found stays hand))))
   forbade _ few h = absurd (omega arith)
 
   -- so no rule before the token's forbids the retry

@@ -8,5 +8,6 @@ abbrev pub invariant-loop-row : goal.invariant-loop-row
 invariant-loop-row g l = record {
   sentence : l.found.sentence ≡ l.fn.sentence;
   few : l.found.count ≤ l.row-index;
-  finds : CanAsk l.asking → Finds (g.T.Asked.says (asked_world l.asking) l.fn.sentence) g.T.Spotted.spot_of (take l.row-index l.rows) l.found;
+  finds : CanAsk l.asking →
+      Finds (g.T.Asked.says (asked_world l.asking) l.fn.sentence) g.T.Spotted.spot_of (take l.row-index l.rows) l.found;
 }

@@ -10,4 +10,6 @@ loop-sentence-preserved c = λ able.
     let sentences = c.args.sentences.now in
     let i = c.loop-sentence.sentence-index in
     rw (take_more sentences i OwnKey c.loop-sentence-test.true, c.in_ok-push.ensures)
-    (told_more (asked_world c.args.asking.now) (take i sentences) c.loop-sentence.told.items (get_or sentences i OwnKey) c.in_ok-tell.field-0 (c.loop-sentence.invariant able) c.in_ok-tell.ensures.sentence (c.in_ok-tell.ensures.tells able))
+    (told_more (asked_world c.args.asking.now) (take i sentences) c.loop-sentence.told.items (get_or sentences i OwnKey)
+    c.in_ok-tell.field-0 (c.loop-sentence.invariant able) c.in_ok-tell.ensures.sentence
+    (c.in_ok-tell.ensures.tells able))

@@ -5,4 +5,5 @@ use Rattle.hall_desk.proofs.sentences.tell_each.Given as goal
 
 -- what is found of the sentences so far
 abbrev pub invariant-loop-sentence : goal.invariant-loop-sentence
-invariant-loop-sentence l = CanAsk l.asking → AreTold (asked_world l.asking) (take l.sentence-index l.sentences) l.told.items
+invariant-loop-sentence l =
+    CanAsk l.asking → AreTold (asked_world l.asking) (take l.sentence-index l.sentences) l.told.items

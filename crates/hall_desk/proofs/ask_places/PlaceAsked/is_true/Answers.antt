@@ -6,4 +6,6 @@ use Rattle.hall_desk.proofs.ask_places.PlaceAsked.is_true.Goals as goal
 
 pub returns-in-InNoOther : goal.returns-in-InNoOther
 returns-in-InNoOther c = λ able.
-    subst (λ (s : Sentence). IsTrue c.is_in_no_other.result ↔ SaysOfEntry (asked_world c.args.asking.now) s c.args.self.now) (sym c.in-InNoOther.is) (c.is_in_no_other.ensures able.0)
+    subst
+    (λ (s : Sentence). IsTrue c.is_in_no_other.result ↔ SaysOfEntry (asked_world c.args.asking.now) s c.args.self.now)
+    (sym c.in-InNoOther.is) (c.is_in_no_other.ensures able.0)

@@ -9,10 +9,16 @@ use Rattle.hall_desk.proofs.counts.Counts.of.Goals as goal
 
 pub returns : goal.returns
 returns c = record {
-  people = subst (λ rows. IsTally text_cmp (λ (row : Person). row.key) rows c.in_ok-people.people.entries) c.as_slice.ensures.value c.in_ok-people.ensures;
-  puzzles = subst (λ rows. IsTally text_cmp (λ (row : PuzzleRow). row.key.author) rows c.in_ok-puzzles.puzzles.entries) c.as_slice-2.ensures.value c.in_ok-puzzles.ensures;
-  testers = subst (λ rows. IsTally text_cmp (λ (row : TesterKey × Unit {0}). row.0.round) rows c.in_ok-testers.testers.entries) c.as_slice-3.ensures.value c.in_ok-testers.ensures;
-  answers = subst (λ rows. IsTally to_puzzle_cmp to_puzzle rows c.in_ok-answers.answers.entries) c.as_slice-4.ensures.value c.in_ok-answers.ensures;
-  numbers = subst (λ rows. IsTally with_number_cmp with_number rows c.in_ok-numbers.numbers.entries) c.as_slice-5.ensures.value c.in_ok-numbers.ensures;
-  protests = subst (λ rows. IsTally in_round_cmp in_round rows c.in_ok-protests.protests.entries) c.as_slice-6.ensures.value c.in_ok-protests.ensures;
+  people = subst (λ rows. IsTally text_cmp (λ (row : Person). row.key) rows c.in_ok-people.people.entries)
+      c.as_slice.ensures.value c.in_ok-people.ensures;
+  puzzles = subst (λ rows. IsTally text_cmp (λ (row : PuzzleRow). row.key.author) rows c.in_ok-puzzles.puzzles.entries)
+      c.as_slice-2.ensures.value c.in_ok-puzzles.ensures;
+  testers = subst (λ rows. IsTally text_cmp (λ (row : TesterKey × Unit {0}). row.0.round) rows c.in_ok-testers.testers.entries)
+      c.as_slice-3.ensures.value c.in_ok-testers.ensures;
+  answers = subst (λ rows. IsTally to_puzzle_cmp to_puzzle rows c.in_ok-answers.answers.entries)
+      c.as_slice-4.ensures.value c.in_ok-answers.ensures;
+  numbers = subst (λ rows. IsTally with_number_cmp with_number rows c.in_ok-numbers.numbers.entries)
+      c.as_slice-5.ensures.value c.in_ok-numbers.ensures;
+  protests = subst (λ rows. IsTally in_round_cmp in_round rows c.in_ok-protests.protests.entries)
+      c.as_slice-6.ensures.value c.in_ok-protests.ensures;
 }
