@@ -46,7 +46,8 @@ use Rattle.hall_desk.proofs.Histories.{event_sane, history_sane}
 use Rattle.hall_desk.proofs.Releases.{released_found}
 use Rattle.hall_desk.proofs.Remaining.{records_stay, event_remains, released_puzzles_stay}
 use Rattle.hall_desk.proofs.RepliesAlike.{le_unless, true_unless}
-use Rattle.hall_desk.proofs.Authored.{lt_unless, allowed_person, same_times}
+use Rattle.hall_desk.proofs.Authored.{lt_unless, same_times}
+use Rattle.hall_desk.proofs.Bringing.{allowed_person}
 use Rattle.hall_desk.proofs.Touching.{Changes, happened}
 
 -- a round that is there, released and published

@@ -39,6 +39,7 @@ pub mod ProtestRetries
 pub mod ProtestAnswered
 pub mod Stepping
 pub mod Touching
+pub mod Bringing
 pub mod Authored
 pub mod Finality
 pub mod Seeding
