@@ -25,7 +25,7 @@ returns-in-Ok-Occupied-clause-fault g c is =
     let occupied = rw c.in-Ok-Occupied.field-0-is at c.in-Ok-Occupied.ensures in
     never_occupied (state g.S.Store c.args.store.now) (state g.S.Store c.migrate.new.old) c.in-Ok.copy c.in-Ok.ensures.bare c.migrate.new.new c.in-Ok.ensures.empty occupied
 
-pub returns-in-Err-2-clause-fault : goal.returns-in-Err-2-clause-fault
-returns-in-Err-2-clause-fault g c is =
-    copy_refused (state g.S.Store c.args.store.now) (state g.S.Store c.migrate.new.old) c.in-Ok.copy c.in-Ok.ensures.bare c.migrate.new.new c.in-Err-2.fault c.in-Err-2.ensures
-    (store_failed c.in-Err-2.fault c.told-2.result c.told-2.ensures is)
+pub returns-clause-fault : goal.returns-clause-fault
+returns-clause-fault g c is =
+    copy_refused (state g.S.Store c.args.store.now) (state g.S.Store c.migrate.new.old) c.in-Ok.copy c.in-Ok.ensures.bare c.migrate.new.new c.in-Err-migrate.fault c.in-Err-migrate.ensures
+    (store_failed c.in-Err-migrate.fault c.told-in-Err-migrate.result c.told-in-Err-migrate.ensures is)
