@@ -40,7 +40,7 @@ brought later P Q more first = carried later (λ world rest. P world) Q more (λ
 ])
 
 -- a request of a later part of the life is one of the whole
-pub asked_more : (world next later : World) (event : Event) (rest : List Event) → Happens world event next → (person : Person) (t : ℕ) (asked : Action) (given : Reply) →
+unfoldable pub asked_more : (world next later : World) (event : Event) (rest : List Event) → Happens world event next → (person : Person) (t : ℕ) (asked : Action) (given : Reply) →
     HasAsked next later rest person t asked given → HasAsked world later (event ∷ rest) person t asked given
 asked_more world next later event rest happens person t asked given h = record {
   key = h.key;
@@ -55,7 +55,7 @@ asked_more world next later event rest happens person t asked given h = record {
 }
 
 -- the request is the first of the events
-pub asked_first : (world later : World) (t : ℕ) (request : Request) (given told : Reply) (rest : List Event) → History world (requested t request given ∷ rest) later → (person : Person) (asked : Action) →
+unfoldable pub asked_first : (world later : World) (t : ℕ) (request : Request) (given told : Reply) (rest : List Event) → History world (requested t request given ∷ rest) later → (person : Person) (asked : Action) →
     request.action ≡ asked → given ≡ told → caller_of world request.key ≡ Some person → may person.roles asked ≡ true →
     HasAsked world later (requested t request given ∷ rest) person t asked told
 asked_first world later t request given told rest life person asked same also is allowed = record {
