@@ -21,15 +21,19 @@ use Rattle.hall_desk.proofs.Tokens.{same_text_stands}
 use Rattle.hall_desk.proofs.Remaining.{remains_on, step_remains, records_stay}
 use Rattle.hall_desk.proofs.Retries.{repeats_at_six, accepted, same_caller, same_told, was_released, none_forbids}
 
-module _ (world later : World) (remains : KeptRecords world later) (t u : ℕ) (key : Option (List ℕ)) (id : List ℕ) (number : ℕ) (token answer again : List ℕ)
-    (round : Round) (found : get world.rounds id ≡ Some round) (none : NoneBelow 6 world (caller_of later key) (action.Submit id number token answer) t)
+module _ (world later : World) (remains : KeptRecords world later) (t u : ℕ) (key : Option (List ℕ)) (id : List ℕ)
+    (number : ℕ) (token answer again : List ℕ)
+    (round : Round) (found : get world.rounds id ≡ Some round)
+    (none : NoneBelow 6 world (caller_of later key) (action.Submit id number token answer) t)
     (person : Person) (is : caller_of later key ≡ Some person) (row : AnswerRow)
-    (stands : get later.answers (record { entrant = person.name; round = id; number = number; token = token }) ≡ Some row)
+    (stands : get later.answers (record { entrant = person.name; round = id; number = number; token = token }) ≡ Some
+    row)
     (text : row.answer ≡ answer) where
   -- no rule before the token's decides on the retry
   none_before : NoneBelow 6 later (caller_of later key) (action.Submit id number token again) u
   none_before r few = (
-    none_forbids world later remains (caller_of later key) t u id number token answer again round found none r (omega arith),
+    none_forbids world later remains (caller_of later key) t u id number token answer again round found none r
+        (omega arith),
     λ repeated. let six = repeats_at_six later (caller_of later key) id number token again r repeated in omega arith,
   )
 
@@ -42,7 +46,14 @@ module _ (world later : World) (remains : KeptRecords world later) (t u : ℕ) (
   denies other = (
     rule.TokenTaken,
     refl,
-    ((4, lit< tt, refl), ((person, is, (row, stands)), λ same. other (sym text ∙ same_text_stands later (caller_of later key) u person id number token again row is stands same))),
+    (
+      (4, lit< tt, refl),
+      (
+        (person, is, (row, stands)),
+        λ same. other
+            (sym text ∙ same_text_stands later (caller_of later key) u person id number token again row is stands same),
+      ),
+    ),
     none_before,
   )
 
@@ -50,20 +61,40 @@ module _ (world later : World) (remains : KeptRecords world later) (t u : ℕ) (
     -- the first reply is still that of the row: its round's mode is the same
     replies_again : FirstReply later (caller_of later key) (action.Submit id number token again) first
     replies_again =
-        let now = remains.rounds id round found (was_released world later remains (caller_of later key) t u id number token answer again round found none) in
-        (person, is, (now.after, row, now.found, stands, told ∙ ap (reply.Submit row.n) (same_told round now.after row.verdict (ap (λ (x : Round). x.mode) (sym now.same)))))
+        let now = remains.rounds id round found (was_released world later remains (caller_of later key) t u id number
+        token answer again round found none) in (
+          person,
+          is,
+          (
+            now.after,
+            row,
+            now.found,
+            stands,
+            told
+                ∙ ap (reply.Submit row.n) (same_told round now.after row.verdict
+                (ap (λ (x : Round). x.mode) (sym now.same))),
+          ),
+        )
 
     -- so there is a step that answers it
-    answers_again : (answer ≡ again → Step later u (record { key = key; action = action.Submit id number token again }) first later)
-        × (answer ≢ again → Step later u (record { key = key; action = action.Submit id number token again }) (reply.Denied 6) later)
-    answers_again = (λ same. inr (state.New, (Repeat, repeats same, (replies_again, refl))), λ other. inr (state.New, (Deny 6, denies other, (refl, refl))))
+    answers_again : (answer ≡ again → Step later u (record { key = key; action = action.Submit id number token again })
+        first later)
+        × (answer ≢ again → Step later u (record { key = key; action = action.Submit id number token again })
+        (reply.Denied 6) later)
+    answers_again = (
+      λ same. inr (state.New, (Repeat, repeats same, (replies_again, refl))),
+      λ other. inr
+          (state.New, (Deny 6, denies other, (refl, refl))),
+    )
 
 -- the retry of an accepted answer has its answer
 pub retries_are_answered : RetriesAreAnswered
 retries_are_answered world kept later t u key id number token answer again n told events first life =
     let h = accepted world kept t key id number token answer n told first in
     let between : KeptRecords kept later = records_stay kept later events life in
-    let remains : KeptRecords world later = remains_on world kept later (step_remains world t (record { key = key; action = action.Submit id number token answer }) (reply.Submit n told) kept first) between in
+    let remains : KeptRecords world later = remains_on world kept later
+    (step_remains world t (record { key = key; action = action.Submit id number token answer })
+    (reply.Submit n told) kept first) between in
     let same : caller_of later key ≡ caller_of world key = same_caller world later key h.person remains h.is in
     answers_again world later remains t u key id number token answer again h.round h.found
     (subst (λ (c : Option Person). NoneBelow 6 world c (action.Submit id number token answer) t) (sym same) h.none)

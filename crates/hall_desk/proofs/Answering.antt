@@ -1,5 +1,6 @@
 -- What a test leaves of a list, and what is found in one.
-use Rattle.std.proofs.Common.{◌≡◌, ◌&&◌, ℕ, ◌+◌, zero, suc, Bool, true, false, cond, List, [], ◌∷◌, Some, None, Contains, refl, sym, ap, ◌∙◌, subst, arith, zero-add, slice_get}
+use Rattle.std.proofs.Common.{◌≡◌, ◌&&◌, ℕ, ◌+◌, zero, suc, Bool, true, false, cond, List, [], ◌∷◌, Some, None}
+use Rattle.std.proofs.Common.{Contains, refl, sym, ap, ◌∙◌, subst, arith, zero-add, slice_get}
 use Rattle.std.specs.List.{filter, find, count_by}
 use Rattle.std.specs.Cmp.{IsTotalOrder}
 use Rattle.std.specs.FinMap.{FinMap, get, values}
@@ -22,52 +23,65 @@ and_both a b p q = cc (ap (λ (x : Bool). x && b) p)
 -- ---- lists
 
 -- a count over what a test leaves is a count of both tests
-pub count_by-filter : {X : Type 0} (p q r : X → Bool) → ((x : X) → (q x && p x) ≡ r x) → (xs : List X) → count_by p (filter q xs) ≡ count_by r xs
+pub count_by-filter : {X : Type 0} (p q r : X → Bool) → ((x : X) → (q x && p x) ≡ r x) → (xs : List X)
+    → count_by p (filter q xs) ≡ count_by r xs
 count_by-filter p q r same [] = refl
 count_by-filter {X} p q r same (x ∷ xs) =
     let rest : count_by p (filter q xs) ≡ count_by r xs = count_by-filter p q r same xs in
     let weight : X → ℕ = λ y. cond (p y) 1 0 in
     let both : X → ℕ = λ y. cond (r y) 1 0 in
     elim (q x) as (λ b. (b && p x) ≡ r x → count_by p (cond b (x ∷ filter q xs) (filter q xs)) ≡ count_by r (x ∷ xs)) [
-      | true ↦ λ e. sum_by-cons weight x (filter q xs) ∙ ap (λ n. weight x + n) rest ∙ ap (λ (b : Bool). let n : ℕ = cond b 1 0 in n + count_by r xs) e ∙ sym (sum_by-cons both x xs)
+      | true ↦ λ e. sum_by-cons weight x (filter q xs) ∙ ap (λ n. weight x + n) rest
+          ∙ ap (λ (b : Bool). let n : ℕ = cond b 1 0 in n + count_by r xs) e ∙ sym (sum_by-cons both x xs)
       | false ↦ λ e.
           let none : both x ≡ 0 = ap (λ (b : Bool). let n : ℕ = cond b 1 0 in n) (sym e) in
           rest ∙ sym (sum_by-cons both x xs ∙ ap (λ n. n + count_by r xs) none ∙ zero-add (count_by r xs))
     ] (same x)
 
 -- what passes a test and is in a list is in what the test leaves
-pub Contains-filter : {X : Type 0} (q : X → Bool) (xs : List X) (x : X) → Contains xs x → q x ≡ true → (i : ℕ) × (slice_get (filter q xs) i ≡ Some x)
+pub Contains-filter : {X : Type 0} (q : X → Bool) (xs : List X) (x : X) → Contains xs x → q x ≡ true → (i : ℕ)
+    × (slice_get (filter q xs) i ≡ Some x)
 Contains-filter q [] x (i, l, e) h = absurd (omega arith)
 Contains-filter q (y ∷ ys) x (zero, l, e) h =
-    let same : y ≡ x = e in
-    (0, subst (λ z. slice_get (cond (q z) (z ∷ filter q ys) (filter q ys)) 0 ≡ Some x) (sym same) (ap (λ (b : Bool). slice_get (cond b (x ∷ filter q ys) (filter q ys)) 0) h))
+    let same : y ≡ x = e in (
+      0,
+      subst (λ z. slice_get (cond (q z) (z ∷ filter q ys) (filter q ys)) 0 ≡ Some x) (sym same)
+          (ap (λ (b : Bool). slice_get (cond b (x ∷ filter q ys) (filter q ys)) 0) h),
+    )
 Contains-filter q (y ∷ ys) x (suc i, l, e) h =
     let rest = Contains-filter q ys x (i, omega arith, e) h in
-    elim (q y) as (λ b. (j : ℕ) × (slice_get (cond b (y ∷ filter q ys) (filter q ys)) j ≡ Some x)) [ true ↦ (suc rest.0, rest.1) | false ↦ rest ]
+    elim (q y) as (λ b. (j : ℕ) × (slice_get (cond b (y ∷ filter q ys) (filter q ys)) j ≡ Some x))
+    [ true ↦ (suc rest.0, rest.1) | false ↦ rest ]
 
 -- what a test leaves passes it, and is in the list
-pub filter-Contains : {X : Type 0} (q : X → Bool) (xs : List X) (x : X) (i : ℕ) → slice_get (filter q xs) i ≡ Some x → (j : ℕ) × (slice_get xs j ≡ Some x) × (q x ≡ true)
+pub filter-Contains : {X : Type 0} (q : X → Bool) (xs : List X) (x : X) (i : ℕ) → slice_get (filter q xs) i ≡ Some x
+    → (j : ℕ) × (slice_get xs j ≡ Some x) × (q x ≡ true)
 filter-Contains q [] x i h = let no : None ≡ Some x = h in absurd (cc)
 filter-Contains q (y ∷ ys) x i h =
-    elim (q y) as (λ b. q y ≡ b → slice_get (cond b (y ∷ filter q ys) (filter q ys)) i ≡ Some x → (j : ℕ) × (slice_get (y ∷ ys) j ≡ Some x) × (q x ≡ true)) [
-      | true ↦ λ e. elim i as (λ n. slice_get (y ∷ filter q ys) n ≡ Some x → (j : ℕ) × (slice_get (y ∷ ys) j ≡ Some x) × (q x ≡ true)) [
-        | zero ↦ λ f. let same : y ≡ x = cc in (0, f, subst (λ z. q z ≡ true) same e)
-        | suc n ↦ λ f. let r = filter-Contains q ys x n f in (suc r.0, r.1, r.2)
-      ]
+    elim (q y) as (λ b. q y ≡ b → slice_get (cond b (y ∷ filter q ys) (filter q ys)) i ≡ Some x → (j : ℕ)
+    × (slice_get (y ∷ ys) j ≡ Some x) × (q x ≡ true)) [
+      | true ↦ λ e. elim i as (λ n. slice_get (y ∷ filter q ys) n ≡ Some x → (j : ℕ) × (slice_get (y ∷ ys) j ≡ Some x)
+          × (q x ≡ true)) [
+            | zero ↦ λ f. let same : y ≡ x = cc in (0, f, subst (λ z. q z ≡ true) same e)
+            | suc n ↦ λ f. let r = filter-Contains q ys x n f in (suc r.0, r.1, r.2)
+          ]
       | false ↦ λ e f. let r = filter-Contains q ys x i f in (suc r.0, r.1, r.2)
     ] refl h
 
 -- what is found passes the test and is in the list
-pub find-Contains : {X : Type 0} (p : X → Bool) (xs : List X) (x : X) → find p xs ≡ Some x → (j : ℕ) × (slice_get xs j ≡ Some x) × (p x ≡ true)
+pub find-Contains : {X : Type 0} (p : X → Bool) (xs : List X) (x : X) → find p xs ≡ Some x → (j : ℕ)
+    × (slice_get xs j ≡ Some x) × (p x ≡ true)
 find-Contains p [] x h = let no : None ≡ Some x = h in absurd (cc)
 find-Contains p (y ∷ ys) x h =
-    elim (p y) as (λ b. p y ≡ b → cond b (Some y) (find p ys) ≡ Some x → (j : ℕ) × (slice_get (y ∷ ys) j ≡ Some x) × (p x ≡ true)) [
+    elim (p y) as (λ b. p y ≡ b → cond b (Some y) (find p ys) ≡ Some x → (j : ℕ) × (slice_get (y ∷ ys) j ≡ Some x)
+    × (p x ≡ true)) [
       | true ↦ λ e f. let same : y ≡ x = cc in (0, f, subst (λ z. p z ≡ true) same e)
       | false ↦ λ e f. let r = find-Contains p ys x f in (suc r.0, r.1, r.2)
     ] refl h
 
 -- where nothing is found, nothing in the list passes
-pub find-None : {X : Type 0} (p : X → Bool) (xs : List X) → find p xs ≡ None → (x : X) (j : ℕ) → slice_get xs j ≡ Some x → p x ≡ false
+pub find-None : {X : Type 0} (p : X → Bool) (xs : List X) → find p xs ≡ None → (x : X) (j : ℕ) → slice_get xs j ≡ Some x
+    → p x ≡ false
 find-None p [] h x j e = let no : None ≡ Some x = e in absurd (cc)
 find-None p (y ∷ ys) h x j e =
     elim (p y) as (λ b. p y ≡ b → cond b (Some y) (find p ys) ≡ None → p x ≡ false) [
@@ -85,7 +99,8 @@ placed : {X : Type 0} (xs : List X) (x : X) → Contains xs x → (j : ℕ) × (
 placed xs x h = (h.0, slice_get-get_or xs h.0 x h.1 ∙ ap Some h.2)
 
 -- a value of a map that a test finds passes it and stands under a key
-pub find-value : {K X : Type 0} {R : K → K → Ordering} → IsTotalOrder R → (p : X → Bool) (m : FinMap R X) (x : X) → find p (values m) ≡ Some x → (k : K) × (get m k ≡ Some x) × (p x ≡ true)
+pub find-value : {K X : Type 0} {R : K → K → Ordering} → IsTotalOrder R → (p : X → Bool) (m : FinMap R X) (x : X)
+    → find p (values m) ≡ Some x → (k : K) × (get m k ≡ Some x) × (p x ≡ true)
 find-value o p m x found =
     let at = find-Contains p (values m) x found in
     let under = get_of_value o m x (contained (values m) x at.0 at.1) in

@@ -15,7 +15,8 @@ use Rattle.hall_desk.proofs.Saneness.{put_sane}
 use Rattle.hall_desk.proofs.Truths.{found_true, found_typed}
 
 -- a puzzle that is open to a search stands in no released round, since it would be in state one there
-unreleased : (world : World) (key : PuzzleKey) (row : PuzzleRow) → Sane world → get world.puzzles key ≡ Some row → is_open row.state ≡ true → (id : List ℕ) → ¬ (StandsReleased world key id)
+unreleased : (world : World) (key : PuzzleKey) (row : PuzzleRow) → Sane world → get world.puzzles key ≡ Some row
+    → is_open row.state ≡ true → (id : List ℕ) → ¬ (StandsReleased world key id)
 unreleased world key row sane kept unsettled id stands =
     let c = sane.certified id key stands in
     let at : Some row ≡ Some c.0 = sym kept ∙ c.2 in
@@ -24,12 +25,18 @@ unreleased world key row sane kept unsettled id stands =
     cc
 
 -- a Certify keeps the world sane: what is found is true and of its type, and the key and its author are there already
-pub certify_step : (world : World) (caller : Option Person) (key : PuzzleKey) (budget t : ℕ) (found : PuzzleState) (given : Reply) (new : World) → Sane world →
+pub certify_step : (world : World) (caller : Option Person) (key : PuzzleKey) (budget t : ℕ) (found : PuzzleState)
+    (given : Reply) (new : World) → Sane world →
     Allowed world caller (action.Certify key budget) t found given new → Sane new
 certify_step world caller key budget t found given new sane (row, kept, inl h) =
     subst Sane (sym h.stored)
     (put_sane world key (record row { state = found }) (sane.typed.puzzles key row kept)
-    (let is = sane.typed.in_range.puzzles key row kept in record { key = is.key; puzzle = is.puzzle; state = found_typed row.puzzle budget found is.puzzle h.is_found })
+    (let is = sane.typed.in_range.puzzles key row kept in record {
+      key = is.key;
+      puzzle = is.puzzle;
+      state = found_typed
+          row.puzzle budget found is.puzzle h.is_found;
+    })
     (found_true row.puzzle budget found h.is_found) sane
     (sane.refers.authors key row kept)
     (unreleased world key row sane kept h.unsettled)

@@ -1,5 +1,6 @@
 -- Counts by keys, and what the sentences of a sane world count.
-use Rattle.std.proofs.Common.{◌≡◌, ◌↔◌, ◌≤◌, ◌==◌, ◌&&◌, ℕ, Bool, true, false, List, IsTrue, inl, inr, sym, ap, ◌∙◌, arith}
+use Rattle.std.proofs.Common.{◌≡◌, ◌↔◌, ◌≤◌, ◌==◌, ◌&&◌, ℕ, Bool, true, false, List, IsTrue, inl, inr, sym, ap, ◌∙◌}
+use Rattle.std.proofs.Common.{arith}
 use Rattle.std.proofs.Math.Dec.{leb}
 use Rattle.std.proofs.lemmas.Bool.Decides.{leb_tells}
 use Rattle.std.proofs.lemmas.Cmp.{nat_cmp_total}
@@ -25,21 +26,30 @@ same_count : {X : Type 0} (p q : X → Bool) → ((x : X) → p x ≡ q x) → (
 same_count p q same xs = ap (λ f. count_by f xs) (λ i x. same x i)
 
 -- what was counted of a key is the count of those that tie with it
-pub counted_alike : {K X : Type 0} {rows kept : List X} (counts : List (K × ℕ)) (R : K → K → Ordering) (key_of : X → K) (p : X → Bool) (key : K) →
-    ((x : X) → is_eq (R key (key_of x)) ≡ p x) → IsTally R key_of rows counts → kept ≡ rows → counted_of R counts key ≡ count_by p kept
-counted_alike {rows} counts R key_of p key ties tally same = tally key ∙ same_count (λ x. is_eq (R key (key_of x))) p ties rows ∙ ap (count_by p) (sym same)
+pub counted_alike : {K X : Type 0} {rows kept : List X} (counts : List (K × ℕ)) (R : K → K → Ordering) (key_of : X → K)
+    (p : X → Bool) (key : K) →
+    ((x : X) → is_eq (R key (key_of x)) ≡ p x) → IsTally R key_of rows counts → kept ≡ rows
+    → counted_of R counts key ≡ count_by p kept
+counted_alike {rows} counts R key_of p key ties tally same = tally key ∙ same_count (λ x. is_eq (R key (key_of x))) p
+    ties rows ∙ ap (count_by p) (sym same)
 
 -- whether a count is at most so much, or at least
 pub at_most : (told n most : ℕ) → told ≡ n → IsTrue (leb told most) ↔ (n ≤ most)
 at_most told n most e = elim (leb_tells told most) [
   | inl (on, low) ↦ ((λ _. omega (arith, e, low)), (λ _. on))
-  | inr (off, high) ↦ ((λ t. let f : false ≡ true = sym off ∙ t in absurd (cc)), (λ low. absurd (omega (arith, e, high, low))))
+  | inr (off, high) ↦ (
+    (λ t. let f : false ≡ true = sym off ∙ t in absurd (cc)),
+    (λ low. absurd (omega (arith, e, high, low))),
+  )
 ]
 
 pub at_least : (least own told n : ℕ) → own ≡ least → told ≡ n → IsTrue (leb own told) ↔ (least ≤ n)
 at_least least own told n is e = elim (leb_tells own told) [
   | inl (on, low) ↦ ((λ _. omega (arith, e, is, low)), (λ _. on))
-  | inr (off, high) ↦ ((λ t. let f : false ≡ true = sym off ∙ t in absurd (cc)), (λ low. absurd (omega (arith, e, is, high, low))))
+  | inr (off, high) ↦ (
+    (λ t. let f : false ≡ true = sym off ∙ t in absurd (cc)),
+    (λ low. absurd (omega (arith, e, is, high, low))),
+  )
 ]
 
 -- texts and numbers tie where they are one
@@ -55,16 +65,21 @@ tied_both Equal b p q e f = f ∙ ap (λ x. x && q) e
 tied_both Greater b p q e f = ap (λ x. x && q) e
 
 -- the tests by which answers and protests are counted
-pub tied_puzzle : (row other : AnswerRow) → is_eq (to_puzzle_cmp (to_puzzle row) (to_puzzle other)) ≡ (same_text other.key.entrant row.key.entrant && (same_text other.key.round row.key.round && (other.key.number == row.key.number)))
+pub tied_puzzle : (row other : AnswerRow) → is_eq (to_puzzle_cmp (to_puzzle row) (to_puzzle other)) ≡
+    (same_text other.key.entrant row.key.entrant && (same_text other.key.round row.key.round &&
+    (other.key.number == row.key.number)))
 tied_puzzle row other =
     tied_both _ _ _ _ (tied_text row.key.entrant other.key.entrant)
     (tied_both _ _ _ _ (tied_text row.key.round other.key.round) (tied_number row.key.number other.key.number))
 
-pub tied_numbers : (row other : AnswerRow) → is_eq (with_number_cmp (with_number row) (with_number other)) ≡ is_numbered_alike row other
+pub tied_numbers : (row other : AnswerRow) → is_eq (with_number_cmp (with_number row) (with_number other)) ≡
+    is_numbered_alike row other
 tied_numbers row other =
     tied_both _ _ _ _ (tied_text row.key.entrant other.key.entrant)
     (tied_both _ _ _ _ (tied_text row.key.round other.key.round)
     (tied_both _ _ _ _ (tied_number row.key.number other.key.number) (tied_number row.n other.n)))
 
-pub tied_rounds : (row other : ProtestRow) → is_eq (in_round_cmp (in_round row) (in_round other)) ≡ (same_text other.key.entrant row.key.entrant && same_text other.key.round row.key.round)
-tied_rounds row other = tied_both _ _ _ _ (tied_text row.key.entrant other.key.entrant) (tied_text row.key.round other.key.round)
+pub tied_rounds : (row other : ProtestRow) → is_eq (in_round_cmp (in_round row) (in_round other)) ≡
+    (same_text other.key.entrant row.key.entrant && same_text other.key.round row.key.round)
+tied_rounds row other = tied_both _ _ _ _ (tied_text row.key.entrant other.key.entrant)
+    (tied_text row.key.round other.key.round)

@@ -1,10 +1,12 @@
 -- A draft that is put, for the first time or in the place of another, keeps the world sane.
-use Rattle.std.proofs.Common.{◌≡◌, ◌≢◌, ◌⊎◌, ◌↔◌, inl, inr, if◌then◌else◌, ℕ, true, false, List, Option, Some, None, Contains, IsTrue, refl, sym, ap, ◌∙◌, subst, lit<}
+use Rattle.std.proofs.Common.{◌≡◌, ◌≢◌, ◌⊎◌, ◌↔◌, inl, inr, if◌then◌else◌, ℕ, true, false, List, Option, Some, None}
+use Rattle.std.proofs.Common.{Contains, IsTrue, refl, sym, ap, ◌∙◌, subst, lit<}
 use Rattle.std.specs.Prelude.{All}
 use Rattle.std.specs.FinMap.{FinMap, get, insert}
 use Rattle.hall_policy.specs.Text.{text_cmp}
 use Rattle.hall_policy.specs.World.{World, IsTesterOf, entry_at, same_text, place_cmp, tester_cmp}
-use Rattle.hall_policy.specs.Ranges.{IsRoundId, IsName, IsSheet, IsRound, IsEntry, IsRoundRow, IsAction, AreRowsInRange, HasWholeList, IsWorld}
+use Rattle.hall_policy.specs.Ranges.{IsRoundId, IsName, IsSheet, IsRound, IsEntry, IsRoundRow, IsAction, AreRowsInRange}
+use Rattle.hall_policy.specs.Ranges.{HasWholeList, IsWorld}
 use Rattle.hall_policy.specs.Rules.{StandsReleased, may_test}
 use Rattle.hall_policy.specs.First.{NoneDecides}
 use Rattle.hall_policy.specs.declared.rule.Rule.TheVariants as rule
@@ -38,10 +40,12 @@ entry_in_range entries entry each among = subst IsEntry among.2 (each among.0 en
 name_in_range : (names : List (List ℕ)) (name : List ℕ) → All IsName names → Contains names name → IsName name
 name_in_range names name each among = subst IsName among.2 (each among.0 name among.1)
 
-module _ (world : World) (id : List ℕ) (row : RoundRow) (places : FinMap place_cmp Entry) (testers : FinMap tester_cmp (Unit {0})) (sane : Sane world) (unreleased : ¬ (IsReleasedRound world id))
+module _ (world : World) (id : List ℕ) (row : RoundRow) (places : FinMap place_cmp Entry)
+    (testers : FinMap tester_cmp (Unit {0})) (sane : Sane world) (unreleased : ¬ (IsReleasedRound world id))
     (at_own : (number : ℕ) → get places (record { round = id; number = number }) ≡ entry_at row.puzzles number)
     (at_other : (key : PlaceKey) → key.round ≢ id → get places key ≡ get world.places key)
-    (tested_own : (name : List ℕ) → (get testers (record { round = id; name = name }) ≡ Some tt) ↔ Contains row.testers name)
+    (tested_own : (name : List ℕ) → (get testers (record { round = id; name = name }) ≡ Some tt)
+    ↔ Contains row.testers name)
     (tested_other : (key : TesterKey) → key.round ≢ id → get testers key ≡ get world.testers key) where
   abbrev new_rounds : FinMap text_cmp Round
   new_rounds = insert world.rounds id row.round
@@ -50,7 +54,8 @@ module _ (world : World) (id : List ℕ) (row : RoundRow) (places : FinMap place
   after = record world { rounds = new_rounds; places = places; testers = testers }
 
   -- a round that is found is the draft, or was there before under another id
-  after_draft : (q : List ℕ) (r : Round) → get new_rounds q ≡ Some r → ((q ≡ id) × (r ≡ row.round)) ⊎ ((q ≢ id) × (get world.rounds q ≡ Some r))
+  after_draft : (q : List ℕ) (r : Round) → get new_rounds q ≡ Some r → ((q ≡ id) × (r ≡ row.round))
+      ⊎ ((q ≢ id) × (get world.rounds q ≡ Some r))
   after_draft q r found = found_after text_total same_texts world.rounds id row.round q r found
 
   -- a released round has another id
@@ -58,26 +63,43 @@ module _ (world : World) (id : List ℕ) (row : RoundRow) (places : FinMap place
   another q released same = unreleased (subst (IsReleasedRound world) same released)
 
   -- a place is one of the draft's, or was there before
-  place_from : (key : PlaceKey) (entry : Entry) → get places key ≡ Some entry → ((key.round ≡ id) × (entry_at row.puzzles key.number ≡ Some entry)) ⊎ ((key.round ≢ id) × (get world.places key ≡ Some entry))
+  place_from : (key : PlaceKey) (entry : Entry) → get places key ≡ Some entry
+      → ((key.round ≡ id) × (entry_at row.puzzles key.number ≡ Some entry))
+      ⊎ ((key.round ≢ id) × (get world.places key ≡ Some entry))
   place_from key entry found = elim (keys_apart text_total same_texts key.round id) [
-    | inl same ↦ inl (same, sym (at_own key.number) ∙ ap (λ (x : List ℕ). get places (record { round = x; number = key.number })) (sym same) ∙ found)
+    | inl same ↦ inl (
+      same,
+      sym (at_own key.number) ∙ ap (λ (x : List ℕ). get places
+          (record { round = x; number = key.number })) (sym same) ∙ found,
+    )
     | inr other ↦ inr (other, sym (at_other key other) ∙ found)
   ]
 
   -- a tester is one of the draft's, or was there before
-  tester_from : (q name : List ℕ) → get testers (record { round = q; name = name }) ≡ Some tt → ((q ≡ id) × Contains row.testers name) ⊎ ((q ≢ id) × IsTesterOf world q name)
+  tester_from : (q name : List ℕ) → get testers (record { round = q; name = name }) ≡ Some tt
+      → ((q ≡ id) × Contains row.testers name) ⊎ ((q ≢ id) × IsTesterOf world q name)
   tester_from q name found = elim (keys_apart text_total same_texts q id) [
-    | inl same ↦ inl (same, (tested_own name).0 (sym (ap (λ (x : List ℕ). get testers (record { round = x; name = name })) same) ∙ found))
+    | inl same ↦ inl (
+      same,
+      (tested_own name).0 (sym (ap (λ (x : List ℕ). get testers
+          (record { round = x; name = name })) same) ∙ found),
+    )
     | inr other ↦ inr (other, sym (tested_other (record { round = q; name = name }) other) ∙ found)
   ]
 
   -- a place of a released round stays
-  place_stays : (key : PlaceKey) (entry : Entry) → IsReleasedRound world key.round → get world.places key ≡ Some entry → get places key ≡ Some entry
+  place_stays : (key : PlaceKey) (entry : Entry) → IsReleasedRound world key.round → get world.places key ≡ Some entry
+      → get places key ≡ Some entry
   place_stays key entry released found = at_other key (another key.round released) ∙ found
 
   -- a released round stays one, since it is not the draft
   released_stays : (q : List ℕ) → IsReleasedRound world q → IsReleasedRound after q
-  released_stays q (r, found, is) = (r, others_stay text_total same_texts world.rounds id row.round q r (another q (r, found, is)) found, is)
+  released_stays q (r, found, is) = (
+    r,
+    others_stay text_total same_texts world.rounds id row.round q r
+        (another q (r, found, is)) found,
+    is,
+  )
 
   -- who may take part in a released round still may: its list and its testers stay
   part_stays : (name q : List ℕ) → IsReleasedRound world q → MayTakePart world name q → MayTakePart after name q
@@ -85,7 +107,11 @@ module _ (world : World) (id : List ℕ) (row : RoundRow) (places : FinMap place
     person,
     there,
     entrant,
-    (λ entry lists. no_author entry (lists.0, sym (at_other (record { round = q; number = lists.0 }) (another q released)) ∙ lists.1)),
+    (λ entry lists. no_author entry (
+      lists.0,
+      sym (at_other (record { round = q; number = lists.0 })
+          (another q released)) ∙ lists.1,
+    )),
     (λ tests. no_tester (sym (tested_other (record { round = q; name = name }) (another q released)) ∙ tests)),
   )
 
@@ -99,7 +125,8 @@ module _ (world : World) (id : List ℕ) (row : RoundRow) (places : FinMap place
         | inr h ↦ sane.typed.in_range.rounds q r h.1
       ];
       places = λ key entry found. elim (place_from key entry found) [
-        | inl h ↦ entry_in_range row.puzzles entry in_range.puzzles.each (entry_contained row.puzzles key.number entry h.1)
+        | inl h ↦ entry_in_range row.puzzles entry in_range.puzzles.each
+            (entry_contained row.puzzles key.number entry h.1)
         | inr h ↦ sane.typed.in_range.places key entry h.1
       ];
       answers = sane.typed.in_range.answers;
@@ -118,7 +145,8 @@ module _ (world : World) (id : List ℕ) (row : RoundRow) (places : FinMap place
         record {
           head = inserted_there text_total same_texts world.rounds id row.round q h.0;
           list = λ number. ap (λ (x : List ℕ). get places (record { round = x; number = number })) h.0 ∙ at_own number;
-          testers = λ name. subst (λ (x : List ℕ). (get testers (record { round = x; name = name }) ≡ Some tt) ↔ Contains row.testers name) (sym h.0) (tested_own name);
+          testers = λ name. subst (λ (x : List ℕ). (get testers (record { round = x; name = name }) ≡ Some tt)
+              ↔ Contains row.testers name) (sym h.0) (tested_own name);
         },
         in_range.puzzles.list,
         in_range.testers.list,
@@ -129,7 +157,8 @@ module _ (world : World) (id : List ℕ) (row : RoundRow) (places : FinMap place
             record {
               head = others_stay text_total same_texts world.rounds id row.round q l.0.round h.0 l.1.head;
               list = λ number. at_other (record { round = q; number = number }) h.0 ∙ l.1.list number;
-              testers = λ name. subst (λ (found : Option (Unit {0})). (found ≡ Some tt) ↔ Contains l.0.testers name) (sym (tested_other (record { round = q; name = name }) h.0)) (l.1.testers name);
+              testers = λ name. subst (λ (found : Option (Unit {0})). (found ≡ Some tt) ↔ Contains l.0.testers name)
+                  (sym (tested_other (record { round = q; name = name }) h.0)) (l.1.testers name);
             },
             l.2,
             l.3,
@@ -150,12 +179,15 @@ module _ (world : World) (id : List ℕ) (row : RoundRow) (places : FinMap place
       keys_differ = sane.typed.keys_differ;
       lists = lists_then;
       homes = λ key entry found. elim (place_from key entry found) [
-        | inl h ↦ λ none. let no : Some row.round ≡ None = sym (inserted_there text_total same_texts world.rounds id row.round key.round h.0) ∙ none in cc
+        | inl h ↦ λ none. let no : Some row.round ≡ None = sym
+            (inserted_there text_total same_texts world.rounds id row.round key.round h.0) ∙ none in cc
         | inr h ↦ still_there text_total same_texts world.rounds id row.round key.round (sane.typed.homes key entry h.1)
       ];
       tester_homes = λ key found. elim (tester_from key.round key.name found) [
-        | inl h ↦ λ none. let no : Some row.round ≡ None = sym (inserted_there text_total same_texts world.rounds id row.round key.round h.0) ∙ none in cc
-        | inr h ↦ still_there text_total same_texts world.rounds id row.round key.round (sane.typed.tester_homes key h.1)
+        | inl h ↦ λ none. let no : Some row.round ≡ None = sym
+            (inserted_there text_total same_texts world.rounds id row.round key.round h.0) ∙ none in cc
+        | inr h ↦ still_there text_total same_texts world.rounds id row.round key.round
+            (sane.typed.tester_homes key h.1)
       ];
     }
 
@@ -171,9 +203,17 @@ module _ (world : World) (id : List ℕ) (row : RoundRow) (places : FinMap place
         | inr h ↦ sane.refers.testers q name h.1
       ];
       entrants = sane.refers.entrants;
-      answered = λ key answer found. let at = sane.refers.answered key answer found in (at.0, place_stays (record { round = key.round; number = key.number }) at.0 (sane.answers_released key answer found) at.1);
+      answered = λ key answer found. let at = sane.refers.answered key answer found in (
+        at.0,
+        place_stays (record { round = key.round; number = key.number }) at.0
+            (sane.answers_released key answer found) at.1,
+      );
       protesters = sane.refers.protesters;
-      protested = λ key protest found. let at = sane.refers.protested key protest found in (at.0, place_stays (record { round = key.round; number = protest.number }) at.0 (sane.protests_released key protest found) at.1);
+      protested = λ key protest found. let at = sane.refers.protested key protest found in (
+        at.0,
+        place_stays (record { round = key.round; number = protest.number }) at.0
+            (sane.protests_released key protest found) at.1,
+      );
     }
 
     module _ (draft : row.round.released ≡ false) (secret : row.round.published ≡ false) where
@@ -195,9 +235,18 @@ module _ (world : World) (id : List ℕ) (row : RoundRow) (places : FinMap place
         states = sane.states;
         answers_released = λ key answer found. released_stays key.round (sane.answers_released key answer found);
         protests_released = λ key protest found. released_stays key.round (sane.protests_released key protest found);
-        answerers = λ key answer found. part_stays key.entrant key.round (sane.answers_released key answer found) (sane.answerers key answer found);
-        protesters = λ key protest found. part_stays key.entrant key.round (sane.protests_released key protest found) (sane.protesters key protest found);
-        verdicts = λ key answer found. let v = sane.verdicts key answer found in (v.0, v.1, place_stays (record { round = key.round; number = key.number }) v.0 (sane.answers_released key answer found) v.2, v.3, v.4);
+        answerers = λ key answer found. part_stays key.entrant key.round (sane.answers_released key answer found)
+            (sane.answerers key answer found);
+        protesters = λ key protest found. part_stays key.entrant key.round (sane.protests_released key protest found)
+            (sane.protesters key protest found);
+        verdicts = λ key answer found. let v = sane.verdicts key answer found in (
+          v.0,
+          v.1,
+          place_stays (record { round = key.round; number = key.number }) v.0
+              (sane.answers_released key answer found) v.2,
+          v.3,
+          v.4,
+        );
         certified = λ q key stands. sane.certified q key (stood q key stands);
         in_one_round = λ a b key at_a at_b. sane.in_one_round a b key (stood a key at_a) (stood b key at_b);
         published = λ q r found is. elim (after_draft q r found) [
@@ -217,28 +266,36 @@ module _ (world : World) (id : List ℕ) (row : RoundRow) (places : FinMap place
       }
 
 -- a draft may be put where no released round stands, with the places of its puzzles and its testers, who are there
-pub draft_sane : (world : World) (id : List ℕ) (row : RoundRow) (places : FinMap place_cmp Entry) (testers : FinMap tester_cmp (Unit {0})) → Sane world → ¬ (IsReleasedRound world id) →
-    row.round.id ≡ id → row.round.released ≡ false → row.round.published ≡ false → IsRoundRow row → CanPutRound world row →
+pub draft_sane : (world : World) (id : List ℕ) (row : RoundRow) (places : FinMap place_cmp Entry)
+    (testers : FinMap tester_cmp (Unit {0})) → Sane world → ¬ (IsReleasedRound world id) →
+    row.round.id ≡ id → row.round.released ≡ false → row.round.published ≡ false → IsRoundRow row
+    → CanPutRound world row →
     ((number : ℕ) → get places (record { round = id; number = number }) ≡ entry_at row.puzzles number) →
     ((key : PlaceKey) → key.round ≢ id → get places key ≡ get world.places key) →
     ((name : List ℕ) → (get testers (record { round = id; name = name }) ≡ Some tt) ↔ Contains row.testers name) →
     ((key : TesterKey) → key.round ≢ id → get testers key ≡ get world.testers key) →
     Sane (record world { rounds = insert world.rounds id row.round; places = places; testers = testers })
-draft_sane world id row places testers sane unreleased own draft secret in_range can at_own at_other tested_own tested_other =
-    draft_added world id row places testers sane unreleased at_own at_other tested_own tested_other own in_range can draft secret
+draft_sane world id row places testers sane unreleased own draft secret in_range can at_own at_other tested_own
+    tested_other =
+    draft_added world id row places testers sane unreleased at_own at_other tested_own tested_other own in_range can
+    draft secret
 
 -- ---- the places of a draft that is put
 -- the round's places are its entries
-pub relisted_own : (places : FinMap place_cmp Entry) (id : List ℕ) (entries : List Entry) (number : ℕ) → get (relisted places id entries) (record { round = id; number = number }) ≡ entry_at entries number
+pub relisted_own : (places : FinMap place_cmp Entry) (id : List ℕ) (entries : List Entry) (number : ℕ)
+    → get (relisted places id entries) (record { round = id; number = number }) ≡ entry_at entries number
 relisted_own places id entries number =
     let key : PlaceKey = record { round = id; number = number } in
-    get-relisted places id entries key ∙ ap (λ b. if b then entry_at entries number else get places key) ((text_decides id id).1 refl)
+    get-relisted places id entries key ∙ ap (λ b. if b then entry_at entries number else get places key)
+    ((text_decides id id).1 refl)
 
 -- those of other rounds stay
-pub relisted_other : (places : FinMap place_cmp Entry) (id : List ℕ) (entries : List Entry) (key : PlaceKey) → key.round ≢ id → get (relisted places id entries) key ≡ get places key
+pub relisted_other : (places : FinMap place_cmp Entry) (id : List ℕ) (entries : List Entry) (key : PlaceKey)
+    → key.round ≢ id → get (relisted places id entries) key ≡ get places key
 relisted_other places id entries key other =
     get-relisted places id entries key
-    ∙ ap (λ b. if b then entry_at entries key.number else get places key) (not_true (same_text key.round id) (λ same. other ((text_decides key.round id).0 same)))
+    ∙ ap (λ b. if b then entry_at entries key.number else get places key)
+    (not_true (same_text key.round id) (λ same. other ((text_decides key.round id).0 same)))
 
 -- ---- the testers of a draft that is put
 -- the round's testers are those of the names
@@ -247,18 +304,24 @@ pub retested_own : (testers : FinMap tester_cmp (Unit {0})) (id : List ℕ) (nam
 retested_own testers id names name =
     let key : TesterKey = record { round = id; name = name } in
     let told : get (retested testers id names) key ≡ if_named names name =
-    get-retested testers id names key ∙ ap (λ b. if b then if_named names name else get testers key) ((text_decides id id).1 refl) in
-    subst (λ (found : Option (Unit {0})). (found ≡ Some tt) ↔ Contains names name) (sym told) (if_named-Contains names name)
+    get-retested testers id names key ∙ ap (λ b. if b then if_named names name else get testers key)
+    ((text_decides id id).1 refl) in
+    subst (λ (found : Option (Unit {0})). (found ≡ Some tt) ↔ Contains names name) (sym told)
+    (if_named-Contains names name)
 
 -- those of other rounds stay
-pub retested_other : (testers : FinMap tester_cmp (Unit {0})) (id : List ℕ) (names : List (List ℕ)) (key : TesterKey) → key.round ≢ id → get (retested testers id names) key ≡ get testers key
+pub retested_other : (testers : FinMap tester_cmp (Unit {0})) (id : List ℕ) (names : List (List ℕ)) (key : TesterKey)
+    → key.round ≢ id → get (retested testers id names) key ≡ get testers key
 retested_other testers id names key other =
     get-retested testers id names key
-    ∙ ap (λ b. if b then if_named names key.name else get testers key) (not_true (same_text key.round id) (λ same. other ((text_decides key.round id).0 same)))
+    ∙ ap (λ b. if b then if_named names key.name else get testers key)
+    (not_true (same_text key.round id) (λ same. other ((text_decides key.round id).0 same)))
 
 -- a PutRound asks that no released round stands under the id
-pub puts_no_released : (world : World) (caller : Option Person) (id : List ℕ) (sheet : Sheet) (t : ℕ) → NoneDecides world caller (action.PutRound id sheet) t → ¬ (IsReleasedRound world id)
-puts_no_released world caller id sheet t none (round, kept, released) = (none rule.NoDraft (lit< tt)).0 ((3, lit< tt, refl), (id, round, refl, kept, released))
+pub puts_no_released : (world : World) (caller : Option Person) (id : List ℕ) (sheet : Sheet) (t : ℕ)
+    → NoneDecides world caller (action.PutRound id sheet) t → ¬ (IsReleasedRound world id)
+puts_no_released world caller id sheet t none (round, kept, released) = (none rule.NoDraft (lit< tt)).0
+    ((3, lit< tt, refl), (id, round, refl, kept, released))
 
 -- the draft of a sheet with its list and its testers
 abbrev draft_row : List ℕ → Sheet → RoundRow
@@ -285,19 +348,24 @@ tester_there None able none = able refl
 tester_there (Some person) able none = let no : Some person ≡ None = none in cc
 
 -- a PutRound asks that each puzzle of the sheet is kept, and each tester there
-can_put_draft : (world : World) (caller : Option Person) (id : List ℕ) (sheet : Sheet) (t : ℕ) → NoneDecides world caller (action.PutRound id sheet) t → CanPutRound world (draft_row id sheet)
+can_put_draft : (world : World) (caller : Option Person) (id : List ℕ) (sheet : Sheet) (t : ℕ)
+    → NoneDecides world caller (action.PutRound id sheet) t → CanPutRound world (draft_row id sheet)
 can_put_draft world caller id sheet t none = record {
   puzzles = λ entry among gone. (none rule.Missing (lit< tt)).0 ((2, lit< tt, refl), inl (entry, among, gone));
-  testers = λ name among. tester_there (get world.people name) (λ able. (none rule.Missing (lit< tt)).0 ((2, lit< tt, refl), inr (name, among, able)));
+  testers = λ name among. tester_there (get world.people name)
+      (λ able. (none rule.Missing (lit< tt)).0 ((2, lit< tt, refl), inr (name, among, able)));
 }
 
 -- a PutRound keeps the world sane: its rules deny a sheet with a puzzle that isn't kept or a tester who isn't there,
 -- and a released round's id
-pub put_round_step : (world : World) (caller : Option Person) (id : List ℕ) (sheet : Sheet) (t : ℕ) (found : PuzzleState) (given : Reply) (new : World) → Sane world →
-    IsAction (action.PutRound id sheet) → NoneDecides world caller (action.PutRound id sheet) t → Allowed world caller (action.PutRound id sheet) t found given new → Sane new
+pub put_round_step : (world : World) (caller : Option Person) (id : List ℕ) (sheet : Sheet) (t : ℕ)
+    (found : PuzzleState) (given : Reply) (new : World) → Sane world →
+    IsAction (action.PutRound id sheet) → NoneDecides world caller (action.PutRound id sheet) t
+    → Allowed world caller (action.PutRound id sheet) t found given new → Sane new
 put_round_step world caller id sheet t found given new sane is none (told, made) =
     subst Sane (sym made)
-    (draft_sane world id (draft_row id sheet) (relisted world.places id sheet.puzzles) (retested world.testers id sheet.testers) sane
+    (draft_sane world id (draft_row id sheet) (relisted world.places id sheet.puzzles)
+    (retested world.testers id sheet.testers) sane
     (puts_no_released world caller id sheet t none)
     refl refl refl (draft_in_type id sheet is.0 is.1)
     (can_put_draft world caller id sheet t none)

@@ -12,7 +12,8 @@ use Rattle.hall_policy.specs.declared.record.AnswerRow.{AnswerRow}
 use Rattle.hall_policy.specs.declared.record.ProtestRow.{ProtestRow}
 use Rattle.hall_policy.specs.declared.record.Round.{Round}
 use Rattle.hall_policy.specs.declared.record.Entry.{Entry}
-use Rattle.hall_policy.proofs.Orders.{text_total, puzzle_total, place_total, tester_total, answer_total, protest_total, same_puzzle_keys, same_answer_keys, same_protest_keys}
+use Rattle.hall_policy.proofs.Orders.{text_total, puzzle_total, place_total, tester_total, answer_total, protest_total}
+use Rattle.hall_policy.proofs.Orders.{same_puzzle_keys, same_answer_keys, same_protest_keys}
 use Rattle.hall_store.specs.Maps.{empty_world}
 use Rattle.hall_desk.specs.Sane.{Sane}
 use Rattle.hall_store.proofs.MapWorlds.{get_found, entries_made}
@@ -53,7 +54,8 @@ empty_sane = record {
   refers = record {
     authors = λ key row found. absurd (nowhere puzzle_total PuzzleRow key row found);
     entries = λ key entry found. absurd (nowhere place_total Entry key entry found);
-    testers = λ round name found. absurd (nowhere tester_total (Unit {0}) (record { round = round; name = name }) tt found);
+    testers = λ round name found. absurd (nowhere tester_total (Unit {0}) (record { round = round; name = name }) tt
+        found);
     entrants = λ key row found. absurd (nowhere answer_total AnswerRow key row found);
     answered = λ key row found. absurd (nowhere answer_total AnswerRow key row found);
     protesters = λ key row found. absurd (nowhere protest_total ProtestRow key row found);
@@ -72,7 +74,19 @@ empty_sane = record {
   numbered = λ key row found. absurd (nowhere answer_total AnswerRow key row found);
   numbered_once = λ a b row other found. absurd (nowhere answer_total AnswerRow a row found);
   apart = λ name person found. absurd (nowhere text_total Person name person found);
-  few_answers = λ entrant round number. omega (arith, none_counts answer_total AnswerRow same_answer_keys (λ row. same_text row.key.entrant entrant && (same_text row.key.round round && (row.key.number == number))));
-  few_protests = λ entrant round. omega (arith, none_counts protest_total ProtestRow same_protest_keys (λ row. same_text row.key.entrant entrant && same_text row.key.round round));
-  few_puzzles = λ author. omega (arith, none_counts puzzle_total PuzzleRow same_puzzle_keys (λ row. same_text row.key.author author));
+  few_answers = λ entrant round number. omega (
+    arith,
+    none_counts answer_total AnswerRow same_answer_keys
+        (λ row. same_text row.key.entrant entrant && (same_text row.key.round round && (row.key.number == number))),
+  );
+  few_protests = λ entrant round. omega (
+    arith,
+    none_counts protest_total ProtestRow same_protest_keys
+        (λ row. same_text row.key.entrant entrant && same_text row.key.round round),
+  );
+  few_puzzles = λ author. omega (
+    arith,
+    none_counts puzzle_total PuzzleRow same_puzzle_keys
+        (λ row. same_text row.key.author author),
+  );
 }

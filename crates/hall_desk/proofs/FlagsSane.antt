@@ -1,5 +1,6 @@
 -- A round whose flags change, and nothing else of it, keeps the world sane.
-use Rattle.std.proofs.Common.{◌≡◌, ◌≢◌, ◌⊎◌, ◌↔◌, inl, inr, ℕ, Bool, List, Some, None, IsTrue, Contains, sym, ap, ◌∙◌, subst}
+use Rattle.std.proofs.Common.{◌≡◌, ◌≢◌, ◌⊎◌, ◌↔◌, inl, inr, ℕ, Bool, List, Some, None, IsTrue, Contains, sym, ap, ◌∙◌}
+use Rattle.std.proofs.Common.{subst}
 use Rattle.std.specs.FinMap.{FinMap, get, insert}
 use Rattle.hall_policy.specs.Text.{text_cmp}
 use Rattle.hall_policy.specs.World.{World, IsTesterOf}
@@ -16,7 +17,8 @@ use Rattle.hall_desk.specs.Lookups.{IsReleasedRound}
 use Rattle.hall_desk.specs.Sane.{Sane, RefersToRows}
 use Rattle.hall_store.proofs.Inserts.{keys_apart, found_after, others_stay, inserted_there, still_there}
 
-module _ (world : World) (id : List ℕ) (round : Round) (released published : Bool) (kept : get world.rounds id ≡ Some round) (is_released : IsTrue released) (sane : Sane world) where
+module _ (world : World) (id : List ℕ) (round : Round) (released published : Bool)
+    (kept : get world.rounds id ≡ Some round) (is_released : IsTrue released) (sane : Sane world) where
   abbrev flagged : Round
   flagged = record round { released = released; published = published }
 
@@ -27,7 +29,8 @@ module _ (world : World) (id : List ℕ) (round : Round) (released published : B
   after = record world { rounds = new_rounds }
 
   -- a round that is found is this one, with its flags, or was there before under another id
-  after_flags : (q : List ℕ) (r : Round) → get new_rounds q ≡ Some r → ((q ≡ id) × (r ≡ flagged)) ⊎ ((q ≢ id) × (get world.rounds q ≡ Some r))
+  after_flags : (q : List ℕ) (r : Round) → get new_rounds q ≡ Some r → ((q ≡ id) × (r ≡ flagged))
+      ⊎ ((q ≢ id) × (get world.rounds q ≡ Some r))
   after_flags q r found = found_after text_total same_texts world.rounds id flagged q r found
 
   -- a released round stays one
@@ -38,7 +41,9 @@ module _ (world : World) (id : List ℕ) (round : Round) (released published : B
   ]
 
   -- a puzzle of a released round is one of this round, or was in another released round before
-  stands_then : (q : List ℕ) (key : PuzzleKey) → StandsReleased after key q → ((q ≡ id) × ((entry : Entry) × ListsEntry world id entry × (entry.puzzle ≡ key))) ⊎ ((q ≢ id) × StandsReleased world key q)
+  stands_then : (q : List ℕ) (key : PuzzleKey) → StandsReleased after key q
+      → ((q ≡ id) × ((entry : Entry) × ListsEntry world id entry × (entry.puzzle ≡ key)))
+      ⊎ ((q ≢ id) × StandsReleased world key q)
   stands_then q key (r, entry, found, is, lists, of) = elim (after_flags q r found) [
     | inl h ↦ inl (h.0, (entry, subst (λ (x : List ℕ). ListsEntry world x entry) h.0 lists, of))
     | inr h ↦ inr (h.0, (r, entry, h.1, is, lists, of))
@@ -53,13 +58,25 @@ module _ (world : World) (id : List ℕ) (round : Round) (released published : B
           record old { round = flagged },
           record {
             head = inserted_there text_total same_texts world.rounds id flagged q h.0;
-            list = λ number. ap (λ (x : List ℕ). get world.places (record { round = x; number = number })) h.0 ∙ l.1.list number;
-            testers = λ name. subst (λ (x : List ℕ). IsTesterOf world x name ↔ Contains old.testers name) (sym h.0) (l.1.testers name);
+            list = λ number. ap (λ (x : List ℕ). get world.places (record { round = x; number = number })) h.0
+                ∙ l.1.list number;
+            testers = λ name. subst (λ (x : List ℕ). IsTesterOf world x name ↔ Contains old.testers name) (sym h.0)
+                (l.1.testers name);
           },
           l.2,
           l.3,
         )
-    | inr h ↦ let l = sane.typed.lists q r h.1 in (l.0, record { head = others_stay text_total same_texts world.rounds id flagged q l.0.round h.0 l.1.head; list = l.1.list; testers = l.1.testers }, l.2, l.3)
+    | inr h ↦ let l = sane.typed.lists q r h.1 in (
+      l.0,
+      record {
+        head = others_stay text_total same_texts world.rounds
+            id flagged q l.0.round h.0 l.1.head;
+        list = l.1.list;
+        testers = l.1.testers;
+      },
+      l.2,
+      l.3,
+    )
   ]
 
   -- no flag has a range
@@ -103,8 +120,10 @@ module _ (world : World) (id : List ℕ) (round : Round) (released published : B
     protests = sane.typed.protests;
     keys_differ = sane.typed.keys_differ;
     lists = lists_then;
-    homes = λ key entry found. still_there text_total same_texts world.rounds id flagged key.round (sane.typed.homes key entry found);
-    tester_homes = λ key found. still_there text_total same_texts world.rounds id flagged key.round (sane.typed.tester_homes key found);
+    homes = λ key entry found. still_there text_total same_texts world.rounds id flagged key.round
+        (sane.typed.homes key entry found);
+    tester_homes = λ key found. still_there text_total same_texts world.rounds id flagged key.round
+        (sane.typed.tester_homes key found);
   }
 
   flags_refers : RefersToRows after
@@ -119,8 +138,10 @@ module _ (world : World) (id : List ℕ) (round : Round) (released published : B
   }
 
   module _ (all_certified : (entry : Entry) → ListsEntry world id entry → IsCertified world entry.puzzle)
-      (none_shared : (entry : Entry) (other : List ℕ) → ListsEntry world id entry → other ≢ id → ¬ (StandsReleased world entry.puzzle other))
-      (none_open : IsTrue published → (key : ProtestKey) (row : ProtestRow) → key.round ≡ id → get world.protests key ≡ Some row → row.ruling ≢ None) where
+      (none_shared : (entry : Entry) (other : List ℕ) → ListsEntry world id entry → other ≢ id
+      → ¬ (StandsReleased world entry.puzzle other))
+      (none_open : IsTrue published → (key : ProtestKey) (row : ProtestRow) → key.round ≡ id
+      → get world.protests key ≡ Some row → row.ruling ≢ None) where
     -- a puzzle of this round is certified, and one of another round was before
     certified_then : (q : List ℕ) (key : PuzzleKey) → StandsReleased after key q → IsCertified world key
     certified_then q key stands = elim (stands_then q key stands) [
@@ -133,10 +154,12 @@ module _ (world : World) (id : List ℕ) (round : Round) (released published : B
     one_round_then a b key at_a at_b = elim (stands_then a key at_a) [
       | inl h ↦ elim (stands_then b key at_b) [
         | inl k ↦ h.0 ∙ sym k.0
-        | inr k ↦ absurd (none_shared h.1.0 b h.1.1 k.0 (subst (λ (x : PuzzleKey). StandsReleased world x b) (sym h.1.2) k.1))
+        | inr k ↦ absurd (none_shared h.1.0 b h.1.1 k.0 (subst (λ (x : PuzzleKey). StandsReleased world x b) (sym h.1.2)
+            k.1))
       ]
       | inr h ↦ elim (stands_then b key at_b) [
-        | inl k ↦ absurd (none_shared k.1.0 a k.1.1 h.0 (subst (λ (x : PuzzleKey). StandsReleased world x a) (sym k.1.2) h.1))
+        | inl k ↦ absurd (none_shared k.1.0 a k.1.1 h.0 (subst (λ (x : PuzzleKey). StandsReleased world x a) (sym k.1.2)
+            h.1))
         | inr k ↦ sane.in_one_round a b key h.1 k.1
       ]
     ]

@@ -46,7 +46,8 @@ module _ (k : Kind) (puzzle : Board) (budget most : ℕ) (rules after : SearchVi
 
       begun : OutcomeOf (question_of k rules.board) (start_of k puzzle) (budget_of search) (outcome_of searched)
       begun =
-          subst (λ (p : List (Option ℕ)). OutcomeOf (question_of k rules.board) p (budget_of search) (outcome_of searched))
+          subst (λ (p : List (Option ℕ)). OutcomeOf (question_of k rules.board) p (budget_of search)
+          (outcome_of searched))
           before.1.begun end.outcome
 
       told : OutcomeOf (question_of k puzzle) (start_of k puzzle) budget (outcome_of searched)
@@ -61,7 +62,8 @@ module _ (k : Kind) (puzzle : Board) (budget most : ℕ) (rules after : SearchVi
           subst (λ (p : List (Option ℕ)). after.visits ≤ plain_tree (question_of k rules.board).values (open_places p))
           before.1.begun frugal
 
-      few : visits_made (visits_of searched) ≤ plain_tree (question_of k puzzle).values (open_places (start_of k puzzle))
+      few : visits_made (visits_of searched) ≤ plain_tree (question_of k puzzle).values
+          (open_places (start_of k puzzle))
       few =
           rw end.counted
           (subst (λ (v : ℕ). after.visits ≤ plain_tree v (open_places (start_of k puzzle))) before.1.same.values

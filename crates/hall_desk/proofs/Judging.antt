@@ -1,5 +1,6 @@
 -- What the judge's verdict says of a stored solution, and of a stored verdict.
-use Rattle.std.proofs.Common.{◌≡◌, ◌↔◌, ℕ, Bool, true, false, List, IsTrue, Some, Decides, inl, inr, refl, sym, ap, ◌∙◌, subst}
+use Rattle.std.proofs.Common.{◌≡◌, ◌↔◌, ℕ, Bool, true, false, List, IsTrue, Some, Decides, inl, inr, refl, sym, ap, ◌∙◌}
+use Rattle.std.proofs.Common.{subst}
 use Rattle.std.specs.FinMap.{get}
 use Rattle.hall_grid.specs.declared.rule.Rule.{Rule}
 use Rattle.hall_grid.specs.declared.rule.Rule.TheVariants.{A0}
@@ -18,7 +19,8 @@ use Rattle.hall_desk.proofs.Promises.{one_filling}
 use Rattle.hall_desk.proofs.VerdictOnce.{one_verdict}
 
 -- a verdict without a name is that of a solution
-pub solution_told : (puzzle : Board) (text : List ℕ) (names : ℕ) (told : Bool) → Verdict puzzle text names → IsTrue told ↔ ((rule : Rule) → Names names rule → ⊥) → IsTrue told ↔ HasSolution puzzle (state.One text)
+pub solution_told : (puzzle : Board) (text : List ℕ) (names : ℕ) (told : Bool) → Verdict puzzle text names → IsTrue told
+    ↔ ((rule : Rule) → Names names rule → ⊥) → IsTrue told ↔ HasSolution puzzle (state.One text)
 solution_told puzzle text names told (inl (f, says, broken)) is = (
   (λ t. (f, says, record { filling = says.filling; right = λ rule breaks. is.0 t rule ((broken.each rule).1 breaks) })),
   (λ solution. is.1 (λ rule named.
@@ -31,8 +33,11 @@ solution_told puzzle text names told (inr (none, no_form)) is = (
 )
 
 -- the judge's verdict is the stored one exactly where the stored one is that of the answer
-pub verdict_told : (world : World) (key : PlaceKey) (row : AnswerRow) (entry : Entry) (puzzle : PuzzleRow) (names : ℕ) (told : Bool) →
-    get world.places key ≡ Some entry → get world.puzzles entry.puzzle ≡ Some puzzle → Verdict puzzle.puzzle row.answer names → Decides told (names ≡ row.verdict) → IsTrue told ↔ IsVerdictAt world key.round key.number row
+pub verdict_told : (world : World) (key : PlaceKey) (row : AnswerRow) (entry : Entry) (puzzle : PuzzleRow) (names : ℕ)
+    (told : Bool) →
+    get world.places key ≡ Some entry → get world.puzzles entry.puzzle ≡ Some puzzle
+    → Verdict puzzle.puzzle row.answer names → Decides told (names ≡ row.verdict) → IsTrue told
+    ↔ IsVerdictAt world key.round key.number row
 verdict_told world key row entry puzzle names told at there judged same = (
   (λ t. (entry, puzzle, at, there, subst (λ (n : ℕ). Verdict puzzle.puzzle row.answer n) (same.0 t) judged)),
   (λ (other, kept, found, stands, verdict).
@@ -40,5 +45,6 @@ verdict_told world key row entry puzzle names told at there judged same = (
       let one : other ≡ entry = cc in
       let pair : Some kept ≡ Some puzzle = sym stands ∙ ap (λ (e : Entry). get world.puzzles e.puzzle) one ∙ there in
       let row_is : kept ≡ puzzle = cc in
-      same.1 (one_verdict puzzle.puzzle row.answer names row.verdict judged (subst (λ (p : PuzzleRow). Verdict p.puzzle row.answer row.verdict) row_is verdict))),
+      same.1 (one_verdict puzzle.puzzle row.answer names row.verdict judged
+      (subst (λ (p : PuzzleRow). Verdict p.puzzle row.answer row.verdict) row_is verdict))),
 )

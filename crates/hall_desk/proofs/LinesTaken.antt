@@ -20,8 +20,10 @@ lines_behind before after (row ∷ rows) (next, added, taken) =
     ∙ append_assoc before.lines (answer_line before.shows row ∷ []) (map (answer_line before.shows) rows)))
 
 -- lines that began with none are those of the rows
-pub lines_of : (before after : Lines) (shows : Bool) (rows : List AnswerRow) → before.lines ≡ [] → before.shows ≡ shows → HasTaken IsLineAdded before rows after →
+pub lines_of : (before after : Lines) (shows : Bool) (rows : List AnswerRow) → before.lines ≡ [] → before.shows ≡ shows
+    → HasTaken IsLineAdded before rows after →
     after.lines ≡ map (answer_line shows) rows
 lines_of before after shows rows empty same taken =
     lines_behind before after rows taken
-    ∙ (ap (λ (lines : List AnswerLine). lines ++ map (answer_line before.shows) rows) empty ∙ ap (λ (s : Bool). map (answer_line s) rows) same)
+    ∙ (ap (λ (lines : List AnswerLine). lines ++ map (answer_line before.shows) rows) empty
+    ∙ ap (λ (s : Bool). map (answer_line s) rows) same)

@@ -19,7 +19,8 @@ module _ {K X : Type 0} {R : K → K → Ordering} (o : IsTotalOrder R) (same : 
       let own : at.1 ≡ k = sym (same k at.1 (equal_from_test (R k at.1) at.3)) in
       subst (λ (q : K). Contains es (q, v)) own (contained es (at.1, v) at.0 at.2)
 
-  paired : (key_of : X → K) (found : Option X) (k : K) (v : X) → option_map {U = K × X} (λ x. (key_of x, x)) found ≡ Some (k, v) → (found ≡ Some v) × (key_of v ≡ k)
+  paired : (key_of : X → K) (found : Option X) (k : K) (v : X) → option_map {U = K × X} (λ x. (key_of x, x)) found ≡
+      Some (k, v) → (found ≡ Some v) × (key_of v ≡ k)
   paired key_of None k v e = absurd (cc)
   paired key_of (Some x) k v e =
       let pair : ◌≡◌ {A = K × X} (key_of x, x) (k, v) = cc in
@@ -27,7 +28,8 @@ module _ {K X : Type 0} {R : K → K → Ordering} (o : IsTotalOrder R) (same : 
       (ap Some row, ap key_of (sym row) ∙ ap (λ (p : K × X). p.0) pair)
 
   -- and of rows that stand under their own keys it is a row of that key
-  pub own_row : (key_of : X → K) (xs : List X) (k : K) (v : X) → get (from_entries {R = R} (map (λ x. (key_of x, x)) xs)) k ≡ Some v → Contains xs v × (key_of v ≡ k)
+  pub own_row : (key_of : X → K) (xs : List X) (k : K) (v : X)
+      → get (from_entries {R = R} (map (λ x. (key_of x, x)) xs)) k ≡ Some v → Contains xs v × (key_of v ≡ k)
   own_row key_of xs k v found =
       let es : List (K × X) = map (λ x. (key_of x, x)) xs in
       let at = place_from_lookup (is_at (R k)) es v (sym (get_found o es k) ∙ found) in

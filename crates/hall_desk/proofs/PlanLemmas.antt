@@ -1,5 +1,6 @@
 -- From facts and a decision to a plan.
-use Rattle.std.proofs.Common.{◌≡◌, ◌≢◌, ◌⊎◌, ◌&&◌, ◌||◌, ℕ, Bool, true, false, List, [], ◌∷◌, map, Option, Some, None, IsTrue, Result, Ok, Err, IfOk, inl, refl, sym, ◌∙◌, ap, subst, inr, cond}
+use Rattle.std.proofs.Common.{◌≡◌, ◌≢◌, ◌⊎◌, ◌&&◌, ◌||◌, ℕ, Bool, true, false, List, [], ◌∷◌, map, Option, Some, None}
+use Rattle.std.proofs.Common.{IsTrue, Result, Ok, Err, IfOk, inl, refl, sym, ◌∙◌, ap, subst, inr, cond}
 use Rattle.std.specs.List.{filter}
 use Rattle.hall_grid.specs.Board.{Board}
 use Rattle.hall_grid.specs.Canonical.{CanonicalText}
@@ -42,11 +43,14 @@ use Rattle.hall_store.specs.declared.change.RoundFlag.TheVariants as flag
 use Rattle.hall_store.proofs.Knowing.{pure_told, told_turn}
 
 -- a decision, and what it answers and changes, make a plan
-pub planned : (facts : Facts) (world : World) (t : ℕ) (request : Request) (decision : Decision) (given : Reply) (change : Change) (visits : Option Visits) →
+pub planned : (facts : Facts) (world : World) (t : ℕ) (request : Request) (decision : Decision) (given : Reply)
+    (change : Change) (visits : Option Visits) →
     IsCaller world request.key facts.caller → IsDecided world facts request.action t decision →
-    (outcome : PuzzleState) → Decided decision world facts.caller request.action t outcome given (changed change world) → CanMake change world →
+    (outcome : PuzzleState) → Decided decision world facts.caller request.action t outcome given (changed change world)
+    → CanMake change world →
     ((decision ≢ Allow) ⊎ HasNothingToWrite world request.action → change ≡ Nothing) →
-    (decision ≡ Allow → HasSearched world request.action (record { reply = given; change = change; visits = visits })) → IsPlanFor world t request (record { reply = given; change = change; visits = visits })
+    (decision ≡ Allow → HasSearched world request.action (record { reply = given; change = change; visits = visits }))
+    → IsPlanFor world t request (record { reply = given; change = change; visits = visits })
 planned facts world t request decision given change visits caller is outcome decided can quiet searched =
     let same : facts.caller ≡ caller_of world request.key = caller.found in
     record {
@@ -55,7 +59,8 @@ planned facts world t request decision given change visits caller is outcome dec
         (
           decision,
           subst (λ (who : Option Person). First world who request.action t decision) same is.first,
-          subst (λ (who : Option Person). Decided decision world who request.action t outcome given (changed change world)) same decided,
+          subst (λ (who : Option Person). Decided decision world who request.action t outcome given
+              (changed change world)) same decided,
         ),
       );
       can = can;
@@ -64,13 +69,35 @@ planned facts world t request decision given change visits caller is outcome dec
     }
 
 -- the plan of a puzzle that is new, or differs from the one that stands
-pub put_new : (world : World) (facts : Facts) (t : ℕ) (key copied_key : PuzzleKey) (puzzle copied : Board) (text : List ℕ) →
-    copied_key ≡ key → copied ≡ puzzle → CanonicalText text puzzle → AreTrue facts world (action.PutPuzzle key puzzle) → IsTrue facts.author_is_there →
+pub put_new : (world : World) (facts : Facts) (t : ℕ) (key copied_key : PuzzleKey) (puzzle copied : Board)
+    (text : List ℕ) →
+    copied_key ≡ key → copied ≡ puzzle → CanonicalText text puzzle → AreTrue facts world (action.PutPuzzle key puzzle)
+    → IsTrue facts.author_is_there →
     ((row : PuzzleRow) → facts.puzzle ≡ Some row → row.puzzle ≢ puzzle) →
-    IsAllowedPlan world facts.caller (action.PutPuzzle key puzzle) t (record { reply = reply.PutPuzzle name.New text; change = change.PutPuzzle (record { key = copied_key; puzzle = copied; state = state.New }); visits = None })
+    IsAllowedPlan world facts.caller (action.PutPuzzle key puzzle) t
+    (record {
+      reply = reply.PutPuzzle name.New text;
+      change = change.PutPuzzle
+          (record { key = copied_key; puzzle = copied; state = state.New });
+      visits = None;
+    })
 put_new world facts t key copied_key puzzle copied text same_key same_puzzle canonical told there differ =
-    subst (λ (k : PuzzleKey). AreTrue facts world (action.PutPuzzle key puzzle) → IsAllowedPlan world facts.caller (action.PutPuzzle key puzzle) t (record { reply = reply.PutPuzzle name.New text; change = change.PutPuzzle (record { key = k; puzzle = copied; state = state.New }); visits = None })) (sym same_key)
-    (subst (λ (p : Board). AreTrue facts world (action.PutPuzzle key puzzle) → IsAllowedPlan world facts.caller (action.PutPuzzle key puzzle) t (record { reply = reply.PutPuzzle name.New text; change = change.PutPuzzle (record { key = key; puzzle = p; state = state.New }); visits = None })) (sym same_puzzle)
+    subst (λ (k : PuzzleKey). AreTrue facts world (action.PutPuzzle key puzzle)
+    → IsAllowedPlan world facts.caller (action.PutPuzzle key puzzle) t
+    (record {
+      reply = reply.PutPuzzle name.New text;
+      change = change.PutPuzzle
+          (record { key = k; puzzle = copied; state = state.New });
+      visits = None;
+    })) (sym same_key)
+    (subst (λ (p : Board). AreTrue facts world (action.PutPuzzle key puzzle)
+    → IsAllowedPlan world facts.caller (action.PutPuzzle key puzzle) t
+    (record {
+      reply = reply.PutPuzzle name.New text;
+      change = change.PutPuzzle
+          (record { key = key; puzzle = p; state = state.New });
+      visits = None;
+    })) (sym same_puzzle)
     (λ all. record {
       allowed = λ found. (text, canonical, inr ((λ row kept. differ row (all.1.1.1.1.1.0.0 ∙ kept)), refl, refl));
       can = let author = all.1.1.1.0.0 there in (author.0, author.1);
@@ -79,57 +106,84 @@ put_new world facts t key copied_key puzzle copied text same_key same_puzzle can
     })) told
 
 -- a plan that is right whatever a search would find
-pub made_anyhow : (world : World) (caller : Option Person) (asked : Action) (t : ℕ) (plan : Plan) → IsAllowedPlan world caller asked t plan → IsMadePlan world caller asked t plan
-made_anyhow world caller asked t plan made = record { found = state.New; allowed = made.allowed state.New; can = made.can; quiet = made.quiet; searched = made.searched }
+pub made_anyhow : (world : World) (caller : Option Person) (asked : Action) (t : ℕ) (plan : Plan)
+    → IsAllowedPlan world caller asked t plan → IsMadePlan world caller asked t plan
+made_anyhow world caller asked t plan made = record {
+  found = state.New;
+  allowed = made.allowed state.New;
+  can =
+      made.can;
+  quiet = made.quiet;
+  searched = made.searched;
+}
 
 -- the plan that is made for an action, told of what was asked, which is that action
 module _ {E : Type 0} (facts : Facts) (asked named : Action) (t : ℕ) (is : asked ≡ named) where
   -- made from the facts alone
   pub made_from_facts : (store : Content) (r : Result Plan E) (M : Plan → Type 0) →
       ((plan : Plan) → M plan → (w : World) → AreTrue facts w named → IsMadePlan w facts.caller named t plan) →
-      Asks store (λ w. AreTrue facts w asked) → IfOk r M → Told store store r (λ w plan. IsMadePlan w facts.caller asked t plan)
+      Asks store (λ w. AreTrue facts w asked) → IfOk r M → Told store store r
+      (λ w plan. IsMadePlan w facts.caller asked t plan)
   made_from_facts store r M turn told made =
-      subst (λ (a : Action). Asks store (λ w. AreTrue facts w a) → Told store store r (λ w plan. IsMadePlan w facts.caller a t plan)) (sym is)
-      (λ all. pure_told r M (λ w plan. IsMadePlan w facts.caller named t plan) store store (λ h s. s) (λ plan h s x. turn plan x store.world (all h s)) made) told
+      subst (λ (a : Action). Asks store (λ w. AreTrue facts w a)
+      → Told store store r (λ w plan. IsMadePlan w facts.caller a t plan)) (sym is)
+      (λ all. pure_told r M (λ w plan. IsMadePlan w facts.caller named t plan) store store (λ h s. s)
+      (λ plan h s x. turn plan x store.world (all h s)) made) told
 
   -- made with what the store was asked
-  pub made_from_store : (old new : Content) (r : Result Plan E) (M : World → Plan → Type 0) → ((plan : Plan) → M new.world plan → IsMadePlan new.world facts.caller named t plan) →
+  pub made_from_store : (old new : Content) (r : Result Plan E) (M : World → Plan → Type 0)
+      → ((plan : Plan) → M new.world plan → IsMadePlan new.world facts.caller named t plan) →
       Told old new r M → Told old new r (λ w plan. IsMadePlan w facts.caller asked t plan)
   made_from_store old new r M turn told =
       subst (λ (a : Action). Told old new r (λ w plan. IsMadePlan w facts.caller a t plan)) (sym is)
       (told_turn r M (λ w plan. IsMadePlan w facts.caller named t plan) old new (λ plan h s x. turn plan x) told)
 
 -- what was told of a plan over a store that served before it
-pub told_plan : {E : Type 0} (r : Result Plan E) (mid new : Content) (t : ℕ) (request : Request) → Kept mid new → (mid.honest → mid.serves) →
+pub told_plan : {E : Type 0} (r : Result Plan E) (mid new : Content) (t : ℕ) (request : Request) → Kept mid new
+    → (mid.honest → mid.serves) →
     Told mid new r (λ world plan. IsPlanFor world t request plan) → Planned new t request r
-told_plan (Ok plan) mid new t request kept served told = inl (λ h. let s = told.0 h (served (kept.honest h)) in (s, told.1 h s))
+told_plan (Ok plan) mid new t request kept served told = inl
+    (λ h. let s = told.0 h (served (kept.honest h)) in (s, told.1 h s))
 told_plan (Err fault) mid new t request kept served told = tt
 
 -- what is served is told, wherever the store stood before
-pub told_served : {R E : Type 0} (r : Result R E) (M : World → R → Type 0) (old new : Content) → Served new r M → Told old new r M
+pub told_served : {R E : Type 0} (r : Result R E) (M : World → R → Type 0) (old new : Content) → Served new r M
+    → Told old new r M
 told_served (Ok x) M old new served = ((λ h s. (served h).0), (λ h s. (served h).1))
 told_served (Err fault) M old new served = tt
 
 -- what is served of a plan
-pub served_plan : {E : Type 0} (r : Result Plan E) (new : Content) (t : ℕ) (request : Request) → Served new r (λ world plan. IsPlanFor world t request plan) → Planned new t request r
+pub served_plan : {E : Type 0} (r : Result Plan E) (new : Content) (t : ℕ) (request : Request)
+    → Served new r (λ world plan. IsPlanFor world t request plan) → Planned new t request r
 served_plan (Ok plan) new t request served = inl served
 served_plan (Err fault) new t request served = tt
 
 -- a plan that tells and flags the round of this id tells and flags that of an equal one
-flags_same : (world : World) (caller : Option Person) (asked : Action) (t : ℕ) (says : List ℕ → Reply) (set : RoundFlag) (id shown kept : List ℕ) → shown ≡ id → kept ≡ id →
-    IsAllowedPlan world caller asked t (record { reply = says id; change = change.SetRoundFlag id set; visits = None }) →
-    IsAllowedPlan world caller asked t (record { reply = says shown; change = change.SetRoundFlag kept set; visits = None })
+flags_same : (world : World) (caller : Option Person) (asked : Action) (t : ℕ) (says : List ℕ → Reply) (set : RoundFlag)
+    (id shown kept : List ℕ) → shown ≡ id → kept ≡ id →
+    IsAllowedPlan world caller asked t (record { reply = says id; change = change.SetRoundFlag id set; visits = None })
+    →
+    IsAllowedPlan world caller asked t (record {
+      reply = says shown;
+      change = change.SetRoundFlag kept set;
+      visits =
+          None;
+    })
 flags_same world caller asked t says set id shown kept same_shown same_kept plan =
-    subst (λ (x : List ℕ). IsAllowedPlan world caller asked t (record { reply = says x; change = change.SetRoundFlag kept set; visits = None })) (sym same_shown)
-    (subst (λ (x : List ℕ). IsAllowedPlan world caller asked t (record { reply = says id; change = change.SetRoundFlag x set; visits = None })) (sym same_kept) plan)
+    subst (λ (x : List ℕ). IsAllowedPlan world caller asked t
+    (record { reply = says x; change = change.SetRoundFlag kept set; visits = None })) (sym same_shown)
+    (subst (λ (x : List ℕ). IsAllowedPlan world caller asked t
+    (record { reply = says id; change = change.SetRoundFlag x set; visits = None })) (sym same_kept) plan)
 
 -- the plan of a round that is released
 pub released : (world : World) (facts : Facts) (t : ℕ) (id shown kept : List ℕ) (row : RoundRow) →
     shown ≡ id → kept ≡ id → AreTrue facts world (action.Release id) → facts.round ≡ Some row →
-    IsAllowedPlan world facts.caller (action.Release id) t (record { reply = reply.Release shown; change = change.SetRoundFlag kept flag.Released; visits = None })
+    IsAllowedPlan world facts.caller (action.Release id) t (record
+    { reply = reply.Release shown; change = change.SetRoundFlag kept flag.Released; visits = None })
 released world facts t id shown kept row same_shown same_kept told seen =
     let at : IsRoundAt world id row = subst (λ (o : Option RoundRow). IsRoundFound world (Some id) o) seen told.1.1.0 in
-    flags_same world facts.caller (action.Release id) t reply.Release flag.Released id shown kept same_shown same_kept (record {
+    flags_same world facts.caller (action.Release id) t reply.Release flag.Released id shown kept same_shown same_kept
+    (record {
       allowed = λ found. (row.round, at.head, refl, ap (with_flag world id flag.Released) at.head);
       can = (row.round, at.head);
       quiet = λ nothing. absurd nothing;
@@ -139,10 +193,12 @@ released world facts t id shown kept row same_shown same_kept told seen =
 -- the plan of a round that is published
 pub published : (world : World) (facts : Facts) (t : ℕ) (id shown kept : List ℕ) (row : RoundRow) →
     shown ≡ id → kept ≡ id → AreTrue facts world (action.Publish id) → facts.round ≡ Some row →
-    IsAllowedPlan world facts.caller (action.Publish id) t (record { reply = reply.Publish shown; change = change.SetRoundFlag kept flag.Published; visits = None })
+    IsAllowedPlan world facts.caller (action.Publish id) t (record
+    { reply = reply.Publish shown; change = change.SetRoundFlag kept flag.Published; visits = None })
 published world facts t id shown kept row same_shown same_kept told seen =
     let at : IsRoundAt world id row = subst (λ (o : Option RoundRow). IsRoundFound world (Some id) o) seen told.1.1.0 in
-    flags_same world facts.caller (action.Publish id) t reply.Publish flag.Published id shown kept same_shown same_kept (record {
+    flags_same world facts.caller (action.Publish id) t reply.Publish flag.Published id shown kept same_shown same_kept
+    (record {
       allowed = λ found. (row.round, at.head, refl, ap (with_flag world id flag.Published) at.head);
       can = (row.round, at.head);
       quiet = λ nothing. absurd nothing;
@@ -159,13 +215,17 @@ filter_alike p q same [] = refl
 filter_alike {X} p q same (x ∷ xs) = λ i. cond (same x i) (x ∷ filter_alike p q same xs i) (filter_alike p q same xs i)
 
 -- the plan of a listing of answers
-pub listing_plan : (world : World) (facts : Facts) (id : List ℕ) (t : ℕ) (person : Person) (row : RoundRow) (all shows : Bool) (lines : List AnswerLine) (plan : Plan) →
+pub listing_plan : (world : World) (facts : Facts) (id : List ℕ) (t : ℕ) (person : Person) (row : RoundRow)
+    (all shows : Bool) (lines : List AnswerLine) (plan : Plan) →
     AreTrue facts world (action.Answers id) → facts.caller ≡ Some person → facts.round ≡ Some row →
     all ≡ sees_all person row.round t → shows ≡ shows_verdict person row.round t →
-    AreLinesOf world (λ answer. same_text answer.key.round id && (all || same_text answer.key.entrant person.name)) shows lines →
-    plan ≡ record { reply = reply.Answers lines; change = Nothing; visits = None } → IsMadePlan world facts.caller (action.Answers id) t plan
+    AreLinesOf world (λ answer. same_text answer.key.round id && (all || same_text answer.key.entrant person.name))
+    shows lines →
+    plan ≡ record { reply = reply.Answers lines; change = Nothing; visits = None }
+    → IsMadePlan world facts.caller (action.Answers id) t plan
 listing_plan world facts id t person row all shows lines plan told caller found same_all same listed is =
-    let at : IsRoundAt world id row = subst (λ (o : Option RoundRow). IsRoundFound world (Some id) o) found told.1.1.0 in
+    let at : IsRoundAt world id row = subst (λ (o : Option RoundRow). IsRoundFound world (Some id) o) found
+    told.1.1.0 in
     let rows : List AnswerRow = listed.0 in
     subst (λ (p : Plan). IsMadePlan world facts.caller (action.Answers id) t p) (sym is) (record {
       found = state.New;
@@ -177,7 +237,8 @@ listing_plan world facts id t person row all shows lines plan told caller found 
             row.round,
             rows,
             at.head,
-            subst (λ (a : Bool). IsListing world (λ answer. same_text answer.key.round id && (a || same_text answer.key.entrant person.name)) rows) same_all listed.1,
+            subst (λ (a : Bool). IsListing world (λ answer. same_text answer.key.round id &&
+                (a || same_text answer.key.entrant person.name)) rows) same_all listed.1,
             ap reply.Answers (listed.2 ∙ ap (λ (s : Bool). map (answer_line s) rows) same),
           ),
           refl,

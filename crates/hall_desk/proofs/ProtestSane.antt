@@ -1,5 +1,6 @@
 -- A protest that is stored, and one that is ruled, keeps the world sane.
-use Rattle.std.proofs.Common.{◌≡◌, ◌≢◌, ◌+◌, ◌&&◌, ◌<◌, ◌≤◌, ◌⊎◌, inl, inr, ℕ, Bool, true, false, cond, List, Option, Some, None, IsTrue, refl, sym, ap, ◌∙◌, subst, arith, lit<}
+use Rattle.std.proofs.Common.{◌≡◌, ◌≢◌, ◌+◌, ◌&&◌, ◌<◌, ◌≤◌, ◌⊎◌, inl, inr, ℕ, Bool, true, false, cond, List, Option}
+use Rattle.std.proofs.Common.{Some, None, IsTrue, refl, sym, ap, ◌∙◌, subst, arith, lit<}
 use Rattle.std.specs.List.{count_by}
 use Rattle.std.specs.FinMap.{FinMap, get, insert, values}
 use Rattle.std.proofs.Math.Nat.{lt_of_not-le}
@@ -36,30 +37,45 @@ module _ (world : World) (key : ProtestKey) (row : ProtestRow) where
   new_protests = insert world.protests key row
 
   -- a protest that is found is this one, or was there before under another key
-  after_protest : (q : ProtestKey) (r : ProtestRow) → get new_protests q ≡ Some r → ((q ≡ key) × (r ≡ row)) ⊎ ((q ≢ key) × (get world.protests q ≡ Some r))
+  after_protest : (q : ProtestKey) (r : ProtestRow) → get new_protests q ≡ Some r → ((q ≡ key) × (r ≡ row))
+      ⊎ ((q ≢ key) × (get world.protests q ≡ Some r))
   after_protest q r found = found_after protest_total same_protest_keys world.protests key row q r found
 
-  module _ (own : row.key ≡ key) (in_range : IsProtestRow row) (sane : Sane world) (entrant : get world.people key.entrant ≢ None) (released : IsReleasedRound world key.round)
-      (part : MayTakePart world key.entrant key.round) (place : IsPlaceThere world key.round row.number) (settled : (round : Round) → get world.rounds key.round ≡ Some round → IsTrue round.published → row.ruling ≢ None)
+  module _ (own : row.key ≡ key) (in_range : IsProtestRow row) (sane : Sane world)
+      (entrant : get world.people key.entrant ≢ None) (released : IsReleasedRound world key.round)
+      (part : MayTakePart world key.entrant key.round) (place : IsPlaceThere world key.round row.number)
+      (settled : (round : Round) → get world.rounds key.round ≡ Some round → IsTrue round.published
+      → row.ruling ≢ None)
       (room : get world.protests key ≡ None → protests_made world key.entrant key.round < most_protests) where
-    few_new : (e r : List ℕ) → get world.protests key ≡ None → count_by (of_entrant e r) (values new_protests) ≤ most_protests
-    few_new e r none = elim (of_entrant e r row) as (λ b. of_entrant e r row ≡ b → count_by (of_entrant e r) (values new_protests) ≡ protests_made world e r + cond b 1 0 → count_by (of_entrant e r) (values new_protests) ≤ most_protests) [
-      | true ↦ λ t more.
-          let by : key.entrant ≡ e = ap (λ (k : ProtestKey). k.entrant) (sym own) ∙ (text_decides row.key.entrant e).0 (and_first (same_text row.key.entrant e) (same_text row.key.round r) t) in
-          let on : key.round ≡ r = ap (λ (k : ProtestKey). k.round) (sym own) ∙ (text_decides row.key.round r).0 (and_second (same_text row.key.entrant e) (same_text row.key.round r) t) in
-          let bound : protests_made world e r < most_protests = subst (λ (x : List ℕ). protests_made world e x < most_protests) on (subst (λ (x : List ℕ). protests_made world x key.round < most_protests) by (room none)) in
-          omega (arith, more, bound)
-      | false ↦ λ t more. omega (arith, more, sane.few_protests e r)
-    ] refl (count_by-insert_new protest_total (of_entrant e r) world.protests key row none)
+    few_new : (e r : List ℕ) → get world.protests key ≡ None → count_by (of_entrant e r) (values new_protests) ≤
+        most_protests
+    few_new e r none = elim (of_entrant e r row) as (λ b. of_entrant e r row ≡ b
+        → count_by (of_entrant e r) (values new_protests) ≡ protests_made world e r + cond b 1 0
+        → count_by (of_entrant e r) (values new_protests) ≤ most_protests) [
+          | true ↦ λ t more.
+              let by : key.entrant ≡ e = ap (λ (k : ProtestKey). k.entrant) (sym own)
+              ∙ (text_decides row.key.entrant e).0 (and_first (same_text row.key.entrant e) (same_text row.key.round r)
+              t) in
+              let on : key.round ≡ r = ap (λ (k : ProtestKey). k.round) (sym own)
+              ∙ (text_decides row.key.round r).0 (and_second (same_text row.key.entrant e) (same_text row.key.round r)
+              t) in
+              let bound : protests_made world e r < most_protests = subst
+              (λ (x : List ℕ). protests_made world e x < most_protests) on
+              (subst (λ (x : List ℕ). protests_made world x key.round < most_protests) by (room none)) in
+              omega (arith, more, bound)
+          | false ↦ λ t more. omega (arith, more, sane.few_protests e r)
+        ] refl (count_by-insert_new protest_total (of_entrant e r) world.protests key row none)
 
     few_then : (e r : List ℕ) → count_by (of_entrant e r) (values new_protests) ≤ most_protests
-    few_then e r = elim (get world.protests key) as (λ (o : Option ProtestRow). get world.protests key ≡ o → count_by (of_entrant e r) (values new_protests) ≤ most_protests) [
-      | None ↦ λ none. few_new e r none
-      | Some old ↦ λ kept.
-          let same : row.key ≡ old.key = own ∙ sym (sane.typed.protests key old kept) in
-          let alike = count_by-insert_alike protest_total (of_entrant e r) world.protests key row old kept (ap (λ (k : ProtestKey). same_text k.entrant e && same_text k.round r) same) in
-          subst (λ n. n ≤ most_protests) (sym alike) (sane.few_protests e r)
-    ] refl
+    few_then e r = elim (get world.protests key) as (λ (o : Option ProtestRow). get world.protests key ≡ o
+        → count_by (of_entrant e r) (values new_protests) ≤ most_protests) [
+          | None ↦ λ none. few_new e r none
+          | Some old ↦ λ kept.
+              let same : row.key ≡ old.key = own ∙ sym (sane.typed.protests key old kept) in
+              let alike = count_by-insert_alike protest_total (of_entrant e r) world.protests key row old kept
+              (ap (λ (k : ProtestKey). same_text k.entrant e && same_text k.round r) same) in
+              subst (λ n. n ≤ most_protests) (sym alike) (sane.few_protests e r)
+        ] refl
 
     protest_in_range : AreRowsInRange (record world { protests = new_protests })
     protest_in_range = record {
@@ -87,7 +103,8 @@ module _ (world : World) (key : ProtestKey) (row : ProtestRow) where
         | inr h ↦ sane.typed.protests q r h.1
       ];
       keys_differ = sane.typed.keys_differ;
-      lists = λ id round found. let l = sane.typed.lists id round found in (l.0, record { head = l.1.head; list = l.1.list; testers = l.1.testers }, l.2, l.3);
+      lists = λ id round found. let l = sane.typed.lists id round found in
+          (l.0, record { head = l.1.head; list = l.1.list; testers = l.1.testers }, l.2, l.3);
       homes = sane.typed.homes;
       tester_homes = sane.typed.tester_homes;
     }
@@ -104,13 +121,15 @@ module _ (world : World) (key : ProtestKey) (row : ProtestRow) where
         | inr h ↦ sane.refers.protesters q r h.1
       ];
       protested = λ q r found. elim (after_protest q r found) [
-        | inl h ↦ subst (λ (k : ProtestKey). IsPlaceThere world k.round r.number) (sym h.0) (subst (λ (x : ProtestRow). IsPlaceThere world key.round x.number) (sym h.1) place)
+        | inl h ↦ subst (λ (k : ProtestKey). IsPlaceThere world k.round r.number) (sym h.0)
+            (subst (λ (x : ProtestRow). IsPlaceThere world key.round x.number) (sym h.1) place)
         | inr h ↦ sane.refers.protested q r h.1
       ];
     }
 
     -- this protest is no open one of a published round, and no other changes
-    ruled_then : (id : List ℕ) (round : Round) → get world.rounds id ≡ Some round → IsTrue round.published → (q : ProtestKey) (r : ProtestRow) → q.round ≡ id → get new_protests q ≡ Some r → r.ruling ≢ None
+    ruled_then : (id : List ℕ) (round : Round) → get world.rounds id ≡ Some round → IsTrue round.published
+        → (q : ProtestKey) (r : ProtestRow) → q.round ≡ id → get new_protests q ≡ Some r → r.ruling ≢ None
     ruled_then id round kept is q r of found = elim (after_protest q r found) [
       | inl h ↦
           let at : key.round ≡ id = ap (λ (k : ProtestKey). k.round) (sym h.0) ∙ of in
@@ -148,25 +167,36 @@ module _ (world : World) (key : ProtestKey) (row : ProtestRow) where
     }
 
 -- a place that is not missing is there
-has_place : (world : World) (round : List ℕ) (number : ℕ) → place_of world round number ≢ None → IsPlaceThere world round number
-has_place world round number there = elim (place_of world round number) as (λ (o : Option Entry). place_of world round number ≡ o → IsPlaceThere world round number) [
-  | None ↦ λ gone. absurd (there gone)
-  | Some entry ↦ λ at. (entry, at)
-] refl
+has_place : (world : World) (round : List ℕ) (number : ℕ) → place_of world round number ≢ None
+    → IsPlaceThere world round number
+has_place world round number there = elim (place_of world round number) as
+    (λ (o : Option Entry). place_of world round number ≡ o → IsPlaceThere world round number) [
+      | None ↦ λ gone. absurd (there gone)
+      | Some entry ↦ λ at. (entry, at)
+    ] refl
 
--- a Protest keeps the world sane: its rules deny a draft, a number without a place, a published round and a sixth protest
-pub protest_step : (world : World) (caller : Option Person) (id token : List ℕ) (number : ℕ) (text : List ℕ) (t : ℕ) (found : PuzzleState) (given : Reply) (new : World) → Sane world →
-    ((person : Person) → caller ≡ Some person → get world.people person.name ≡ Some person) → IsAction (action.Protest id token number text) →
-    NoneDecides world caller (action.Protest id token number text) t → Allowed world caller (action.Protest id token number text) t found given new → Sane new
+-- a Protest keeps the world sane: its rules deny a draft, a number without a place, a published round and a sixth
+-- protest
+pub protest_step : (world : World) (caller : Option Person) (id token : List ℕ) (number : ℕ) (text : List ℕ) (t : ℕ)
+    (found : PuzzleState) (given : Reply) (new : World) → Sane world →
+    ((person : Person) → caller ≡ Some person → get world.people person.name ≡ Some person)
+    → IsAction (action.Protest id token number text) →
+    NoneDecides world caller (action.Protest id token number text) t
+    → Allowed world caller (action.Protest id token number text) t found given new → Sane new
 protest_step world caller id token number text t found given new sane there asked none (person, is, (reply, made)) =
     let row : ProtestRow = open_protest person id token number text in
     let in_range : IsProtestRow row = record {
-      key = record { entrant = (sane.typed.in_range.people person.name person (there person is)).name; round = asked.0; token = asked.1 };
+      key = record {
+        entrant = (sane.typed.in_range.people person.name person (there person is)).name;
+        round = asked.0;
+        token = asked.1;
+      };
       number = asked.2;
       text = asked.3;
       ruling = tt;
     } in
-    let released = released_found world caller (action.Protest id token number text) id refl (λ missing. (none rule.Missing (lit< tt)).0 ((2, lit< tt, refl), inl missing)) in
+    let released = released_found world caller (action.Protest id token number text) id refl
+    (λ missing. (none rule.Missing (lit< tt)).0 ((2, lit< tt, refl), inl missing)) in
     subst Sane (sym made)
     (protest_sane world row.key row refl in_range sane
     (λ gone. let no : Some person ≡ None = sym (there person is) ∙ gone in cc)
@@ -175,12 +205,15 @@ protest_step world caller id token number text t found given new sane there aske
     (λ lacks. (none rule.NoRole (lit< tt)).0 ((1, lit< tt, refl), lacks))
     (λ reads. reads) (λ own. (none rule.OwnPuzzle (lit< tt)).0 ((3, lit< tt, refl), own)))
     (has_place world id number (λ gone. (none rule.Missing (lit< tt)).0 ((2, lit< tt, refl), inr gone)))
-    (λ round kept published _. (none rule.Published (lit< tt)).0 ((7, lit< tt, refl), (id, round, refl, kept, published)))
+    (λ round kept published _. (none rule.Published (lit< tt)).0
+    ((7, lit< tt, refl), (id, round, refl, kept, published)))
     (λ _. lt_of_not-le (λ many. (none rule.LimitReached (lit< tt)).0 ((8, lit< tt, refl), (person, is, many)))))
 
 -- a Rule keeps the world sane: it closes a protest that stands, whoever made it
-pub rule_step : (world : World) (caller : Option Person) (id entrant token : List ℕ) (ruling : Ruling) (t : ℕ) (found : PuzzleState) (given : Reply) (new : World) → Sane world →
-    IsAction (action.RuleProtest id entrant token ruling) → Allowed world caller (action.RuleProtest id entrant token ruling) t found given new → Sane new
+pub rule_step : (world : World) (caller : Option Person) (id entrant token : List ℕ) (ruling : Ruling) (t : ℕ)
+    (found : PuzzleState) (given : Reply) (new : World) → Sane world →
+    IsAction (action.RuleProtest id entrant token ruling) → Allowed world caller
+    (action.RuleProtest id entrant token ruling) t found given new → Sane new
 rule_step world caller id entrant token ruling t found given new sane asked (row, kept, reply, made) =
     let key : ProtestKey = record { entrant = entrant; round = id; token = token } in
     let ruled : ProtestRow = record row { ruling = Some ruling } in

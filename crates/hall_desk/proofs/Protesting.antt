@@ -18,13 +18,17 @@ use Rattle.hall_desk.specs.declared.protest.Protest.{Protest}
 use Rattle.hall_desk.specs.declared.reply.Reply.TheVariants as reply
 
 -- the protest's row may be stored, and makes the plan
-pub protested : (world : World) (facts : Facts) (asked : Protest) (person : Person) (t : ℕ) (plan : Plan) → facts.caller ≡ Some person →
-    facts.protest ≡ None → PlaceIsThere facts (protest_action asked) asked.number → AreTrue facts world (protest_action asked) → IsThere world facts.caller →
-    plan.reply ≡ reply.Protest asked.token.now → plan.change ≡ AddProtest (protest_row person asked) → IsMadePlan world facts.caller (protest_action asked) t plan
+pub protested : (world : World) (facts : Facts) (asked : Protest) (person : Person) (t : ℕ) (plan : Plan)
+    → facts.caller ≡ Some person →
+    facts.protest ≡ None → PlaceIsThere facts (protest_action asked) asked.number
+    → AreTrue facts world (protest_action asked) → IsThere world facts.caller →
+    plan.reply ≡ reply.Protest asked.token.now → plan.change ≡ AddProtest (protest_row person asked)
+    → IsMadePlan world facts.caller (protest_action asked) t plan
 protested world facts asked person t plan caller fresh place told there replied changes =
     let id : List ℕ = asked.round.now in
     let row : RoundRow = place.round.row in
-    let at : IsRoundAt world id row = subst (λ (found : Option RoundRow). IsRoundFound world (Some id) found) place.round.found told.1.1.0 in
+    let at : IsRoundAt world id row = subst (λ (found : Option RoundRow). IsRoundFound world (Some id) found)
+    place.round.found told.1.1.0 in
     let given : CanAddProtest world (protest_row person asked) = record {
       fresh = sym (told.1.1.1.1.0.1 person caller) ∙ fresh;
       entrant = (person, subst (λ (who : Option Person). IsThere world who) caller there);

@@ -23,25 +23,30 @@ use Rattle.hall_desk.proofs.PlanLemmas.{planned}
 abbrev pub answering : Reply → Plan
 answering given = record { reply = given; change = Nothing; visits = None }
 
-module _ (old mid : Content) (facts : Facts) (t : ℕ) (request : Request) (caller : Asks old (λ world. IsCaller world request.key facts.caller))
-    (kept : Kept old mid) (serves : mid.honest → mid.serves) (found : mid.honest → AreTrue facts mid.world request.action)
+module _ (old mid : Content) (facts : Facts) (t : ℕ) (request : Request)
+    (caller : Asks old (λ world. IsCaller world request.key facts.caller))
+    (kept : Kept old mid) (serves : mid.honest → mid.serves)
+    (found : mid.honest → AreTrue facts mid.world request.action)
     (decision : Decision) (decided : IsDecidedUpTo last_rule facts request.action t decision) where
   -- the caller was found before
   caller_there : mid.honest → IsCaller mid.world request.key facts.caller
   caller_there h = carried (λ w. IsCaller w request.key facts.caller) old mid kept caller h (serves h)
 
   -- it is denied
-  pub denied_plan : (rule : ℕ) (plan : Plan) → decision ≡ Deny rule → plan ≡ answering (reply.Denied rule) → mid.honest → mid.serves × IsPlanFor mid.world t request plan
+  pub denied_plan : (rule : ℕ) (plan : Plan) → decision ≡ Deny rule → plan ≡ answering (reply.Denied rule) → mid.honest
+      → mid.serves × IsPlanFor mid.world t request plan
   denied_plan rule plan denied made h = (
     serves h,
     subst (λ (p : Plan). IsPlanFor mid.world t request p) (sym made)
         (planned facts mid.world t request (Deny rule) (reply.Denied rule) Nothing None (caller_there h)
-        (subst (λ (d : Decision). IsDecided mid.world facts request.action t d) denied (decided mid.world (found h))) state.GaveUp (refl, refl) tt (λ _. refl) (λ allowed. absurd (cc))),
+        (subst (λ (d : Decision). IsDecided mid.world facts request.action t d) denied (decided mid.world (found h)))
+        state.GaveUp (refl, refl) tt (λ _. refl) (λ allowed. absurd (cc))),
   )
 
   -- it is answered
   pub read_plan : (new : Content) (given : Reply) (plan : Plan) → decision ≡ Allow → Kept mid new →
-      (new.honest → new.serves × (Allowed new.world facts.caller request.action t state.GaveUp given new.world × HasSearched new.world request.action (answering given))) →
+      (new.honest → new.serves × (Allowed new.world facts.caller request.action t state.GaveUp given new.world
+      × HasSearched new.world request.action (answering given))) →
       plan ≡ answering given → new.honest → new.serves × IsPlanFor new.world t request plan
   read_plan new given plan allowed left served made h =
       let s : new.serves = (served h).0 in (
@@ -50,6 +55,7 @@ module _ (old mid : Content) (facts : Facts) (t : ℕ) (request : Request) (call
             (planned facts new.world t request Allow given Nothing None
             (carried (λ w. IsCaller w request.key facts.caller) mid new left (λ h0 s0. caller_there h0) h s)
             (carried (λ w. IsDecided w facts request.action t Allow) mid new left
-            (λ h0 s0. subst (λ (d : Decision). IsDecided mid.world facts request.action t d) allowed (decided mid.world (found h0))) h s)
+            (λ h0 s0. subst (λ (d : Decision). IsDecided mid.world facts request.action t d) allowed
+            (decided mid.world (found h0))) h s)
             state.GaveUp (served h).1.0 tt (λ _. refl) (λ _. (served h).1.1)),
       )

@@ -23,7 +23,8 @@ use Rattle.hall_desk.specs.declared.reply.ShownRound.{ShownRound}
 use Rattle.hall_desk.proofs.ReadPlans.{answering, denied_plan, read_plan}
 use Rattle.hall_desk.proofs.Telling.{read_told}
 
-module _ (old mid : Content) (facts : Facts) (t : ℕ) (request : Request) (id : List ℕ) (is : request.action ≡ ReadRound id)
+module _ (old mid : Content) (facts : Facts) (t : ℕ) (request : Request) (id : List ℕ)
+    (is : request.action ≡ ReadRound id)
     (caller : Asks old (λ world. IsCaller world request.key facts.caller)) (kept : Kept old mid)
     (read : mid.honest → mid.serves × IsRoundKept mid.world id facts.round) where
   -- what the rules read was found
@@ -32,7 +33,8 @@ module _ (old mid : Content) (facts : Facts) (t : ℕ) (request : Request) (id :
 
   module _ (decision : Decision) (decided : IsDecidedUpTo last_rule facts request.action t decision) where
     -- a round that isn't read
-    pub round_denied : (rule : ℕ) (plan : Plan) → decision ≡ Deny rule → plan ≡ answering (reply.Denied rule) → mid.honest → mid.serves × IsPlanFor mid.world t request plan
+    pub round_denied : (rule : ℕ) (plan : Plan) → decision ≡ Deny rule → plan ≡ answering (reply.Denied rule)
+        → mid.honest → mid.serves × IsPlanFor mid.world t request plan
     round_denied = denied_plan old mid facts t request caller kept (λ h. (read h).0) found decision decided
 
     -- a round that is read
@@ -40,15 +42,21 @@ module _ (old mid : Content) (facts : Facts) (t : ℕ) (request : Request) (id :
         (new.honest → new.serves × IsShownAt new.world id shown) → plan ≡ answering (reply.ReadRound shown) →
         new.honest → new.serves × IsPlanFor new.world t request plan
     round_planned new shown plan allowed left served =
-        read_plan old mid facts t request caller kept (λ h. (read h).0) found decision decided new (reply.ReadRound shown) plan allowed left (λ h.
+        read_plan old mid facts t request caller kept (λ h. (read h).0) found decision decided new
+        (reply.ReadRound shown) plan allowed left (λ h.
         let at = (served h).1 in (
           (served h).0,
           (
-            subst (λ (a : Action). Allowed new.world facts.caller a t state.GaveUp (reply.ReadRound shown) new.world) (sym is) ((at.0, shown, at.1, at.2, refl), refl),
+            subst (λ (a : Action). Allowed new.world facts.caller a t state.GaveUp (reply.ReadRound shown) new.world)
+                (sym is) ((at.0, shown, at.1, at.2, refl), refl),
             subst (λ (a : Action). HasSearched new.world a (answering (reply.ReadRound shown))) (sym is) tt,
           ),
         ))
 
     -- the row of a round that is read
     pub round_there : (row : RoundRow) → facts.round ≡ Some row → mid.honest → mid.serves × IsRoundAt mid.world id row
-    round_there row seen h = ((read h).0, subst (λ (o : Option RoundRow). IsRoundFound mid.world (Some id) o) seen (read h).1.row)
+    round_there row seen h = (
+      (read h).0,
+      subst (λ (o : Option RoundRow). IsRoundFound mid.world (Some id) o) seen
+          (read h).1.row,
+    )

@@ -17,15 +17,23 @@ use Rattle.hall_desk.specs.declared.reply.Reply.TheVariants as reply
 use Rattle.hall_desk.specs.declared.rule_protest.RuleProtest.{RuleProtest}
 
 -- the protest may be ruled, and its ruling makes the plan
-pub ruled : (world : World) (facts : Facts) (asked : RuleProtest) (t : ℕ) (plan : Plan) → ProtestIsThere facts (rule_protest_action asked) →
-    AreTrue facts world (rule_protest_action asked) → plan.reply ≡ reply.RuleProtest asked.ruling → plan.change ≡ change.RuleProtest (ruled_key asked) asked.ruling →
+pub ruled : (world : World) (facts : Facts) (asked : RuleProtest) (t : ℕ) (plan : Plan)
+    → ProtestIsThere facts (rule_protest_action asked) →
+    AreTrue facts world (rule_protest_action asked) → plan.reply ≡ reply.RuleProtest asked.ruling
+    → plan.change ≡ change.RuleProtest (ruled_key asked) asked.ruling →
     IsMadePlan world facts.caller (rule_protest_action asked) t plan
 ruled world facts asked t plan there told replied changes =
     let row : ProtestRow = there.row in
     let kept : get world.protests (ruled_key asked) ≡ Some row = sym told.1.1.0.1 ∙ there.found in
     record {
       found = state.New;
-      allowed = (row, kept, replied, ap (λ (change : Change). changed change world) changes ∙ ap (with_ruling world (ruled_key asked) asked.ruling) kept);
+      allowed = (
+        row,
+        kept,
+        replied,
+        ap (λ (change : Change). changed change world) changes
+            ∙ ap (with_ruling world (ruled_key asked) asked.ruling) kept,
+      );
       can = subst (λ (change : Change). CanMake change world) (sym changes) (row, kept);
       quiet = λ nothing. absurd nothing;
       searched = tt;

@@ -1,5 +1,6 @@
 -- What a scan from the front finds is what the world has.
-use Rattle.std.proofs.Common.{◌≡◌, ◌≢◌, ◌↔◌, ◌&&◌, ◌==◌, IsTrue, is_some, ℕ, Bool, true, false, cond, List, [], ◌∷◌, map, find, Option, Some, None, Decides, refl, sym, ap, ◌∙◌, subst}
+use Rattle.std.proofs.Common.{◌≡◌, ◌≢◌, ◌↔◌, ◌&&◌, ◌==◌, IsTrue, is_some, ℕ, Bool, true, false, cond, List, [], ◌∷◌}
+use Rattle.std.proofs.Common.{map, find, Option, Some, None, Decides, refl, sym, ap, ◌∙◌, subst}
 use Rattle.std.specs.Cmp.{IsTotalOrder, tied_itself, unsigned_Decides}
 use Rattle.std.specs.Ordering.{is_eq}
 use Rattle.std.specs.declared.cmp.Ordering.{Ordering}
@@ -19,51 +20,64 @@ module _ {K : Type 0} {R : K → K → Ordering} (o : IsTotalOrder R) (same : Is
   -- keys tie where they are one
   pub tied : (a q : K) (s : Bool) → Decides s (a ≡ q) → is_eq (R q a) ≡ s
   tied a q true d = subst (λ (x : K). is_eq (R q x) ≡ true) (sym (d.0 refl)) (ap is_eq (tied_itself o q))
-  tied a q false d = not_true (is_eq (R q a)) (λ tie. let no : false ≡ true = d.1 (sym (same q a (equal_from_test (R q a) tie))) in absurd (cc))
+  tied a q false d = not_true (is_eq (R q a)) (λ tie. let no : false ≡ true = d.1
+      (sym (same q a (equal_from_test (R q a) tie))) in absurd (cc))
 
 module _ {K X : Type 0} {R : K → K → Ordering} (o : IsTotalOrder R) (same : IsAntisymmetric R) where
-  scanned : (key_of : X → K) (test : X → Bool) (q : K) → ((x : X) → Decides (test x) (key_of x ≡ q)) → (xs : List X) → find test xs ≡ lookup (is_at (R q)) (map (λ x. (key_of x, x)) xs)
+  scanned : (key_of : X → K) (test : X → Bool) (q : K) → ((x : X) → Decides (test x) (key_of x ≡ q)) → (xs : List X)
+      → find test xs ≡ lookup (is_at (R q)) (map (λ x. (key_of x, x)) xs)
   scanned key_of test q d [] = refl
   scanned key_of test q d (x ∷ xs) =
       ap (λ b. cond b (Some x) (find test xs)) (sym (tied o same (key_of x) q (test x) (d x)))
       ∙ ap (cond (is_at (R q) (key_of x)) (Some x)) (scanned key_of test q d xs)
 
   -- the first row whose key it is, is what the map of the rows has there
-  pub scan_get : (key_of : X → K) (test : X → Bool) (q : K) → ((x : X) → Decides (test x) (key_of x ≡ q)) → (xs : List X) → find test xs ≡ get (from_entries {R = R} (map (λ x. (key_of x, x)) xs)) q
+  pub scan_get : (key_of : X → K) (test : X → Bool) (q : K) → ((x : X) → Decides (test x) (key_of x ≡ q))
+      → (xs : List X) → find test xs ≡ get (from_entries {R = R} (map (λ x. (key_of x, x)) xs)) q
   scan_get key_of test q d xs = scanned key_of test q d xs ∙ sym (get_found o (map (λ x. (key_of x, x)) xs) q)
 
-  scanned_entries : (test : K × X → Bool) (q : K) → ((e : K × X) → Decides (test e) (e.0 ≡ q)) → (es : List (K × X)) → option_map (λ e. e.1) (find test es) ≡ lookup (is_at (R q)) es
+  scanned_entries : (test : K × X → Bool) (q : K) → ((e : K × X) → Decides (test e) (e.0 ≡ q)) → (es : List (K × X))
+      → option_map (λ e. e.1) (find test es) ≡ lookup (is_at (R q)) es
   scanned_entries test q d [] = refl
   scanned_entries test q d (e ∷ es) =
-      elim (test e) as (λ b. test e ≡ b → option_map (λ (x : K × X). x.1) (cond b (Some e) (find test es)) ≡ cond (is_at (R q) e.0) (Some e.1) (lookup (is_at (R q)) es)) [
+      elim (test e) as (λ b. test e ≡ b → option_map (λ (x : K × X). x.1) (cond b (Some e) (find test es)) ≡ cond
+      (is_at (R q) e.0) (Some e.1) (lookup (is_at (R q)) es)) [
         | true ↦ λ t. ap (λ b. cond b (Some e.1) (lookup (is_at (R q)) es)) (sym (tied o same e.0 q (test e) (d e) ∙ t))
-        | false ↦ λ t. scanned_entries test q d es ∙ ap (λ b. cond b (Some e.1) (lookup (is_at (R q)) es)) (sym (tied o same e.0 q (test e) (d e) ∙ t))
+        | false ↦ λ t. scanned_entries test q d es ∙ ap (λ b. cond b (Some e.1) (lookup (is_at (R q)) es))
+            (sym (tied o same e.0 q (test e) (d e) ∙ t))
       ] refl
 
   -- the same of rows that stand with their keys
-  pub scan_entries : (test : K × X → Bool) (q : K) → ((e : K × X) → Decides (test e) (e.0 ≡ q)) → (es : List (K × X)) → option_map (λ e. e.1) (find test es) ≡ get (from_entries {R = R} es) q
+  pub scan_entries : (test : K × X → Bool) (q : K) → ((e : K × X) → Decides (test e) (e.0 ≡ q)) → (es : List (K × X))
+      → option_map (λ e. e.1) (find test es) ≡ get (from_entries {R = R} es) q
   scan_entries test q d es = scanned_entries test q d es ∙ sym (get_found o es q)
 
 -- two places are one where their rounds and their numbers are
 pub place_decides : (a b : PlaceKey) → Decides (same_text a.round b.round && (a.number == b.number)) (a ≡ b)
 place_decides a b = (
   (λ h.
-      let round : a.round ≡ b.round = (text_decides a.round b.round).0 (and_first (same_text a.round b.round) (a.number == b.number) h) in
-      let number : a.number ≡ b.number = (unsigned_Decides a.number b.number).0 (and_second (same_text a.round b.round) (a.number == b.number) h) in
+      let round : a.round ≡ b.round = (text_decides a.round b.round).0
+      (and_first (same_text a.round b.round) (a.number == b.number) h) in
+      let number : a.number ≡ b.number = (unsigned_Decides a.number b.number).0
+      (and_second (same_text a.round b.round) (a.number == b.number) h) in
       λ i. record { round = round i; number = number i }),
   (λ e. and_both (same_text a.round b.round) (a.number == b.number)
-      ((text_decides a.round b.round).1 (ap (λ (k : PlaceKey). k.round) e)) ((unsigned_Decides a.number b.number).1 (ap (λ (k : PlaceKey). k.number) e))),
+      ((text_decides a.round b.round).1 (ap (λ (k : PlaceKey). k.round) e))
+      ((unsigned_Decides a.number b.number).1 (ap (λ (k : PlaceKey). k.number) e))),
 )
 
 -- so are two testers, where their rounds and their names are
 pub tester_decides : (a b : TesterKey) → Decides (same_text a.round b.round && same_text a.name b.name) (a ≡ b)
 tester_decides a b = (
   (λ h.
-      let round : a.round ≡ b.round = (text_decides a.round b.round).0 (and_first (same_text a.round b.round) (same_text a.name b.name) h) in
-      let name : a.name ≡ b.name = (text_decides a.name b.name).0 (and_second (same_text a.round b.round) (same_text a.name b.name) h) in
+      let round : a.round ≡ b.round = (text_decides a.round b.round).0
+      (and_first (same_text a.round b.round) (same_text a.name b.name) h) in
+      let name : a.name ≡ b.name = (text_decides a.name b.name).0
+      (and_second (same_text a.round b.round) (same_text a.name b.name) h) in
       λ i. record { round = round i; name = name i }),
   (λ e. and_both (same_text a.round b.round) (same_text a.name b.name)
-      ((text_decides a.round b.round).1 (ap (λ (k : TesterKey). k.round) e)) ((text_decides a.name b.name).1 (ap (λ (k : TesterKey). k.name) e))),
+      ((text_decides a.round b.round).1 (ap (λ (k : TesterKey). k.round) e))
+      ((text_decides a.name b.name).1 (ap (λ (k : TesterKey). k.name) e))),
 )
 
 -- a look-up answers something exactly where there is something
@@ -72,6 +86,10 @@ some_is_there None kept e = ((λ is. let no : false ≡ true = is in absurd (cc)
 some_is_there (Some x) kept e = ((λ _ none. let no : Some x ≡ None = e ∙ none in cc), (λ _. refl))
 
 -- the same of a part of what is borrowed
-pub some_copied : {X Y Z : Type 0} (f : X → Y) (g : Y → Z) (found : Option X) (told : Bool) (kept : Option Z) → told ≡ is_some found → option_map g (option_map f found) ≡ kept → IsTrue told ↔ (kept ≢ None)
-some_copied f g None told kept is e = ((λ t. let no : false ≡ true = sym is ∙ t in absurd (cc)), (λ there. absurd (there (sym e))))
+pub some_copied : {X Y Z : Type 0} (f : X → Y) (g : Y → Z) (found : Option X) (told : Bool) (kept : Option Z)
+    → told ≡ is_some found → option_map g (option_map f found) ≡ kept → IsTrue told ↔ (kept ≢ None)
+some_copied f g None told kept is e = (
+  (λ t. let no : false ≡ true = sym is ∙ t in absurd (cc)),
+  (λ there. absurd (there (sym e))),
+)
 some_copied f g (Some x) told kept is e = ((λ _ none. let no : Some (g (f x)) ≡ None = e ∙ none in cc), (λ _. is))

@@ -27,14 +27,17 @@ use Rattle.hall_desk.proofs.ImportSane.{people_sane}
 use Rattle.hall_desk.proofs.Stepping.{committed, quiet_commit}
 
 -- where nobody contradicts what is known, the plan that imports is that of the people
-pub seed_plan : (world : World) (people : List Person) (plan : Plan) → ¬ (HasConflict world (Import people)) → IsImportPlan world people plan → IsSeedPlan world people plan
+pub seed_plan : (world : World) (people : List Person) (plan : Plan) → ¬ (HasConflict world (Import people))
+    → IsImportPlan world people plan → IsSeedPlan world people plan
 seed_plan world people plan clear is = record {
   seeded = inr (inr (clear, (is.counted, ap (λ (c : Change). changed c world) is.change)));
-  can = subst (λ (c : Change). CanMake c world) (sym is.change) (λ person among conflict. clear (person, among, conflict));
+  can = subst (λ (c : Change). CanMake c world) (sym is.change)
+      (λ person among conflict. clear (person, among, conflict));
 }
 
 -- and it is that of an Import that is allowed
-pub import_plan : (world : World) (facts : Facts) (t : ℕ) (people : List Person) (plan : Plan) → AreTrue facts world (Import people) → facts.conflict ≡ false →
+pub import_plan : (world : World) (facts : Facts) (t : ℕ) (people : List Person) (plan : Plan)
+    → AreTrue facts world (Import people) → facts.conflict ≡ false →
     IsImportPlan world people plan → IsMadePlan world facts.caller (Import people) t plan
 import_plan world facts t people plan told clear is = record {
   found = state.New;
@@ -54,15 +57,18 @@ seed_fails (Err e) people planned new (inr is) idle cause =
     λ failed. inr (subst (λ (c : Change). new.can_refuse c) is (cause failed))
 
 -- a store that has made a plan's change served before it, and so it did where a plan without one was asked of it
-pub seeded_serves : {R : Type 0} (E : Type 0) (mid new : Content) (change : Change) (done : R) → (change ≡ Nothing → mid.honest → mid.serves) → Leads mid new
+pub seeded_serves : {R : Type 0} (E : Type 0) (mid new : Content) (change : Change) (done : R)
+    → (change ≡ Nothing → mid.honest → mid.serves) → Leads mid new
     → (change ≡ Nothing) ⊎ MakesInWorld {E = E} change mid new (Ok done) → new.honest → mid.serves
 seeded_serves E mid new change done asked leads (inl none) h = asked none (leads.honest h)
 seeded_serves E mid new change done asked leads (inr made) h = leads.serves h (made h).0
 
 -- a plan that was made over a store, and its change made there
-pub planned_seed : (old mid new : Content) (people : List Person) (plan : Plan) (given : Reply) → Kept old mid → (new.honest → mid.serves) →
+pub planned_seed : (old mid new : Content) (people : List Person) (plan : Plan) (given : Reply) → Kept old mid
+    → (new.honest → mid.serves) →
     (mid.honest → mid.serves → IsSeedPlan mid.world people plan) → Leads mid new → given ≡ plan.reply →
-    (new.honest → mid.serves → new.serves × (new.world ≡ changed plan.change mid.world)) → new.honest → Seeds old people given new
+    (new.honest → mid.serves → new.serves × (new.world ≡ changed plan.change mid.world)) → new.honest
+    → Seeds old people given new
 planned_seed old mid new people plan given kept opened made leads told done h =
     let before = leads.honest h in
     let serves = opened h in
@@ -75,34 +81,45 @@ planned_seed old mid new people plan given kept opened made leads told done h =
           (subst (λ (w : World). Seed mid.world people plan.reply w) (sym after.1) (made before serves).seeded)),
     )
 
-module _ {S : Type 0} (content : S → Content) (old : Content) (mid new : S) (people : List Person) (plan : Plan) (kept : Kept old (content mid))
+module _ {S : Type 0} (content : S → Content) (old : Content) (mid new : S) (people : List Person) (plan : Plan)
+    (kept : Kept old (content mid))
     (leads : Leads (content mid) (content new)) where
   -- the commit was asked, and makes the plan's seed
-  pub seed_made : {E : Type 0} (result : Result Reply E) → (plan.change ≡ Nothing → (content mid).honest → (content mid).serves)
+  pub seed_made : {E : Type 0} (result : Result Reply E) → (plan.change ≡ Nothing → (content mid).honest
+      → (content mid).serves)
       → ((content mid).honest → (content mid).serves → IsSeedPlan (content mid).world people plan)
-      → (plan.change ≡ Nothing → IsOk result × (new ≡ mid)) → (plan.change ≡ Nothing) ⊎ MakesInWorld plan.change (content mid) (content new) result
-      → IfOk result (λ reply. reply ≡ plan.reply) → IfOk result (λ reply. (content new).honest → Seeds old people reply (content new))
+      → (plan.change ≡ Nothing → IsOk result × (new ≡ mid)) → (plan.change ≡ Nothing)
+      ⊎ MakesInWorld plan.change (content mid) (content new) result
+      → IfOk result (λ reply. reply ≡ plan.reply) → IfOk result
+      (λ reply. (content new).honest → Seeds old people reply (content new))
   seed_made {E} (Ok reply) asked told nothing made is =
-      planned_seed old (content mid) (content new) people plan reply kept (seeded_serves E (content mid) (content new) plan.change reply asked leads made) told leads is
+      planned_seed old (content mid) (content new) people plan reply kept
+      (seeded_serves E (content mid) (content new) plan.change reply asked leads made) told leads is
       (committed E content mid new plan.change reply (λ none. (nothing none).1) made)
   seed_made (Err fault) asked told nothing made is = tt
 
   -- or is refused, and leaves the world
-  pub seed_refused : {R E : Type 0} (result : Result R E) → (plan.change ≡ Nothing → IsOk result) → (plan.change ≡ Nothing) ⊎ MakesInWorld plan.change (content mid) (content new) result
+  pub seed_refused : {R E : Type 0} (result : Result R E) → (plan.change ≡ Nothing → IsOk result)
+      → (plan.change ≡ Nothing) ⊎ MakesInWorld plan.change (content mid) (content new) result
       → OnErr result (KeptWorld old (content new))
   seed_refused (Ok done) nothing made = tt
   seed_refused (Err fault) nothing (inl none) = absurd (let no = nothing none in cc)
   seed_refused (Err fault) nothing (inr made) = λ h s. made h s ∙ kept.world (leads.honest h) (leads.serves h s)
 
   -- a denial makes no write
-  pub seed_quiet : {E : Type 0} (result : Result Reply E) → (plan.reply ≡ Denied 20 → plan.change ≡ Nothing) → (plan.change ≡ Nothing → new ≡ mid)
-      → IfOk result (λ reply. reply ≡ plan.reply) → IfOk result (λ reply. reply ≡ Denied 20 → (content new).writes ≤ old.writes)
-  seed_quiet (Ok reply) denied nothing is = λ e. quiet_commit content old mid new plan kept nothing (denied (sym is ∙ e))
+  pub seed_quiet : {E : Type 0} (result : Result Reply E) → (plan.reply ≡ Denied 20 → plan.change ≡ Nothing)
+      → (plan.change ≡ Nothing → new ≡ mid)
+      → IfOk result (λ reply. reply ≡ plan.reply) → IfOk result
+      (λ reply. reply ≡ Denied 20 → (content new).writes ≤ old.writes)
+  seed_quiet (Ok reply) denied nothing is = λ e. quiet_commit content old mid new plan kept nothing
+      (denied (sym is ∙ e))
   seed_quiet (Err fault) denied nothing is = tt
 
   -- what a stop leaves
-  pub seed_stops : ((content mid).honest → old.serves → (content mid).serves) → ((content mid).honest → (content mid).serves → IsSeedPlan (content mid).world people plan)
-      → ((content mid).serves → LeavesOneOf (λ before left. left ≡ changed plan.change before) (content mid) (content new)) → StopsInSeed old people (content new)
+  pub seed_stops : ((content mid).honest → old.serves → (content mid).serves)
+      → ((content mid).honest → (content mid).serves → IsSeedPlan (content mid).world people plan)
+      → ((content mid).serves → LeavesOneOf (λ before left. left ≡ changed plan.change before) (content mid)
+      (content new)) → StopsInSeed old people (content new)
   seed_stops opened told stops was h left may =
       let before = leads.honest h in
       let serves = opened before was in
@@ -114,25 +131,30 @@ module _ {S : Type 0} (content : S → Content) (old : Content) (mid new : S) (p
               (
                 plan.reply,
                 subst (λ (w : World). Seed w people plan.reply left) (kept.world before serves)
-                    (subst (λ (w : World). Seed (content mid).world people plan.reply w) (sym made.1) (told before serves).seeded),
+                    (subst (λ (w : World). Seed (content mid).world people plan.reply w) (sym made.1)
+                    (told before serves).seeded),
               ),
             )
       ]
 
 -- what a commit answers is the plan's reply
-pub seed_answered : {E : Type 0} (result : Result Reply E) (plan : Plan) → IsSeedReply plan.reply → IfOk result (λ reply. reply ≡ plan.reply) → IfOk result IsSeedReply
+pub seed_answered : {E : Type 0} (result : Result Reply E) (plan : Plan) → IsSeedReply plan.reply
+    → IfOk result (λ reply. reply ≡ plan.reply) → IfOk result IsSeedReply
 seed_answered (Ok reply) plan is same = subst IsSeedReply (sym same) is
 seed_answered (Err fault) plan is same = tt
 
 -- it keeps a sane world
-pub seed_sane : (world : World) (people : List Person) (given : Reply) (new : World) → ArePeople people → All IsPerson people → Seed world people given new → Sane world → Sane new
+pub seed_sane : (world : World) (people : List Person) (given : Reply) (new : World) → ArePeople people
+    → All IsPerson people → Seed world people given new → Sane world → Sane new
 seed_sane world people given new are each (inl h) sane = subst Sane (sym h.1) sane
 seed_sane world people given new are each (inr (inl h)) sane = subst Sane (sym h.2) sane
 seed_sane world people given new are each (inr (inr h)) sane =
-    subst Sane (sym h.1.1) (people_sane world people sane are.different each (λ person among conflict. h.0 (person, among, conflict)))
+    subst Sane (sym h.1.1) (people_sane world people sane are.different each
+    (λ person among conflict. h.0 (person, among, conflict)))
 
 -- what was made of the people over a store keeps its world sane
-pub seed_sane_over : (old new : Content) (people : List Person) (given : Reply) → ArePeople people → All IsPerson people → Leads old new → new.honest → new.serves →
+pub seed_sane_over : (old new : Content) (people : List Person) (given : Reply) → ArePeople people → All IsPerson people
+    → Leads old new → new.honest → new.serves →
     Seeds old people given new → Sane old.world → Sane new.world
 seed_sane_over old new people given are each leads h s seeds sane = elim seeds [
   | inl kept ↦ subst Sane (sym (kept.1 s)) sane
@@ -140,7 +162,10 @@ seed_sane_over old new people given are each leads h s seeds sane = elim seeds [
 ]
 
 -- so it does where it was answered
-pub seeds_sane : {E : Type 0} (result : Result Reply E) (old new : Content) (people : List Person) → ArePeople people → All IsPerson people → Leads old new
-    → OnErr result (KeptWorld old new) → IfOk result (λ reply. new.honest → Seeds old people reply new) → new.honest → new.serves → Sane old.world → Sane new.world
-seeds_sane (Ok reply) old new people are each leads left seeds h s sane = seed_sane_over old new people reply are each leads h s (seeds h) sane
+pub seeds_sane : {E : Type 0} (result : Result Reply E) (old new : Content) (people : List Person) → ArePeople people
+    → All IsPerson people → Leads old new
+    → OnErr result (KeptWorld old new) → IfOk result (λ reply. new.honest → Seeds old people reply new) → new.honest
+    → new.serves → Sane old.world → Sane new.world
+seeds_sane (Ok reply) old new people are each leads left seeds h s sane = seed_sane_over old new people reply are each
+    leads h s (seeds h) sane
 seeds_sane (Err fault) old new people are each leads left seeds h s sane = subst Sane (sym (left h s)) sane

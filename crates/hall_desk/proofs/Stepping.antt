@@ -13,9 +13,11 @@ use Rattle.hall_desk.specs.declared.reply.Reply.TheVariants.{Unavailable}
 use Rattle.hall_desk.specs.declared.plan.Plan.{Plan}
 
 -- what a commit makes of the world of a store that served before
-pub committed : {S R : Type 0} (E : Type 0) (content : S → Content) (old new : S) (change : Change) (done : R) → (change ≡ Nothing → new ≡ old)
+pub committed : {S R : Type 0} (E : Type 0) (content : S → Content) (old new : S) (change : Change) (done : R)
+    → (change ≡ Nothing → new ≡ old)
     → (change ≡ Nothing) ⊎ MakesInWorld {E = E} change (content old) (content new) (Ok done)
-    → (content new).honest → (content old).serves → (content new).serves × ((content new).world ≡ changed change (content old).world)
+    → (content new).honest → (content old).serves → (content new).serves
+    × ((content new).world ≡ changed change (content old).world)
 committed E content old new change done nothing (inl none) h s =
     subst (λ i. (content i).serves × ((content i).world ≡ changed change (content old).world)) (sym (nothing none))
     (s, sym (ap (λ c. changed c (content old).world) none))
@@ -23,8 +25,10 @@ committed E content old new change done nothing (inr made) h s = made h
 
 module _ (t : ℕ) (request : Request) where
   -- a plan that was made over a store, and its change made there
-  pub planned_steps : (E : Type 0) (old mid new : Content) (plan : Plan) (given : Reply) → Kept old mid → Planned {E = E} mid t request (Ok plan) → Leads mid new →
-      given ≡ plan.reply → (new.honest → mid.serves → new.serves × (new.world ≡ changed plan.change mid.world)) → new.honest → IsStepOver old t request given new
+  pub planned_steps : (E : Type 0) (old mid new : Content) (plan : Plan) (given : Reply) → Kept old mid
+      → Planned {E = E} mid t request (Ok plan) → Leads mid new →
+      given ≡ plan.reply → (new.honest → mid.serves → new.serves × (new.world ≡ changed plan.change mid.world))
+      → new.honest → IsStepOver old t request given new
   planned_steps E old mid new plan given kept (inl made) leads told done h =
       let before = leads.honest h in
       let p = made before in
@@ -34,19 +38,26 @@ module _ (t : ℕ) (request : Request) where
         kept.serves before p.0,
         after.0,
         subst (λ (r : Reply). Step old.world t request r new.world) (sym told)
-            (subst (λ (w : World). Step w t request plan.reply new.world) (kept.world before p.0) (subst (λ (w : World). Step mid.world t request plan.reply w) (sym after.1) step)),
+            (subst (λ (w : World). Step w t request plan.reply new.world) (kept.world before p.0)
+            (subst (λ (w : World). Step mid.world t request plan.reply w) (sym after.1) step)),
       )
   planned_steps E old mid new plan given kept (inr made) leads told done h = inl (
     (λ w.
-        subst (λ (r : Reply). Step w t request r w) (sym told) (subst (λ (change : Change). Step w t request plan.reply (changed change w)) made.0 (inr (made.1 w).answered))),
+        subst (λ (r : Reply). Step w t request r w) (sym told)
+        (subst (λ (change : Change). Step w t request plan.reply (changed change w)) made.0
+        (inr (made.1 w).answered))),
     (λ s.
         let before = leads.serves h s in
-        (done h before).1 ∙ ap (λ (change : Change). changed change mid.world) made.0 ∙ kept.world (leads.honest h) before),
+        (done h before).1 ∙ ap (λ (change : Change). changed change mid.world) made.0
+        ∙ kept.world (leads.honest h) before),
   )
 
   -- and what a stop leaves of it
-  pub planned_stops : (E : Type 0) (old mid new : Content) (plan : Plan) (given : Reply) → (plan.reply ≡ given) ⊎ (given ≡ Unavailable) → Kept old mid → Planned {E = E} mid t request (Ok plan) → Leads mid new →
-      (plan.change ≡ Nothing → LeavesNoOther mid new) → (mid.serves → LeavesOneOf (λ before left. left ≡ changed plan.change before) mid new) → StopsWithin old t request given new
+  pub planned_stops : (E : Type 0) (old mid new : Content) (plan : Plan) (given : Reply) → (plan.reply ≡ given)
+      ⊎ (given ≡ Unavailable) → Kept old mid → Planned {E = E} mid t request (Ok plan) → Leads mid new →
+      (plan.change ≡ Nothing → LeavesNoOther mid new) → (mid.serves
+      → LeavesOneOf (λ before left. left ≡ changed plan.change before) mid new)
+      → StopsWithin old t request given new
   planned_stops E old mid new plan given which kept (inl made) leads quiet stops h left may =
       let before = leads.honest h in
       let p = made before in
@@ -56,10 +67,16 @@ module _ (t : ℕ) (request : Request) where
             let step : Step mid.world t request plan.reply (changed plan.change mid.world) = inr p.1.answered in
             inr (
               kept.serves before p.0,
-              (plan.reply, which, subst (λ (w : World). Step w t request plan.reply left) (kept.world before p.0) (subst (λ (w : World). Step mid.world t request plan.reply w) (sym is.1) step)),
+              (
+                plan.reply,
+                which,
+                subst (λ (w : World). Step w t request plan.reply left) (kept.world before p.0)
+                    (subst (λ (w : World). Step mid.world t request plan.reply w) (sym is.1) step),
+              ),
             )
       ]
-  planned_stops E old mid new plan given which kept (inr made) leads quiet stops h left may = inl (kept.stops (leads.honest h) left (quiet made.0 h left may))
+  planned_stops E old mid new plan given which kept (inr made) leads quiet stops h left may = inl
+      (kept.stops (leads.honest h) left (quiet made.0 h left may))
 
 -- what leaves the number of writes, and then at most one
 pub once_after : (old mid new : Content) → Kept old mid → WritesOnce mid new → WritesOnce old new
@@ -79,22 +96,27 @@ refused_step E old mid new t request plan kept leads (inl made) never refused = 
         (kept.serves before p.0, subst (λ (w : World). IsPlanFor w t request plan) (kept.world before p.0) p.1)
 
 -- a plan for a request that has nothing to write changes nothing
-pub quiet_plan : (world : World) (t : ℕ) (request : Request) (plan : Plan) → IsPlanFor world t request plan → IsQuiet world t request → plan.change ≡ Nothing
+pub quiet_plan : (world : World) (t : ℕ) (request : Request) (plan : Plan) → IsPlanFor world t request plan
+    → IsQuiet world t request → plan.change ≡ Nothing
 quiet_plan world t request plan is (inl others) = is.quiet (inl (others is.answered.1.0 is.answered.1.1))
 quiet_plan world t request plan is (inr nothing) = is.quiet (inr nothing)
 
 -- so its commit makes no write
-module _ {S : Type 0} (content : S → Content) (old : Content) (mid new : S) (plan : Plan) (kept : Kept old (content mid)) (nothing : plan.change ≡ Nothing → new ≡ mid) where
+module _ {S : Type 0} (content : S → Content) (old : Content) (mid new : S) (plan : Plan)
+    (kept : Kept old (content mid)) (nothing : plan.change ≡ Nothing → new ≡ mid) where
   pub quiet_commit : plan.change ≡ Nothing → (content new).writes ≤ old.writes
   quiet_commit none = subst (λ (i : S). (content i).writes ≤ old.writes) (sym (nothing none)) kept.writes
 
-  pub planned_quiet : (E : Type 0) (t : ℕ) (request : Request) → Planned {E = E} (content mid) t request (Ok plan) → Leads (content mid) (content new) → WritesIfAny old t request (content new)
+  pub planned_quiet : (E : Type 0) (t : ℕ) (request : Request) → Planned {E = E} (content mid) t request (Ok plan)
+      → Leads (content mid) (content new) → WritesIfAny old t request (content new)
   planned_quiet E t request (inl made) leads h s quiet =
       let before = leads.honest h in
       let p = made before in
-      quiet_commit (quiet_plan (content mid).world t request plan p.1 (subst (λ (w : World). IsQuiet w t request) (sym (kept.world before p.0)) quiet))
+      quiet_commit (quiet_plan (content mid).world t request plan p.1
+      (subst (λ (w : World). IsQuiet w t request) (sym (kept.world before p.0)) quiet))
   planned_quiet E t request (inr made) leads h s quiet = quiet_commit made.0
 
 -- what changes nothing leaves nothing else
-pub same_stops : {S : Type 0} (content : S → Content) (old new : S) → new ≡ old → LeavesNoOther (content old) (content new)
+pub same_stops : {S : Type 0} (content : S → Content) (old new : S) → new ≡ old
+    → LeavesNoOther (content old) (content new)
 same_stops content old new same h left may = subst (λ i. (content i).may_leave left) same may

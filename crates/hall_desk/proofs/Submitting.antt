@@ -21,7 +21,8 @@ use Rattle.hall_desk.specs.declared.plan.Plan.{Plan}
 use Rattle.hall_desk.specs.declared.reply.Reply.TheVariants as reply
 use Rattle.hall_desk.specs.declared.submit.Submit.{Submit}
 
-module _ (world : World) (facts : Facts) (asked : Submit) (person : Person) (n : ℕ) (caller : facts.caller ≡ Some person)
+module _ (world : World) (facts : Facts) (asked : Submit) (person : Person) (n : ℕ)
+    (caller : facts.caller ≡ Some person)
     (told : AreTrue facts world (submit_action asked)) (numbered : n ≡ facts.count + 1) where
   -- the number is the one after those that were given
   next_number : n ≡ answers_given world person.name asked.round.now asked.number + 1
@@ -30,18 +31,26 @@ module _ (world : World) (facts : Facts) (asked : Submit) (person : Person) (n :
   -- in a sane world no answer has the number yet
   pub number_free : Sane world → ¬ (IsNumberTaken world person.name asked.round.now asked.number n)
   number_free sane (token, row, found, same) =
-      let at_most = (sane.numbered (record { entrant = person.name; round = asked.round.now; number = asked.number; token = token }) row found).1 in
+      let at_most = (sane.numbered (record {
+        entrant = person.name;
+        round = asked.round.now;
+        number = asked.number;
+        token = token;
+      }) row found).1 in
       omega (arith, at_most, same, next_number)
 
   module _ (t verdict : ℕ) (row : RoundRow) (plan : Plan) (round : facts.round ≡ Some row) where
     -- the answer's row may be stored, and makes the plan
-    pub submitted : facts.answer ≡ None → IsThere world facts.caller → IsJudgedAt world row asked.number asked.answer.now verdict →
+    pub submitted : facts.answer ≡ None → IsThere world facts.caller
+        → IsJudgedAt world row asked.number asked.answer.now verdict →
         ¬ (IsNumberTaken world person.name asked.round.now asked.number n) →
-        plan.reply ≡ reply.Submit n (told_verdict row.round verdict) → plan.change ≡ AddAnswer (submitted_row person asked n t verdict) →
+        plan.reply ≡ reply.Submit n (told_verdict row.round verdict)
+        → plan.change ≡ AddAnswer (submitted_row person asked n t verdict) →
         IsMadePlan world facts.caller (submit_action asked) t plan
     submitted fresh there (entry, puzzle, listed, kept, judged) free replied changes =
         let id = asked.round.now in
-        let at : IsRoundAt world id row = subst (λ (found : Option RoundRow). IsRoundFound world (Some id) found) round told.1.1.0 in
+        let at : IsRoundAt world id row = subst (λ (found : Option RoundRow). IsRoundFound world (Some id) found) round
+        told.1.1.0 in
         let place = at.list asked.number ∙ listed in
         let given : CanAddAnswer world (submitted_row person asked n t verdict) = record {
           fresh = sym (told.1.1.1.1.0.0 person caller) ∙ fresh;
@@ -66,7 +75,10 @@ module _ (world : World) (facts : Facts) (asked : Submit) (person : Person) (n :
               (
                 replied ∙ ap (λ (m : ℕ). reply.Submit m (told_verdict row.round verdict)) next_number,
                 ap (λ (change : Change). changed change world) changes
-                    ∙ ap (λ (m : ℕ). record world { answers = insert world.answers (submitted_key person asked) (submitted_row person asked m t verdict) }) next_number,
+                    ∙ ap (λ (m : ℕ). record world {
+                      answers = insert world.answers (submitted_key person asked)
+                          (submitted_row person asked m t verdict);
+                    }) next_number,
               ),
             ),
           );

@@ -31,7 +31,8 @@ module _ (old mid : Content) (facts : Facts) (t : ℕ) (request : Request) (id :
 
   module _ (decision : Decision) (decided : IsDecidedUpTo last_rule facts request.action t decision) where
     -- a table that is denied
-    pub table_denied : (rule : ℕ) (plan : Plan) → decision ≡ Deny rule → plan ≡ answering (reply.Denied rule) → mid.honest → mid.serves × IsPlanFor mid.world t request plan
+    pub table_denied : (rule : ℕ) (plan : Plan) → decision ≡ Deny rule → plan ≡ answering (reply.Denied rule)
+        → mid.honest → mid.serves × IsPlanFor mid.world t request plan
     table_denied = denied_plan old mid facts t request caller kept (λ h. (read h).0) found decision decided
 
     -- a table that is answered
@@ -39,14 +40,20 @@ module _ (old mid : Content) (facts : Facts) (t : ℕ) (request : Request) (id :
         (new.honest → new.serves × IsTableAt new.world id text) → plan ≡ answering (reply.Table text) →
         new.honest → new.serves × IsPlanFor new.world t request plan
     table_planned new text plan allowed left served =
-        read_plan old mid facts t request caller kept (λ h. (read h).0) found decision decided new (reply.Table text) plan allowed left (λ h. (
+        read_plan old mid facts t request caller kept (λ h. (read h).0) found decision decided new (reply.Table text)
+        plan allowed left (λ h. (
           (served h).0,
           (
-            subst (λ (a : Action). Allowed new.world facts.caller a t state.GaveUp (reply.Table text) new.world) (sym is) ((text, (served h).1, refl), refl),
+            subst (λ (a : Action). Allowed new.world facts.caller a t state.GaveUp (reply.Table text) new.world)
+                (sym is) ((text, (served h).1, refl), refl),
             subst (λ (a : Action). HasSearched new.world a (answering (reply.Table text))) (sym is) tt,
           ),
         ))
 
     -- the round that an answered table is of
     pub table_round : (row : RoundRow) → facts.round ≡ Some row → mid.honest → mid.serves × IsRoundAt mid.world id row
-    table_round row seen h = ((read h).0, subst (λ (o : Option RoundRow). IsRoundFound mid.world (Some id) o) seen (read h).1.row)
+    table_round row seen h = (
+      (read h).0,
+      subst (λ (o : Option RoundRow). IsRoundFound mid.world (Some id) o) seen
+          (read h).1.row,
+    )

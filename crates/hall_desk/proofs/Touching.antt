@@ -99,7 +99,13 @@ module _ (world : World) (caller : Option Person) (asked : Action) (t : ℕ) (gi
     pub asks : asked ≡ action.Submit id number token answer
     pub kept : get world.rounds id ≡ Some round
     pub told : given ≡ reply.Submit (answers_given world person.name id number + 1) shown
-    pub made : new.answers ≡ insert world.answers (record { entrant = person.name; round = id; number = number; token = token })
+    pub made : new.answers ≡ insert world.answers (record {
+      entrant = person.name;
+      round = id;
+      number = number;
+      token =
+          token;
+    })
         (answer_row world person id number token answer t verdict)
 
   -- a protest is stored
@@ -112,7 +118,8 @@ module _ (world : World) (caller : Option Person) (asked : Action) (t : ℕ) (gi
     pub is : caller ≡ Some person
     pub asks : asked ≡ action.Protest id token number text
     pub told : given ≡ reply.Protest token
-    pub made : new.protests ≡ insert world.protests (record { entrant = person.name; round = id; token = token }) (open_protest person id token number text)
+    pub made : new.protests ≡ insert world.protests (record { entrant = person.name; round = id; token = token })
+        (open_protest person id token number text)
 
   -- a protest is ruled
   pub record Rules : Type 0 where
@@ -124,7 +131,8 @@ module _ (world : World) (caller : Option Person) (asked : Action) (t : ℕ) (gi
     pub asks : asked ≡ action.RuleProtest id entrant token ruling
     pub kept : protest_of world entrant id token ≡ Some row
     pub told : given ≡ reply.RuleProtest ruling
-    pub made : new.protests ≡ insert world.protests (record { entrant = entrant; round = id; token = token }) (record row { ruling = Some ruling })
+    pub made : new.protests ≡ insert world.protests (record { entrant = entrant; round = id; token = token })
+        (record row { ruling = Some ruling })
 
   -- each map is as it was, or changed so
   pub record Touches : Type 0 where
@@ -135,7 +143,8 @@ module _ (world : World) (caller : Option Person) (asked : Action) (t : ℕ) (gi
     pub protests : (new.protests ≡ world.protests) ⊎ (Protests ⊎ Rules)
 
   -- the rounds of a world with other rows are as they were
-  same_rounds : (made_of : World) → new ≡ made_of → made_of.rounds ≡ world.rounds → made_of.places ≡ world.places → made_of.testers ≡ world.testers → SameRounds
+  same_rounds : (made_of : World) → new ≡ made_of → made_of.rounds ≡ world.rounds → made_of.places ≡ world.places
+      → made_of.testers ≡ world.testers → SameRounds
   same_rounds made_of made rounds places testers = record {
     rounds = ap (λ (w : World). w.rounds) made ∙ rounds;
     places = ap (λ (w : World). w.places) made ∙ places;
@@ -153,31 +162,61 @@ module _ (world : World) (caller : Option Person) (asked : Action) (t : ℕ) (gi
   }
 
 -- an allowed action changes one map at most, or the three of the rounds
-pub allowed_touches : (world : World) (caller : Option Person) (asked : Action) (t : ℕ) (found : PuzzleState) (given : Reply) (new : World) →
+pub allowed_touches : (world : World) (caller : Option Person) (asked : Action) (t : ℕ) (found : PuzzleState)
+    (given : Reply) (new : World) →
     Allowed world caller asked t found given new → Touches world caller asked t given new
 allowed_touches world caller (action.Import people) t found given new (told, made) = record {
-  people = inr (record { people = people; count = _; asks = refl; told = told; made = ap (λ (w : World). w.people) made });
+  people = inr (record {
+    people = people;
+    count = _;
+    asks = refl;
+    told = told;
+    made = ap (λ (w : World). w.people)
+        made;
+  });
   puzzles = inl (ap (λ (w : World). w.puzzles) made);
   rounds = inl (same_rounds world caller (action.Import people) t given new _ made refl refl refl);
   answers = inl (ap (λ (w : World). w.answers) made);
   protests = inl (ap (λ (w : World). w.protests) made);
 }
-allowed_touches world caller (action.PutPuzzle key puzzle) t found given new (text, canonical, inl h) = touches_nothing world caller (action.PutPuzzle key puzzle) t given new h.4
-allowed_touches world caller (action.PutPuzzle key puzzle) t found given new (text, canonical, inr (other, told, made)) = record {
-  people = inl (ap (λ (w : World). w.people) made);
-  puzzles = inr (inl (record { key = key; puzzle = puzzle; text = text; asks = refl; told = told; made = ap (λ (w : World). w.puzzles) made }));
-  rounds = inl (same_rounds world caller (action.PutPuzzle key puzzle) t given new _ made refl refl refl);
-  answers = inl (ap (λ (w : World). w.answers) made);
-  protests = inl (ap (λ (w : World). w.protests) made);
-}
+allowed_touches world caller (action.PutPuzzle key puzzle) t found given new (text, canonical, inl h) = touches_nothing
+    world caller (action.PutPuzzle key puzzle) t given new h.4
+allowed_touches world caller (action.PutPuzzle key puzzle) t found given new
+    (text, canonical, inr (other, told, made)) = record {
+      people = inl (ap (λ (w : World). w.people) made);
+      puzzles = inr (inl (record {
+        key = key;
+        puzzle = puzzle;
+        text = text;
+        asks = refl;
+        told = told;
+        made = ap
+            (λ (w : World). w.puzzles) made;
+      }));
+      rounds = inl (same_rounds world caller (action.PutPuzzle key puzzle) t given new _ made refl refl refl);
+      answers = inl (ap (λ (w : World). w.answers) made);
+      protests = inl (ap (λ (w : World). w.protests) made);
+    }
 allowed_touches world caller (action.Certify key budget) t found given new (row, kept, inl h) = record {
   people = inl (ap (λ (w : World). w.people) h.stored);
-  puzzles = inr (inr (record { key = key; budget = budget; row = row; found = found; asks = refl; told = h.told; kept = kept; is_found = h.is_found; made = ap (λ (w : World). w.puzzles) h.stored }));
+  puzzles = inr (inr (record {
+    key = key;
+    budget = budget;
+    row = row;
+    found = found;
+    asks = refl;
+    told = h.told;
+    kept =
+        kept;
+    is_found = h.is_found;
+    made = ap (λ (w : World). w.puzzles) h.stored;
+  }));
   rounds = inl (same_rounds world caller (action.Certify key budget) t given new _ h.stored refl refl refl);
   answers = inl (ap (λ (w : World). w.answers) h.stored);
   protests = inl (ap (λ (w : World). w.protests) h.stored);
 }
-allowed_touches world caller (action.Certify key budget) t found given new (row, kept, inr h) = touches_nothing world caller (action.Certify key budget) t given new h.same
+allowed_touches world caller (action.Certify key budget) t found given new (row, kept, inr h) = touches_nothing world
+    caller (action.Certify key budget) t given new h.same
 allowed_touches world caller (action.PutRound id sheet) t found given new (told, made) = record {
   people = inl (ap (λ (w : World). w.people) made);
   puzzles = inl (ap (λ (w : World). w.puzzles) made);
@@ -229,79 +268,94 @@ allowed_touches world caller (action.Publish id) t found given new (round, kept,
   answers = inl (ap (λ (w : World). w.answers) made);
   protests = inl (ap (λ (w : World). w.protests) made);
 }
-allowed_touches world caller (action.Submit id number token answer) t found given new (person, is, (round, entry, puzzle, verdict, kept, place, grid, judged, (told, made))) = record {
-  people = inl (ap (λ (w : World). w.people) made);
-  puzzles = inl (ap (λ (w : World). w.puzzles) made);
-  rounds = inl (same_rounds world caller (action.Submit id number token answer) t given new _ made refl refl refl);
-  answers = inr (record {
-    person = person;
-    id = id;
-    number = number;
-    token = token;
-    answer = answer;
-    verdict = verdict;
-    shown = told_verdict round verdict;
-    round = round;
-    is = is;
-    asks = refl;
-    kept = kept;
-    told = told;
-    made = ap (λ (w : World). w.answers) made;
-  });
-  protests = inl (ap (λ (w : World). w.protests) made);
-}
-allowed_touches world caller (action.Protest id token number text) t found given new (person, is, (told, made)) = record {
-  people = inl (ap (λ (w : World). w.people) made);
-  puzzles = inl (ap (λ (w : World). w.puzzles) made);
-  rounds = inl (same_rounds world caller (action.Protest id token number text) t given new _ made refl refl refl);
-  answers = inl (ap (λ (w : World). w.answers) made);
-  protests = inr (inl (record {
-    person = person;
-    id = id;
-    token = token;
-    number = number;
-    text = text;
-    is = is;
-    asks = refl;
-    told = told;
-    made = ap (λ (w : World). w.protests) made;
-  }));
-}
-allowed_touches world caller (action.RuleProtest id entrant token ruling) t found given new (row, kept, told, made) = record {
-  people = inl (ap (λ (w : World). w.people) made);
-  puzzles = inl (ap (λ (w : World). w.puzzles) made);
-  rounds = inl (same_rounds world caller (action.RuleProtest id entrant token ruling) t given new _ made refl refl refl);
-  answers = inl (ap (λ (w : World). w.answers) made);
-  protests = inr (inr (record {
-    id = id;
-    entrant = entrant;
-    token = token;
-    ruling = ruling;
-    row = row;
-    asks = refl;
-    kept = kept;
-    told = told;
-    made = ap (λ (w : World). w.protests) made;
-  }));
-}
-allowed_touches world caller (action.ReadRound id) t found given new h = touches_nothing world caller (action.ReadRound id) t given new h.1
-allowed_touches world caller (action.Answers id) t found given new h = touches_nothing world caller (action.Answers id) t given new h.2.1
-allowed_touches world caller (action.ReadPuzzle key) t found given new h = touches_nothing world caller (action.ReadPuzzle key) t given new h.1
-allowed_touches world caller action.ListPuzzles t found given new h = touches_nothing world caller action.ListPuzzles t given new h.2.1
-allowed_touches world caller action.ListRounds t found given new h = touches_nothing world caller action.ListRounds t given new h.2.1
-allowed_touches world caller (action.Solutions id) t found given new h = touches_nothing world caller (action.Solutions id) t given new h.1
-allowed_touches world caller (action.Protests id) t found given new h = touches_nothing world caller (action.Protests id) t given new h.2.1
-allowed_touches world caller (action.Table id) t found given new h = touches_nothing world caller (action.Table id) t given new h.1
+allowed_touches world caller (action.Submit id number token answer) t found given new
+    (person, is, (round, entry, puzzle, verdict, kept, place, grid, judged, (told, made))) = record {
+      people = inl (ap (λ (w : World). w.people) made);
+      puzzles = inl (ap (λ (w : World). w.puzzles) made);
+      rounds = inl (same_rounds world caller (action.Submit id number token answer) t given new _ made refl refl refl);
+      answers = inr (record {
+        person = person;
+        id = id;
+        number = number;
+        token = token;
+        answer = answer;
+        verdict = verdict;
+        shown = told_verdict round verdict;
+        round = round;
+        is = is;
+        asks = refl;
+        kept = kept;
+        told = told;
+        made = ap (λ (w : World). w.answers) made;
+      });
+      protests = inl (ap (λ (w : World). w.protests) made);
+    }
+allowed_touches world caller (action.Protest id token number text) t found given new (person, is, (told, made)) =
+    record {
+      people = inl (ap (λ (w : World). w.people) made);
+      puzzles = inl (ap (λ (w : World). w.puzzles) made);
+      rounds = inl (same_rounds world caller (action.Protest id token number text) t given new _ made refl refl refl);
+      answers = inl (ap (λ (w : World). w.answers) made);
+      protests = inr (inl (record {
+        person = person;
+        id = id;
+        token = token;
+        number = number;
+        text = text;
+        is = is;
+        asks = refl;
+        told = told;
+        made = ap (λ (w : World). w.protests) made;
+      }));
+    }
+allowed_touches world caller (action.RuleProtest id entrant token ruling) t found given new (row, kept, told, made) =
+    record {
+      people = inl (ap (λ (w : World). w.people) made);
+      puzzles = inl (ap (λ (w : World). w.puzzles) made);
+      rounds = inl (same_rounds world caller (action.RuleProtest id entrant token ruling) t given new _ made refl refl
+          refl);
+      answers = inl (ap (λ (w : World). w.answers) made);
+      protests = inr (inr (record {
+        id = id;
+        entrant = entrant;
+        token = token;
+        ruling = ruling;
+        row = row;
+        asks = refl;
+        kept = kept;
+        told = told;
+        made = ap (λ (w : World). w.protests) made;
+      }));
+    }
+allowed_touches world caller (action.ReadRound id) t found given new h = touches_nothing world caller
+    (action.ReadRound id) t given new h.1
+allowed_touches world caller (action.Answers id) t found given new h = touches_nothing world caller (action.Answers id)
+    t given new h.2.1
+allowed_touches world caller (action.ReadPuzzle key) t found given new h = touches_nothing world caller
+    (action.ReadPuzzle key) t given new h.1
+allowed_touches world caller action.ListPuzzles t found given new h = touches_nothing world caller action.ListPuzzles t
+    given new h.2.1
+allowed_touches world caller action.ListRounds t found given new h = touches_nothing world caller action.ListRounds t
+    given new h.2.1
+allowed_touches world caller (action.Solutions id) t found given new h = touches_nothing world caller
+    (action.Solutions id) t given new h.1
+allowed_touches world caller (action.Protests id) t found given new h = touches_nothing world caller
+    (action.Protests id) t given new h.2.1
+allowed_touches world caller (action.Table id) t found given new h = touches_nothing world caller (action.Table id) t
+    given new h.1
 
 -- ---- what an event changes
 -- the request was allowed, and so touches the maps; or the people of the list joined
 abbrev pub Changes : World → Event → World → Type 0
 Changes world (requested t request given) next =
-    NoneDecides world (caller_of world request.key) request.action t × Touches world (caller_of world request.key) request.action t given next
-Changes world (seeded people given) next = (count : ℕ) × (given ≡ reply.Import count) × (next ≡ record world { people = with_people world.people people })
+    NoneDecides world (caller_of world request.key) request.action t × Touches world (caller_of world request.key)
+    request.action t given next
+Changes world (seeded people given) next = (count : ℕ) × (given ≡ reply.Import count)
+    × (next ≡ record world { people = with_people world.people people })
 
 -- an event leaves the world, or changes it so
-pub happened : (world : World) (event : Event) (next : World) → Happens world event next → (next ≡ world) ⊎ Changes world event next
+pub happened : (world : World) (event : Event) (next : World) → Happens world event next → (next ≡ world)
+    ⊎ Changes world event next
 happened world (requested t request given) next (inl h) = inl h.1
 happened world (requested t request given) next (inr (found, (Deny k, first, decided))) = inl decided.1
 happened world (requested t request given) next (inr (found, (Repeat, first, decided))) = inl decided.1

@@ -1,5 +1,6 @@
 -- What is canonical spells its puzzle.
-use Rattle.std.proofs.Common.{◌≡◌, ℕ, ◌+◌, ◌-◌, ◌/◌, ◌%◌, ◌<◌, ◌≤◌, false, List, [], ◌∷◌, ◌++◌, length, get_or, drop, refl, sym, ap, ◌∙◌, subst, inl, inr, arith, nat_eq, append_assoc, decimal}
+use Rattle.std.proofs.Common.{◌≡◌, ℕ, ◌+◌, ◌-◌, ◌/◌, ◌%◌, ◌<◌, ◌≤◌, false, List, [], ◌∷◌, ◌++◌, length, get_or, drop}
+use Rattle.std.proofs.Common.{refl, sym, ap, ◌∙◌, subst, inl, inr, arith, nat_eq, append_assoc, decimal}
 use Rattle.std.specs.Prelude.{All}
 use Rattle.std.specs.List.{position_or_len, before_first, after_first, ends_with}
 use Rattle.std.specs.Cmp.Lexicographic.{pointwise}
@@ -13,8 +14,10 @@ use Rattle.hall_grid.specs.declared.board.Kind.{Kind}
 use Rattle.hall_grid.specs.declared.board.Kind.TheVariants.{Sudoku, Slither, Nurikabe}
 use Rattle.hall_grid.specs.declared.board.Clue.{Clue}
 use Rattle.hall_grid.specs.Board.{Board, IsSize, IsSudokuSide, HasSize}
-use Rattle.hall_grid.specs.Body.{IsHexDigit, Form, one, two, three, some_number, alone, before_one, before_two, some_count, run, Piece, IsChain, bytes_of, Spells}
-use Rattle.hall_grid.specs.Text.{is_slash, word_of, rest_field, without_final_slash, body_of, IsSide, IsBare, Heads, SpellsText}
+use Rattle.hall_grid.specs.Body.{IsHexDigit, Form, one, two, three, some_number, alone, before_one, before_two}
+use Rattle.hall_grid.specs.Body.{some_count, run, Piece, IsChain, bytes_of, Spells}
+use Rattle.hall_grid.specs.Text.{is_slash, word_of, rest_field, without_final_slash, body_of, IsSide, IsBare, Heads}
+use Rattle.hall_grid.specs.Text.{SpellsText}
 use Rattle.hall_grid.specs.Canonical.{Canonical, CanonicalText, head_of}
 
 -- no byte is a slash

@@ -1,5 +1,6 @@
 -- The reading of a form in the scheme 4Cell, and the table of forms.
-use Rattle.std.proofs.Common.{◌≡◌, ℕ, ◌+◌, ◌≤◌, ◌⊎◌, List, [], ◌∷◌, ◌++◌, replicate, Option, Some, None, Ok, Err, refl, sym, subst, inl, inr, arith, ◌==◌}
+use Rattle.std.proofs.Common.{◌≡◌, ℕ, ◌+◌, ◌≤◌, ◌⊎◌, List, [], ◌∷◌, ◌++◌, replicate, Option, Some, None, Ok, Err, refl}
+use Rattle.std.proofs.Common.{sym, subst, inl, inr, arith, ◌==◌}
 use Rattle.std.proofs.lemmas.Grind.{common_steps}
 use Rattle.std.proofs.lemmas.Bool.Decides.{nat_tests}
 use Rattle.std.proofs.lemmas.Bool.{ne_eqb, eqb-true}
@@ -8,7 +9,8 @@ use Rattle.hall_grid.specs.declared.board.Clue.{Clue}
 use Rattle.hall_grid.specs.declared.board.Clue.TheVariants.{Blank, Number}
 use Rattle.hall_grid.specs.declared.form.FormFault.{FormFault}
 use Rattle.hall_grid.specs.declared.form.FormFault.TheVariants.{Strange}
-use Rattle.hall_grid.specs.Body.{IsRun, Form, one, two, three, alone, before_one, before_two, some_count, run, BeginsNone}
+use Rattle.hall_grid.specs.Body.{IsRun, Form, one, two, three, alone, before_one, before_two, some_count, run}
+use Rattle.hall_grid.specs.Body.{BeginsNone}
 use Rattle.hall_grid.specs.FormReading.{run_value, cell4_value, cell4_form, cell4_short}
 use Rattle.hall_grid.proofs.Number16Form.{Reads, chosen, ok_is, run_again, run_is}
 

@@ -1,5 +1,6 @@
 -- A body has one leftmost fault.
-use Rattle.std.proofs.Common.{◌≡◌, ℕ, ◌+◌, List, [], ◌∷◌, ◌++◌, length, Result, Ok, refl, sym, ap, ◌∙◌, subst, inl, inr, arith, add-zero, zero-add}
+use Rattle.std.proofs.Common.{◌≡◌, ℕ, ◌+◌, List, [], ◌∷◌, ◌++◌, length, Result, Ok, refl, sym, ap, ◌∙◌, subst, inl, inr}
+use Rattle.std.proofs.Common.{arith, add-zero, zero-add}
 use Rattle.std.proofs.lemmas.List.{length-append, append_assoc, append_cancel_right}
 use Rattle.hall_grid.specs.declared.board.Size.{Size}
 use Rattle.hall_grid.specs.declared.board.Kind.{Kind}
@@ -8,7 +9,8 @@ use Rattle.hall_grid.specs.declared.board.Clue.TheVariants.{Number}
 use Rattle.hall_grid.specs.declared.form.FormFault.{FormFault}
 use Rattle.hall_grid.specs.declared.fault.TextFault.{TextFault}
 use Rattle.hall_grid.specs.declared.fault.TextFault.TheVariants as faults
-use Rattle.hall_grid.specs.Body.{IsHexDigit, Piece, Form, two, three, HasNumber16, IsChain, bytes_of, clues_of, FaultAt, IsWrong, HasPlace, BeginsLong, BeginsNone, HasNone, HasWrong}
+use Rattle.hall_grid.specs.Body.{IsHexDigit, Piece, Form, two, three, HasNumber16, IsChain, bytes_of, clues_of, FaultAt}
+use Rattle.hall_grid.specs.Body.{IsWrong, HasPlace, BeginsLong, BeginsNone, HasNone, HasWrong}
 use Rattle.hall_grid.specs.FormReading.{form_at}
 use Rattle.hall_grid.proofs.Number16Form.{ok_is}
 use Rattle.hall_grid.proofs.FormAt.{form_again}

@@ -1,6 +1,7 @@
 -- A flood: what has the new label is joined to the root, and what has it and isn't on the stack has its neighbours
 -- labelled.
-use Rattle.std.proofs.Common.{◌≡◌, ℕ, zero, suc, ◌+◌, ◌<◌, ◌⊎◌, ◌++◌, List, [], ◌∷◌, length, replicate, take, drop, map, Option, Some, None, refl, sym, ◌∙◌, subst, inl, inr, arith}
+use Rattle.std.proofs.Common.{◌≡◌, ℕ, zero, suc, ◌+◌, ◌<◌, ◌⊎◌, ◌++◌, List, [], ◌∷◌, length, replicate, take, drop, map}
+use Rattle.std.proofs.Common.{Option, Some, None, refl, sym, ◌∙◌, subst, inl, inr, arith}
 use Rattle.std.specs.Prelude.{Contains}
 use Rattle.std.specs.Option.{is_some}
 use Rattle.std.proofs.lemmas.List.{length-replicate, length-map, take_at}

@@ -1,8 +1,10 @@
 -- A puzzle has one canonical text.
-use Rattle.std.proofs.Common.{◌≡◌, ℕ, zero, suc, ◌+◌, ◌-◌, ◌*◌, ◌/◌, ◌%◌, ◌<◌, ◌≤◌, false, List, [], ◌∷◌, ◌++◌, length, get_or, take, replicate, Some, refl, sym, ap, ◌∙◌, subst, inl, inr, arith}
+use Rattle.std.proofs.Common.{◌≡◌, ℕ, zero, suc, ◌+◌, ◌-◌, ◌*◌, ◌/◌, ◌%◌, ◌<◌, ◌≤◌, false, List, [], ◌∷◌, ◌++◌, length}
+use Rattle.std.proofs.Common.{get_or, take, replicate, Some, refl, sym, ap, ◌∙◌, subst, inl, inr, arith}
 use Rattle.std.specs.Fmt.{digit_glyph}
 use Rattle.std.proofs.lemmas.Bool.{cases_order, lt-ltb, le-ltb}
-use Rattle.std.proofs.lemmas.List.{length-append, length-replicate, get_or_append_left, get_or-append-add, get_or-take, length-take-le}
+use Rattle.std.proofs.lemmas.List.{length-append, length-replicate, get_or_append_left, get_or-append-add, get_or-take}
+use Rattle.std.proofs.lemmas.List.{length-take-le}
 use Rattle.std.proofs.lemmas.Option.{slice_get-get_or}
 use Rattle.hall_grid.specs.declared.board.Size.{Size}
 use Rattle.hall_grid.specs.declared.board.Kind.{Kind}
@@ -10,8 +12,10 @@ use Rattle.hall_grid.specs.declared.board.Kind.TheVariants.{Sudoku, Slither, Nur
 use Rattle.hall_grid.specs.declared.board.Clue.{Clue}
 use Rattle.hall_grid.specs.declared.board.Clue.TheVariants.{Blank, Unknown, Number}
 use Rattle.hall_grid.specs.Board.{Board, IsBoard, cells}
-use Rattle.hall_grid.specs.Body.{IsHexDigit, Form, one, two, three, some_number, alone, before_one, before_two, some_count, run, Piece, IsChain, bytes_of, clues_of, fitted}
-use Rattle.hall_grid.specs.Canonical.{IsLongestRun, Takes, IsChosen, IsShortest, AreChosen, Canonical, CanonicalText, head_of}
+use Rattle.hall_grid.specs.Body.{IsHexDigit, Form, one, two, three, some_number, alone, before_one, before_two}
+use Rattle.hall_grid.specs.Body.{some_count, run, Piece, IsChain, bytes_of, clues_of, fitted}
+use Rattle.hall_grid.specs.Canonical.{IsLongestRun, Takes, IsChosen, IsShortest, AreChosen, Canonical, CanonicalText}
+use Rattle.hall_grid.specs.Canonical.{head_of}
 use Rattle.hall_grid.specs.Writing.{cell4_first}
 use Rattle.hall_grid.proofs.IsChoice.{get_or_blanks}
 

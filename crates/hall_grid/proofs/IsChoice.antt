@@ -1,5 +1,7 @@
 -- The writer's forms are forms of the table, with the clues that stand there.
-use Rattle.std.proofs.Common.{◌≡◌, ℕ, zero, suc, ◌+◌, ◌*◌, ◌/◌, ◌%◌, ◌<◌, ◌≤◌, false, List, [], ◌∷◌, ◌++◌, length, get_or, replicate, Option, Some, None, refl, sym, ap, ◌∙◌, subst, inl, inr, arith, nat_lt, if◌then◌else◌, add-zero, add-one}
+use Rattle.std.proofs.Common.{◌≡◌, ℕ, zero, suc, ◌+◌, ◌*◌, ◌/◌, ◌%◌, ◌<◌, ◌≤◌, false, List, [], ◌∷◌, ◌++◌, length}
+use Rattle.std.proofs.Common.{get_or, replicate, Option, Some, None, refl, sym, ap, ◌∙◌, subst, inl, inr, arith, nat_lt}
+use Rattle.std.proofs.Common.{if◌then◌else◌, add-zero, add-one}
 use Rattle.std.proofs.lemmas.Bool.{cases_lt, lt-ltb, le-ltb, ne_eqb, eq-eqb}
 use Rattle.std.proofs.lemmas.Bool.Decides.{nat_tests}
 use Rattle.std.proofs.lemmas.List.{length-replicate, get_or_past}
@@ -14,7 +16,8 @@ use Rattle.hall_grid.specs.declared.board.Kind.TheVariants.{Sudoku, Slither, Nur
 use Rattle.hall_grid.specs.declared.board.Clue.{Clue}
 use Rattle.hall_grid.specs.declared.board.Clue.TheVariants.{Blank, Unknown, Number}
 use Rattle.hall_grid.specs.Board.{HasSize, IsClue}
-use Rattle.hall_grid.specs.Body.{IsHexDigit, HasNumber16, Form, one, two, three, some_number, alone, before_one, before_two, some_count, run}
+use Rattle.hall_grid.specs.Body.{IsHexDigit, HasNumber16, Form, one, two, three, some_number, alone, before_one}
+use Rattle.hall_grid.specs.Body.{before_two, some_count, run}
 use Rattle.hall_grid.specs.Canonical.{IsEmpty, IsFull, Takes, IsChosen}
 use Rattle.hall_grid.proofs.Bodies.{blank_in_range}
 use Rattle.hall_grid.proofs.Spells.{some_bytes}

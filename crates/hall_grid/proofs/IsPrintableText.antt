@@ -1,19 +1,23 @@
 -- What is written is short, in printable ASCII.
-use Rattle.std.proofs.Common.{◌≡◌, ℕ, zero, suc, ◌+◌, ◌-◌, ◌*◌, ◌/◌, ◌%◌, ◌<◌, ◌≤◌, List, [], ◌∷◌, ◌++◌, length, map, take, drop, refl, sym, ap, ◌∙◌, inl, inr, arith, decimal, true, nat_le}
+use Rattle.std.proofs.Common.{◌≡◌, ℕ, zero, suc, ◌+◌, ◌-◌, ◌*◌, ◌/◌, ◌%◌, ◌<◌, ◌≤◌, List, [], ◌∷◌, ◌++◌, length, map}
+use Rattle.std.proofs.Common.{take, drop, refl, sym, ap, ◌∙◌, inl, inr, arith, decimal, true, nat_le}
 use Rattle.std.specs.Prelude.{All, IsTrue}
 use Rattle.std.specs.List.{list_all}
 use Rattle.std.proofs.lemmas.Bool.{cases_lt, and_parts, and_from, le-leb, lt-ltb, le-ltb}
 use Rattle.std.proofs.lemmas.List.{length-append, length-map, length-replicate, take-append-drop}
-use Rattle.std.proofs.lemmas.List.Elements.{All-nil, All-cons, All-append, All-same, All-map, All-weaker, All-take, All-drop}
+use Rattle.std.proofs.lemmas.List.Elements.{All-nil, All-cons, All-append, All-same, All-map, All-weaker, All-take}
+use Rattle.std.proofs.lemmas.List.Elements.{All-drop}
 use Rattle.std.proofs.lemmas.Fmt.{decimal_digit, decimal_step}
 use Rattle.hall_grid.specs.declared.board.Size.{Size}
 use Rattle.hall_grid.specs.declared.board.Kind.{Kind}
 use Rattle.hall_grid.specs.declared.board.Kind.TheVariants.{Sudoku, Slither, Nurikabe}
 use Rattle.hall_grid.specs.declared.board.Clue.{Clue}
 use Rattle.hall_grid.specs.declared.board.Clue.TheVariants.{Blank}
-use Rattle.hall_grid.specs.Answer.{values_of, value_byte, sudoku_byte, slither_byte, nurikabe_byte, text_of, IsFilling, AnswerText}
+use Rattle.hall_grid.specs.Answer.{values_of, value_byte, sudoku_byte, slither_byte, nurikabe_byte, text_of, IsFilling}
+use Rattle.hall_grid.specs.Answer.{AnswerText}
 use Rattle.hall_grid.specs.Board.{Board, cells, HasSize, of_parts}
-use Rattle.hall_grid.specs.Body.{IsHexDigit, Form, one, two, three, some_number, alone, before_one, before_two, some_count, run, Piece, IsChain, bytes_of}
+use Rattle.hall_grid.specs.Body.{IsHexDigit, Form, one, two, three, some_number, alone, before_one, before_two}
+use Rattle.hall_grid.specs.Body.{some_count, run, Piece, IsChain, bytes_of}
 use Rattle.hall_grid.specs.Canonical.{CanonicalText, head_of}
 use Rattle.hall_grid.specs.Printable.{is_printable, IsPrintableText}
 use Rattle.hall_grid.specs.Slither.{flat_sides}

@@ -1,5 +1,6 @@
 -- The reading of a form in the scheme Number16, and the table of forms.
-use Rattle.std.proofs.Common.{◌≡◌, ℕ, ◌+◌, ◌*◌, ◌⊎◌, ◌&&◌, Bool, true, false, cond, List, [], ◌∷◌, ◌++◌, Option, Some, None, Result, Ok, Err, refl, sym, ap, subst, inl, inr, arith, ◌==◌}
+use Rattle.std.proofs.Common.{◌≡◌, ℕ, ◌+◌, ◌*◌, ◌⊎◌, ◌&&◌, Bool, true, false, cond, List, [], ◌∷◌, ◌++◌, Option, Some}
+use Rattle.std.proofs.Common.{None, Result, Ok, Err, refl, sym, ap, subst, inl, inr, arith, ◌==◌}
 use Rattle.std.proofs.lemmas.Grind.{common_steps}
 use Rattle.std.proofs.lemmas.Bool.Decides.{nat_tests}
 use Rattle.std.proofs.lemmas.Bool.{ne_eqb, eqb-true}
@@ -9,8 +10,10 @@ use Rattle.hall_grid.specs.declared.board.Clue.{Clue}
 use Rattle.hall_grid.specs.declared.board.Clue.TheVariants.{Unknown, Number}
 use Rattle.hall_grid.specs.declared.form.FormFault.{FormFault}
 use Rattle.hall_grid.specs.declared.form.FormFault.TheVariants.{Strange, Cut}
-use Rattle.hall_grid.specs.Body.{IsHexDigit, IsRun, HasNumber16, Form, one, two, three, some_number, alone, before_one, before_two, some_count, run, BeginsNone, BeginsLong}
-use Rattle.hall_grid.specs.FormReading.{hex_value, run_value, two_at, three_at, number16_form, short_form, long_form, is_nurikabe, ◌>>=◌}
+use Rattle.hall_grid.specs.Body.{IsHexDigit, IsRun, HasNumber16, Form, one, two, three, some_number, alone, before_one}
+use Rattle.hall_grid.specs.Body.{before_two, some_count, run, BeginsNone, BeginsLong}
+use Rattle.hall_grid.specs.FormReading.{hex_value, run_value, two_at, three_at, number16_form, short_form, long_form}
+use Rattle.hall_grid.specs.FormReading.{is_nurikabe, ◌>>=◌}
 
 -- a digit is read as itself
 hex_again : (b n : ℕ) → IsHexDigit b n → hex_value b ≡ Some n

@@ -1,5 +1,6 @@
 -- One body spells the clues of one board.
-use Rattle.std.proofs.Common.{◌≡◌, ℕ, ◌+◌, ◌<◌, List, [], ◌∷◌, ◌++◌, length, Result, Ok, refl, sym, ap, ◌∙◌, subst, arith, zero-add}
+use Rattle.std.proofs.Common.{◌≡◌, ℕ, ◌+◌, ◌<◌, List, [], ◌∷◌, ◌++◌, length, Result, Ok, refl, sym, ap, ◌∙◌, subst}
+use Rattle.std.proofs.Common.{arith, zero-add}
 use Rattle.std.proofs.lemmas.List.{length-append, append_assoc}
 use Rattle.hall_grid.specs.declared.board.Size.{Size}
 use Rattle.hall_grid.specs.declared.board.Kind.{Kind}
@@ -9,7 +10,8 @@ use Rattle.std.specs.Prelude.{All}
 use Rattle.hall_grid.specs.declared.fault.TextFault.{TextFault}
 use Rattle.hall_grid.specs.declared.fault.TextFault.TheVariants as faults
 use Rattle.hall_grid.specs.Board.{cells, IsClue}
-use Rattle.hall_grid.specs.Body.{Piece, Form, one, two, three, some_number, alone, before_one, before_two, some_count, run, IsChain, bytes_of, clues_of, Spells, FaultAt, IsWrong, fitted}
+use Rattle.hall_grid.specs.Body.{Piece, Form, one, two, three, some_number, alone, before_one, before_two, some_count}
+use Rattle.hall_grid.specs.Body.{run, IsChain, bytes_of, clues_of, Spells, FaultAt, IsWrong, fitted}
 use Rattle.hall_grid.specs.FormReading.{form_at}
 use Rattle.hall_grid.proofs.Number16Form.{ok_is}
 use Rattle.hall_grid.proofs.FormAt.{form_again}

@@ -9,7 +9,8 @@ use Rattle.hall_grid.specs.declared.board.Clue.{Clue}
 use Rattle.hall_grid.specs.Board.{Board, HasSize, of_parts}
 use Rattle.hall_grid.specs.Body.{Spells, FaultAt}
 use Rattle.hall_grid.specs.Head.{HasHead}
-use Rattle.hall_grid.specs.Text.{IsBare, IsSide, word_of, word_field, cols_field, rows_field, body_of, Heads, SpellsText, HasNoKind, HasNoSide, HasNoLimit, HasBodyFault, FaultOf}
+use Rattle.hall_grid.specs.Text.{IsBare, IsSide, word_of, word_field, cols_field, rows_field, body_of, Heads}
+use Rattle.hall_grid.specs.Text.{SpellsText, HasNoKind, HasNoSide, HasNoLimit, HasBodyFault, FaultOf}
 use Rattle.hall_grid.proofs.Number16Form.{some_is}
 use Rattle.hall_grid.proofs.Spells.{one_spelling, no_fault}
 use Rattle.hall_grid.proofs.FaultAt.{one_fault}

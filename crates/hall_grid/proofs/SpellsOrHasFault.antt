@@ -1,5 +1,6 @@
 -- Each text spells a puzzle or has a fault.
-use Rattle.std.proofs.Common.{◌≡◌, ℕ, zero, suc, ◌+◌, ◌-◌, ◌*◌, ◌<◌, ◌≤◌, ◌⊎◌, List, [], ◌∷◌, ◌++◌, length, Option, Some, None, Result, Ok, Err, refl, ap, ◌∙◌, subst, inl, inr, arith}
+use Rattle.std.proofs.Common.{◌≡◌, ℕ, zero, suc, ◌+◌, ◌-◌, ◌*◌, ◌<◌, ◌≤◌, ◌⊎◌, List, [], ◌∷◌, ◌++◌, length, Option}
+use Rattle.std.proofs.Common.{Some, None, Result, Ok, Err, refl, ap, ◌∙◌, subst, inl, inr, arith}
 use Rattle.std.specs.Prelude.{All}
 use Rattle.std.proofs.lemmas.Bool.{cases_lt, cases_eq}
 use Rattle.std.proofs.lemmas.List.{append-nil, length-append}
@@ -16,7 +17,8 @@ use Rattle.hall_grid.specs.declared.fault.TextFault.TheVariants as faults
 use Rattle.hall_grid.specs.Board.{Board, IsSize, IsSudokuSide, HasSize, IsClue, cells, of_parts}
 use Rattle.hall_grid.specs.Body.{IsDigit, bytes_of, clues_of, fitted, Spells, FaultAt, IsWrong, HasPlace}
 use Rattle.hall_grid.specs.FormReading.{form_at}
-use Rattle.hall_grid.specs.Text.{bare, IsBare, IsSide, IsNoSide, word_of, word_field, cols_field, rows_field, body_of, Heads, SpellsText, HasBodyFault, FaultOf}
+use Rattle.hall_grid.specs.Text.{bare, IsBare, IsSide, IsNoSide, word_of, word_field, cols_field, rows_field, body_of}
+use Rattle.hall_grid.specs.Text.{Heads, SpellsText, HasBodyFault, FaultOf}
 use Rattle.hall_grid.proofs.FormAt.{form_is, is_cut, is_strange, takes_form, has_wrong}
 use Rattle.hall_grid.proofs.Bodies.{IsRead, IsRead-start, IsRead-more}
 use Rattle.hall_grid.proofs.Spells.{some_bytes}

@@ -1,14 +1,17 @@
 -- Answer texts and the values in them.
-use Rattle.std.proofs.Common.{◌≡◌, ℕ, ◌+◌, ◌-◌, ◌<◌, ◌≤◌, List, ◌∷◌, [], ◌++◌, length, map, take, drop, get_or, refl, sym, ap, ◌∙◌, subst, append_assoc, arith}
+use Rattle.std.proofs.Common.{◌≡◌, ℕ, ◌+◌, ◌-◌, ◌<◌, ◌≤◌, List, ◌∷◌, [], ◌++◌, length, map, take, drop, get_or, refl}
+use Rattle.std.proofs.Common.{sym, ap, ◌∙◌, subst, append_assoc, arith}
 use Rattle.std.specs.Prelude.{All}
 use Rattle.std.proofs.lemmas.Bool.{lt-ltb, le-ltb}
-use Rattle.std.proofs.lemmas.List.{get_or-map, length-map, length-append, length-take-le, length-drop, take-append-drop, get_or_at, take_at, drop_at, drop_more}
+use Rattle.std.proofs.lemmas.List.{get_or-map, length-map, length-append, length-take-le, length-drop, take-append-drop}
+use Rattle.std.proofs.lemmas.List.{get_or_at, take_at, drop_at, drop_more}
 use Rattle.std.proofs.lemmas.List.Elements.{All-get_or, All-weaker, All-take, All-drop, All-append}
 use Rattle.hall_grid.specs.declared.board.Size.{Size}
 use Rattle.hall_grid.specs.declared.board.Kind.{Kind}
 use Rattle.hall_grid.specs.declared.board.Kind.TheVariants.{Sudoku, Slither, Nurikabe}
 use Rattle.hall_grid.specs.Board.{Board, HasSize, IsBoard, cells}
-use Rattle.hall_grid.specs.Answer.{places_of, values_of, value_byte, sudoku_byte, slither_byte, text_of, IsFilling, AnswerText}
+use Rattle.hall_grid.specs.Answer.{places_of, values_of, value_byte, sudoku_byte, slither_byte, text_of, IsFilling}
+use Rattle.hall_grid.specs.Answer.{AnswerText}
 use Rattle.hall_grid.specs.Slither.{flat_sides, all_sides}
 use Rattle.hall_grid.specs.Values.{SpellsValues, HasCellText}
 

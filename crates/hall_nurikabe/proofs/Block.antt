@@ -18,7 +18,13 @@ MakePool-at size cell inner low = record {
   b_within = omega arith;
   c_within = omega arith;
   d_within = low;
-  pool = λ f a b c d. HasPool-from_at size f cell (inner, (omega arith, a), (omega arith, b), (omega arith, c), (low, d));
+  pool = λ f a b c d. HasPool-from_at size f cell (
+    inner,
+    (omega arith, a),
+    (omega arith, b),
+    (omega arith, c),
+    (low, d),
+  );
 }
 
 -- the first of the cells at the second place, at the third, at the fourth
@@ -49,10 +55,12 @@ MakePool-fourth size a b c d m = record {
   pool = λ f w x y z. m.pool f x y z w;
 }
 
-module _ (board : Board) (kind : board.kind ≡ Nurikabe) (p : List (Option ℕ)) (a b c d : ℕ) (m : MakePool board.size a b c d)
+module _ (board : Board) (kind : board.kind ≡ Nurikabe) (p : List (Option ℕ)) (a b c d : ℕ)
+    (m : MakePool board.size a b c d)
     (wall_b : get_or p b None ≡ Some 1) (wall_c : get_or p c None ≡ Some 1) (wall_d : get_or p d None ≡ Some 1) where
   no_fourth : (f : List ℕ) → Solves (question_of Nurikabe board) p f → get_or f a 0 ≡ 1 → ⊥
-  no_fourth f s e = no_rule_broken board f kind s.right N2 (m.pool f e (s.extends b 1 wall_b) (s.extends c 1 wall_c) (s.extends d 1 wall_d))
+  no_fourth f s e = no_rule_broken board f kind s.right N2 (m.pool f e (s.extends b 1 wall_b) (s.extends c 1 wall_c)
+      (s.extends d 1 wall_d))
 
   pub four_hopeless : get_or p a None ≡ Some 1 → IsHopeless (question_of Nurikabe board) p
   four_hopeless wall_a = λ f s. no_fourth f s (s.extends a 1 wall_a)

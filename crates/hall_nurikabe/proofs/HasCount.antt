@@ -1,5 +1,6 @@
 -- How many members a set has.
-use Rattle.std.proofs.Common.{◌≡◌, ℕ, zero, suc, ◌+◌, ◌<◌, ◌≤◌, ◌⊎◌, ◌↔◌, ◌++◌, Bool, true, false, List, [], ◌∷◌, length, get_or, refl, sym, ◌∙◌, subst, inl, inr, arith}
+use Rattle.std.proofs.Common.{◌≡◌, ℕ, zero, suc, ◌+◌, ◌<◌, ◌≤◌, ◌⊎◌, ◌↔◌, ◌++◌, Bool, true, false, List, [], ◌∷◌}
+use Rattle.std.proofs.Common.{length, get_or, refl, sym, ◌∙◌, subst, inl, inr, arith}
 use Rattle.std.specs.Prelude.{Contains, nat_eq}
 use Rattle.std.specs.List.{IsDistinct, list_any}
 use Rattle.std.specs.Cmp.{nat_eq_equiv}
@@ -16,13 +17,15 @@ use Rattle.hall_nurikabe.specs.Counts.{HasCount}
 pub member_of : (xs : List ℕ) (q : ℕ) → list_any (nat_eq q) xs ≡ true → Contains xs q
 member_of xs q h = Contains-from_any eqb-true q xs h
 
-Lists-shorter : (P Q : ℕ → Type 0) (xs ys : List ℕ) → ((x : ℕ) → P x → Q x) → Lists xs P → Lists ys Q → length xs ≤ length ys
+Lists-shorter : (P Q : ℕ → Type 0) (xs ys : List ℕ) → ((x : ℕ) → P x → Q x) → Lists xs P → Lists ys Q
+    → length xs ≤ length ys
 Lists-shorter P Q xs ys within a b =
     length-le_from_is_member nat_eq_equiv xs ys a.distinct
     (λ q h. list_any-from_Contains nat_eq_equiv q ys ((b.each q).1 (within q ((a.each q).0 (member_of xs q h)))))
 
 -- two lists of one set are equally long
-pub same_length : (P Q : ℕ → Type 0) (xs ys : List ℕ) → ((x : ℕ) → P x ↔ Q x) → Lists xs P → Lists ys Q → length xs ≡ length ys
+pub same_length : (P Q : ℕ → Type 0) (xs ys : List ℕ) → ((x : ℕ) → P x ↔ Q x) → Lists xs P → Lists ys Q
+    → length xs ≡ length ys
 same_length P Q xs ys same a b =
     let p = Lists-shorter P Q xs ys (λ x. (same x).0) a b in
     let q = Lists-shorter Q P ys xs (λ x. (same x).1) b a in
@@ -39,8 +42,17 @@ unfolding IsDistinct
 nothing_distinct = tt
 
 pub HasCount-none : (P : ℕ → Type 0) → ((x : ℕ) → P x → ⊥) → HasCount P 0
-HasCount-none P none =
-    ([], record { distinct = nothing_distinct; each = λ x. ((λ h. absurd (let low = h.1 in omega arith)), (λ h. absurd (none x h))) }, refl)
+HasCount-none P none = (
+  [],
+  record {
+    distinct = nothing_distinct;
+    each = λ x. (
+      (λ h. absurd (let low = h.1 in omega arith)),
+      (λ h. absurd (none x h)),
+    );
+  },
+  refl,
+)
 
 pub HasCount-same : (P Q : ℕ → Type 0) (n : ℕ) → ((x : ℕ) → P x ↔ Q x) → HasCount P n → HasCount Q n
 HasCount-same P Q n same (xs, lists, e) = (xs, Lists-same P Q xs same lists, e)
@@ -50,11 +62,17 @@ not_true true h = absurd (h refl)
 not_true false h = refl
 
 -- one more member
-pub Lists-push : (P Q : ℕ → Type 0) (xs : List ℕ) (k : ℕ) → (P k → ⊥) → ((x : ℕ) → Q x ↔ (P x ⊎ (x ≡ k))) → Lists xs P → Lists (xs ++ k ∷ []) Q
+pub Lists-push : (P Q : ℕ → Type 0) (xs : List ℕ) (k : ℕ) → (P k → ⊥) → ((x : ℕ) → Q x ↔ (P x ⊎ (x ≡ k))) → Lists xs P
+    → Lists (xs ++ k ∷ []) Q
 Lists-push P Q xs k fresh more lists = record {
-  distinct = IsDistinct-push nat_eq_equiv xs k lists.distinct (not_true _ (λ h. fresh ((lists.each k).0 (member_of xs k h))));
+  distinct = IsDistinct-push nat_eq_equiv xs k lists.distinct
+      (not_true _ (λ h. fresh ((lists.each k).0 (member_of xs k h))));
   each = λ x. (
-    (λ h. elim (Contains-push_cases xs k x h) [ inl m ↦ (more x).1 (inl ((lists.each x).0 m)) | inr m ↦ (more x).1 (inr (sym m)) ]),
+    (λ h. elim (Contains-push_cases xs k x h) [
+      | inl m ↦ (more x).1 (inl ((lists.each x).0 m))
+      | inr m ↦ (more x).1
+          (inr (sym m))
+    ]),
     (λ h. elim ((more x).0 h) [
       | inl m ↦ Contains-append_left xs (k ∷ []) x ((lists.each x).1 m)
       | inr m ↦ subst (λ y. Contains (xs ++ k ∷ []) y) (sym m) (Contains-push xs k)
@@ -62,24 +80,41 @@ Lists-push P Q xs k fresh more lists = record {
   );
 }
 
-pub HasCount-more : (P Q : ℕ → Type 0) (n k : ℕ) → (P k → ⊥) → ((x : ℕ) → Q x ↔ (P x ⊎ (x ≡ k))) → HasCount P n → HasCount Q (n + 1)
-HasCount-more P Q n k fresh more (xs, lists, e) = (xs ++ k ∷ [], Lists-push P Q xs k fresh more lists, let p = length_push xs k in omega arith)
+pub HasCount-more : (P Q : ℕ → Type 0) (n k : ℕ) → (P k → ⊥) → ((x : ℕ) → Q x ↔ (P x ⊎ (x ≡ k))) → HasCount P n
+    → HasCount Q (n + 1)
+HasCount-more P Q n k fresh more (xs, lists, e) = (
+  xs ++ k ∷ [],
+  Lists-push P Q xs k fresh more lists,
+  let p =
+      length_push xs k in omega arith,
+)
 
 pub Lists-none : (P : ℕ → Type 0) → ((x : ℕ) → P x → ⊥) → Lists [] P
 Lists-none P none =
-    record { distinct = nothing_distinct; each = λ x. ((λ h. absurd (let low = h.1 in omega arith)), (λ h. absurd (none x h))) }
+    record {
+      distinct = nothing_distinct;
+      each = λ x. (
+        (λ h. absurd (let low = h.1 in omega arith)),
+        (λ h. absurd (none x h)),
+      );
+    }
 
 -- numbers below an end are at most as many
 pub HasCount-bound : (P : ℕ → Type 0) (n end : ℕ) → ((x : ℕ) → P x → x < end) → HasCount P n → n ≤ end
 HasCount-bound P n end low (xs, lists, e) =
-    let p = length-le_from_distinct_below xs end lists.distinct (λ q h. low q ((lists.each q).0 (member_of xs q h))) in omega arith
+    let p = length-le_from_distinct_below xs end lists.distinct (λ q h. low q ((lists.each q).0 (member_of xs q h))) in
+    omega arith
 
 -- a set with no members
 pub HasCount-empty : (P : ℕ → Type 0) (x : ℕ) → HasCount P 0 → P x → ⊥
 HasCount-empty P x (xs, lists, e) h = let low = ((lists.each x).1 h).1 in omega arith
 
 pub HasCount-some : (P : ℕ → Type 0) (n : ℕ) → 0 < n → HasCount P n → (x : ℕ) × P x
-HasCount-some P n h (xs, lists, e) = (get_or xs 0 0, (lists.each (get_or xs 0 0)).0 (Contains-get_or xs 0 0 (omega arith)))
+HasCount-some P n h (xs, lists, e) = (
+  get_or xs 0 0,
+  (lists.each (get_or xs 0 0)).0
+      (Contains-get_or xs 0 0 (omega arith)),
+)
 
 -- a set with two members
 pub HasCount-two : (P : ℕ → Type 0) (n : ℕ) → 1 < n → HasCount P n → (x y : ℕ) × P x × P y × (x ≡ y → ⊥)
@@ -89,7 +124,8 @@ HasCount-two P n h (xs, lists, e) = (
   (lists.each (get_or xs 0 0)).0 (Contains-get_or xs 0 0 (omega arith)),
   (lists.each (get_or xs 1 0)).0 (Contains-get_or xs 1 0 (omega arith)),
   (λ same.
-      let apart : nat_eq (get_or xs 0 0) (get_or xs 1 0) ≡ false = apart_from_distinct nat_eq xs 0 1 0 lists.distinct (omega arith) (omega arith) in
+      let apart : nat_eq (get_or xs 0 0) (get_or xs 1 0) ≡ false = apart_from_distinct nat_eq xs 0 1 0 lists.distinct
+      (omega arith) (omega arith) in
       let yes : nat_eq (get_or xs 0 0) (get_or xs 1 0) ≡ true = eq-eqb _ _ same in
       absurd (cc)),
 )
@@ -108,7 +144,8 @@ pub HasCount-within : (P Q : ℕ → Type 0) (m n : ℕ) → ((x : ℕ) → P x 
 HasCount-within P Q m n within (xs, a, e) (ys, b, d) = let k = Lists-shorter P Q xs ys within a b in omega arith
 
 -- a set within another that lacks one of its members has fewer
-pub HasCount-lacks : (P Q : ℕ → Type 0) (m n k : ℕ) → ((x : ℕ) → P x → Q x) → Q k → (P k → ⊥) → HasCount P m → HasCount Q n → m + 1 ≤ n
+pub HasCount-lacks : (P Q : ℕ → Type 0) (m n k : ℕ) → ((x : ℕ) → P x → Q x) → Q k → (P k → ⊥) → HasCount P m
+    → HasCount Q n → m + 1 ≤ n
 HasCount-lacks P Q m n k within there lacks c d =
     HasCount-within (λ x. P x ⊎ (x ≡ k)) Q (m + 1) n
     (λ x h. elim h [ inl p ↦ within x p | inr e ↦ subst Q (sym e) there ])
@@ -126,7 +163,11 @@ count_below P (suc n) none = count_below P n (λ m c.
     none m (HasCount-same (λ x. (x < n) × P x) (λ x. (x < suc n) × P x) m
     (λ x. (
       (λ h. (let low = h.0 in omega arith, h.1)),
-      (λ h. elim (cases_eq x n) [ inl e ↦ absurd (out (subst P e h.1)) | inr ne ↦ (let low = h.0 in omega arith, h.1) ]),
+      (λ h. elim (cases_eq x n) [
+        | inl e ↦ absurd (out (subst P e h.1))
+        | inr ne ↦
+            (let low = h.0 in omega arith, h.1)
+      ]),
     )) c))
 
 -- it can't be that a set of numbers below an end has no count

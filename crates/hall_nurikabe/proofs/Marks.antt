@@ -1,5 +1,6 @@
 -- Marks, one after another.
-use Rattle.std.proofs.Common.{◌≡◌, ℕ, zero, suc, ◌+◌, ◌<◌, ◌⊎◌, ◌↔◌, ◌++◌, Bool, true, false, Option, Some, None, List, [], ◌∷◌, length, get_or, map, refl, sym, ap, ◌∙◌, subst, inl, inr, arith}
+use Rattle.std.proofs.Common.{◌≡◌, ℕ, zero, suc, ◌+◌, ◌<◌, ◌⊎◌, ◌↔◌, ◌++◌, Bool, true, false, Option, Some, None, List}
+use Rattle.std.proofs.Common.{[], ◌∷◌, length, get_or, map, refl, sym, ap, ◌∙◌, subst, inl, inr, arith}
 use Rattle.std.specs.Prelude.{◌==◌, nat_eq, not, slice_get}
 use Rattle.std.specs.Option.{option_eq}
 use Rattle.std.proofs.lemmas.Bool.{cases_eq, eqb-true, eq-eqb}
@@ -17,13 +18,21 @@ abbrev pub MarksBelow : (ℕ → Type 0) → ℕ → List Bool → Type 0
 MarksBelow Holds end marks = MarksWhere (λ cell. (cell < end) × Holds cell) end marks
 
 pub Marks-none : (Holds : ℕ → Type 0) → MarksBelow Holds 0 []
-Marks-none Holds = record { exact = refl; marked = λ cell. ((λ h. absurd (cc)), (λ h. absurd (let low = h.0 in omega arith))) }
+Marks-none Holds = record {
+  exact = refl;
+  marked = λ cell. (
+    (λ h. absurd (cc)),
+    (λ h. absurd (let low = h.0 in omega arith)),
+  );
+}
 
-pub marked_push : (marks : List Bool) (b : Bool) (i : ℕ) → IsMarked (marks ++ b ∷ []) i → IsMarked marks i ⊎ ((i ≡ length marks) × (b ≡ true))
+pub marked_push : (marks : List Bool) (b : Bool) (i : ℕ) → IsMarked (marks ++ b ∷ []) i → IsMarked marks i
+    ⊎ ((i ≡ length marks) × (b ≡ true))
 marked_push [] b zero h = inr (refl, h)
 marked_push [] b (suc i) h = absurd (cc)
 marked_push (m ∷ marks) b zero h = inl h
-marked_push (m ∷ marks) b (suc i) h = elim (marked_push marks b i h) [ inl k ↦ inl k | inr k ↦ inr (let e = k.0 in omega arith, k.1) ]
+marked_push (m ∷ marks) b (suc i) h = elim (marked_push marks b i h)
+    [ inl k ↦ inl k | inr k ↦ inr (let e = k.0 in omega arith, k.1) ]
 
 marked_before : (marks : List Bool) (b : Bool) (i : ℕ) → IsMarked marks i → IsMarked (marks ++ b ∷ []) i
 marked_before [] b i h = absurd (cc)
@@ -34,7 +43,8 @@ marked_last : (marks : List Bool) (b : Bool) → b ≡ true → IsMarked (marks 
 marked_last [] b h = h
 marked_last (m ∷ marks) b h = marked_last marks b h
 
-pub Marks-push : (Holds : ℕ → Type 0) (end : ℕ) (marks : List Bool) (b : Bool) → (b ≡ true) ↔ Holds end → MarksBelow Holds end marks
+pub Marks-push : (Holds : ℕ → Type 0) (end : ℕ) (marks : List Bool) (b : Bool) → (b ≡ true) ↔ Holds end
+    → MarksBelow Holds end marks
     → MarksBelow Holds (end + 1) (marks ++ b ∷ [])
 Marks-push Holds end marks b same m = record {
   exact = (let e = length_push marks b in let k = m.exact in omega arith);
@@ -55,7 +65,8 @@ Marks-push Holds end marks b same m = record {
 }
 
 -- the property holds below the end alone
-pub Marks-whole : (Holds : ℕ → Type 0) (end n : ℕ) (marks : List Bool) → end ≡ n → ((cell : ℕ) → Holds cell → cell < n) → MarksBelow Holds end marks
+pub Marks-whole : (Holds : ℕ → Type 0) (end n : ℕ) (marks : List Bool) → end ≡ n → ((cell : ℕ) → Holds cell → cell < n)
+    → MarksBelow Holds end marks
     → MarksWhere Holds n marks
 Marks-whole Holds end n marks e low m = record {
   exact = m.exact ∙ e;
@@ -76,7 +87,8 @@ map_length : (f : List ℕ) (colour : ℕ) → length (map (λ v. v == colour) f
 map_length [] colour = refl
 map_length (v ∷ f) colour = ap suc (map_length f colour)
 
-pub Marks-colour : (f : List ℕ) (colour : ℕ) (marks : List Bool) → marks ≡ map (λ v. v == colour) f → MarksWhere (IsColoured f colour) (length f) marks
+pub Marks-colour : (f : List ℕ) (colour : ℕ) (marks : List Bool) → marks ≡ map (λ v. v == colour) f
+    → MarksWhere (IsColoured f colour) (length f) marks
 Marks-colour f colour marks e = subst (MarksWhere (IsColoured f colour) (length f)) (sym e)
     record { exact = map_length f colour; marked = λ cell. (colour_at f colour cell, at_colour f colour cell) }
 
@@ -85,9 +97,14 @@ numbered_below board cell (inl n) = slice_get_within board.clues cell _ n.1
 numbered_below board cell (inr e) = slice_get_within board.clues cell _ e
 
 -- a number of a clue is one of its cell
-pub numbered_clue : (board : Board) (cell : ℕ) (clue : Clue) → slice_get board.clues cell ≡ Some clue → IsNumber clue ↔ IsNumbered board cell
+pub numbered_clue : (board : Board) (cell : ℕ) (clue : Clue) → slice_get board.clues cell ≡ Some clue → IsNumber clue
+    ↔ IsNumbered board cell
 numbered_clue board cell clue at = (
-  (λ h. elim h [ inl n ↦ inl (n.0, subst (λ x. slice_get board.clues cell ≡ Some x) n.1 at) | inr e ↦ inr (subst (λ x. slice_get board.clues cell ≡ Some x) e at) ]),
+  (λ h. elim h [
+    | inl n ↦ inl (n.0, subst (λ x. slice_get board.clues cell ≡ Some x) n.1 at)
+    | inr e ↦ inr
+        (subst (λ x. slice_get board.clues cell ≡ Some x) e at)
+  ]),
   (λ h. elim h [
     | inl n ↦ inl (n.0, (let k : Some clue ≡ Some _ = sym at ∙ n.1 in cc))
     | inr e ↦ inr (let k : Some clue ≡ Some _ = sym at ∙ e in cc)
@@ -110,7 +127,8 @@ set_from_test o v e = decide (option_eq nat_eq o (Some v)) e (is_set o v).0
     decide false e k = absurd (cc)
 
 -- marks of the places that have the value, and of those that don't
-set_at : (p : List (Option ℕ)) (value i : ℕ) → IsMarked (map (λ o. option_eq nat_eq o (Some value)) p) i ↔ (get_or p i None ≡ Some value)
+set_at : (p : List (Option ℕ)) (value i : ℕ) → IsMarked (map (λ o. option_eq nat_eq o (Some value)) p) i
+    ↔ (get_or p i None ≡ Some value)
 set_at [] value i = ((λ h. absurd (cc)), (λ h. absurd (cc)))
 set_at (o ∷ p) value zero = is_set o value
 set_at (o ∷ p) value (suc i) = set_at p value i
@@ -135,10 +153,14 @@ map_long : {A : Type 0} (g : A → Bool) (xs : List A) → length (map g xs) ≡
 map_long g [] = refl
 map_long g (x ∷ xs) = ap suc (map_long g xs)
 
-pub Marks-set : (p : List (Option ℕ)) (value : ℕ) (marks : List Bool) → marks ≡ map (λ o. option_eq nat_eq o (Some value)) p
+pub Marks-set : (p : List (Option ℕ)) (value : ℕ) (marks : List Bool)
+    → marks ≡ map (λ o. option_eq nat_eq o (Some value)) p
     → MarksWhere (IsSetTo p value) (length p) marks
-Marks-set p value marks e = subst (MarksWhere (IsSetTo p value) (length p)) (sym e) record { exact = map_long _ p; marked = set_at p value }
+Marks-set p value marks e = subst (MarksWhere (IsSetTo p value) (length p)) (sym e)
+    record { exact = map_long _ p; marked = set_at p value }
 
-pub Marks-open : (p : List (Option ℕ)) (value : ℕ) (marks : List Bool) → marks ≡ map (λ o. not (option_eq nat_eq o (Some value))) p
+pub Marks-open : (p : List (Option ℕ)) (value : ℕ) (marks : List Bool)
+    → marks ≡ map (λ o. not (option_eq nat_eq o (Some value))) p
     → MarksWhere (IsOpenTo p value) (length p) marks
-Marks-open p value marks e = subst (MarksWhere (IsOpenTo p value) (length p)) (sym e) record { exact = map_long _ p; marked = open_at p value }
+Marks-open p value marks e = subst (MarksWhere (IsOpenTo p value) (length p)) (sym e)
+    record { exact = map_long _ p; marked = open_at p value }

@@ -1,5 +1,6 @@
 -- What one group says of the solutions.
-use Rattle.std.proofs.Common.{◌≡◌, ◌≢◌, ℕ, ◌<◌, ◌⊎◌, Bool, true, false, List, Option, Some, None, length, get_or, refl, sym, ◌∙◌, subst, inl, inr, arith}
+use Rattle.std.proofs.Common.{◌≡◌, ◌≢◌, ℕ, ◌<◌, ◌⊎◌, Bool, true, false, List, Option, Some, None, length, get_or, refl}
+use Rattle.std.proofs.Common.{sym, ◌∙◌, subst, inl, inr, arith}
 use Rattle.std.specs.Prelude.{Contains, nat_eq, slice_get}
 use Rattle.std.specs.List.{list_any}
 use Rattle.std.specs.Cmp.{nat_eq_equiv}
@@ -30,12 +31,15 @@ contains_is list cell = decide (list_any (nat_eq cell) list) refl
   where
     decide : (b : Bool) → list_any (nat_eq cell) list ≡ b → Contains list cell ⊎ (Contains list cell → ⊥)
     decide true e = inl (member_of list cell e)
-    decide false e = inr (λ h. let yes = list_any-from_Contains nat_eq_equiv cell list h in let clash : false ≡ true = sym e ∙ yes in absurd (cc))
+    decide false e = inr (λ h. let yes = list_any-from_Contains nat_eq_equiv cell list h in let clash : false ≡ true =
+        sym e ∙ yes in absurd (cc))
 
-module _ (board : Board) (p : List (Option ℕ)) (part : IsPartial (question_of Nurikabe board) p) (value from : ℕ) (places list : List ℕ)
+module _ (board : Board) (p : List (Option ℕ)) (part : IsPartial (question_of Nurikabe board) p) (value from : ℕ)
+    (places list : List ℕ)
     (exits : Exits) (g : IsGroup board.size p value from places list exits) where
   -- the first step of a walk out of the group goes to an exit
-  leaves : exits ≢ Many → (f : List ℕ) → Solves (question_of Nurikabe board) p f → (c d : ℕ) → Contains list c → (Contains list d → ⊥)
+  leaves : exits ≢ Many → (f : List ℕ) → Solves (question_of Nurikabe board) p f → (c d : ℕ) → Contains list c
+      → (Contains list d → ⊥)
       → Walk (Touch board.size) (λ cell. (cell < cells board.size) × (get_or f cell 0 ≡ value)) c d
       → (x : ℕ) × Covers exits x × (get_or f x 0 ≡ value)
   leaves few f s c d here out (at m) = absurd (out here)
@@ -70,7 +74,8 @@ module _ (board : Board) (p : List (Option ℕ)) (part : IsPartial (question_of 
       ];
     }
 
-module _ (board : Board) (kind : board.kind ≡ Nurikabe) (p : List (Option ℕ)) (part : IsPartial (question_of Nurikabe board) p) (from : ℕ)
+module _ (board : Board) (kind : board.kind ≡ Nurikabe) (p : List (Option ℕ))
+    (part : IsPartial (question_of Nurikabe board) p) (from : ℕ)
     (places list : List ℕ) (exits : Exits) where
   -- another wall stands elsewhere
   pub wall_leaves : IsGroup board.size p 1 from places list exits → HasOtherWall p list → MustLeave board p 1 list
@@ -78,7 +83,8 @@ module _ (board : Board) (kind : board.kind ≡ Nurikabe) (p : List (Option ℕ)
       no_rule_broken board f kind s.right N3 (
         from,
         d,
-        set_wall board p f part s from (Walk-start (Touch board.size) (IsSetTo p 1) from from (g.found.joined from from g.begun g.begun)),
+        set_wall board p f part s from (Walk-start (Touch board.size) (IsSetTo p 1) from from
+            (g.found.joined from from g.begun g.begun)),
         set_wall board p f part s d wall,
         (λ w. out from d g.begun beyond w),
       )
@@ -112,7 +118,8 @@ module _ (board : Board) (kind : board.kind ≡ Nurikabe) (p : List (Option ℕ)
 
     module _ (whole : length board.clues ≡ cells board.size) (cell given : ℕ) (here : Contains list cell)
         (clue : slice_get board.clues cell ≡ Some (Number given)) where
-      in_island : (f : List ℕ) → Solves (question_of Nurikabe board) p f → (x : ℕ) → Contains list x → InIsland board.size f cell x
+      in_island : (f : List ℕ) → Solves (question_of Nurikabe board) p f → (x : ℕ) → Contains list x
+          → InIsland board.size f cell x
       in_island f s x m = white_walk board kind p part f s cell x (g.found.joined cell x here m)
 
       pub few_leaves : length list < given → MustLeave board p 0 list
@@ -124,17 +131,21 @@ module _ (board : Board) (kind : board.kind ≡ Nurikabe) (p : List (Option ℕ)
 
       pub many_hopeless : given < length list → IsHopeless (question_of Nurikabe board) p
       many_hopeless many = λ f s. counted board kind p part whole cell given clue f s (λ c.
-          let k = HasCount-within (Contains list) (InIsland board.size f cell) (length list) given (in_island f s) group_count c in
+          let k = HasCount-within (Contains list) (InIsland board.size f cell) (length list) given (in_island f s)
+          group_count c in
           omega arith)
 
-      pub full_forced : length list ≡ given → (x : ℕ) → IsOpenBeside board.size p list x → IsForced (question_of Nurikabe board) p x 1
+      pub full_forced : length list ≡ given → (x : ℕ) → IsOpenBeside board.size p list x
+          → IsForced (question_of Nurikabe board) p x 1
       full_forced full x (bare, (y, there, touch)) = record {
         unset = bare;
         in_range = omega arith;
-        forced = λ f s. wall_or_white board f x s.filling (let low = bare.0 in let e = part.size in omega arith) (λ white_x.
+        forced = λ f s. wall_or_white board f x s.filling (let low = bare.0 in let e = part.size in omega arith)
+            (λ white_x.
             counted board kind p part whole cell given clue f s (λ c.
             let k = HasCount-lacks (Contains list) (InIsland board.size f cell) (length list) given x (in_island f s)
             (on (in_island f s y there) touch white_x)
-            (λ m. let none = bare.1 in let clash : ◌≡◌ {A = Option ℕ} None (Some 0) = sym none ∙ white x m in absurd (cc)) group_count c in
+            (λ m. let none = bare.1 in let clash : ◌≡◌ {A = Option ℕ} None (Some 0) = sym none
+            ∙ white x m in absurd (cc)) group_count c in
             omega arith));
       }

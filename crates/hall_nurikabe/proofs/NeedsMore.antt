@@ -14,15 +14,30 @@ use Rattle.hall_nurikabe.specs.Forced.{IsSetTo}
 use Rattle.hall_nurikabe.specs.Exit.{MustGrow}
 use Rattle.hall_nurikabe.proofs.Solves.{no_rule_broken, set_wall}
 
-module _ (board : Board) (kind : board.kind ≡ Nurikabe) (p : List (Option ℕ)) (part : IsPartial (question_of Nurikabe board) p) where
+module _ (board : Board) (kind : board.kind ≡ Nurikabe) (p : List (Option ℕ))
+    (part : IsPartial (question_of Nurikabe board) p) where
   -- one of two parts of the walls
   pub wall_grows : (labels : List (Option ℕ)) → AreComponents (cells board.size) (Touch board.size) (IsSetTo p 1) labels
       → LabelsDiffer labels → (label : ℕ) → IsLabelled labels label label
       → MustGrow board p 1 labels label
   wall_grows labels a (c, d, x, y, hc, hd, ne) label own = λ f s out.
       let wall : (z l : ℕ) → IsLabelled labels z l → IsWall board.size f z = λ z l h.
-      set_wall board p f part s z (labelled_member (cells board.size) (Touch board.size) (IsSetTo p 1) labels a z l h) in
+      set_wall board p f part s z (labelled_member (cells board.size) (Touch board.size) (IsSetTo p 1) labels a z l
+      h) in
       elim (cases_eq x label) [
-        | inl e ↦ no_rule_broken board f kind s.right N3 (label, d, wall label label own, wall d y hd, (λ w. out label d own (λ l. ne (e ∙ one_label labels d label y l hd)) w))
-        | inr other ↦ no_rule_broken board f kind s.right N3 (label, c, wall label label own, wall c x hc, (λ w. out label c own (λ l. other (one_label labels c x label hc l)) w))
+        | inl e ↦ no_rule_broken board f kind s.right N3 (
+          label,
+          d,
+          wall label label own,
+          wall d y hd,
+          (λ w. out label d own (λ l. ne (e ∙ one_label labels d label y l hd)) w),
+        )
+        | inr other ↦ no_rule_broken board f kind s.right N3 (
+          label,
+          c,
+          wall label label own,
+          wall c x hc,
+          (λ w. out label c own
+              (λ l. other (one_label labels c x label hc l)) w),
+        )
       ]

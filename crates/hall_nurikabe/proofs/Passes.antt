@@ -23,7 +23,8 @@ module _ (q : Question) (a b c : List (Option ℕ)) (part : IsPartial q a) (n : 
   pub Deduced-advanced : IsDeduced q b c Advanced → IsDeduced q a c Advanced
   Deduced-advanced d = (
     Narrows-twice q a b c n d.0,
-    (let fewer : open_places b ≤ open_places a = open-keeps a b (part.size ∙ sym n.partial.size) n.keeps in let less = d.1 in omega arith),
+    (let fewer : open_places b ≤ open_places a = open-keeps a b (part.size ∙ sym n.partial.size) n.keeps in let less =
+        d.1 in omega arith),
   )
 
   pub Deduced-dead : IsDeduced q b c Dead → IsHopeless q a
@@ -44,7 +45,8 @@ IsSoFar-begin q start part = record {
   alive = λ (eq : Settled ≡ Dead). cc;
 }
 
-module _ (q : Question) (start now next : Trailed) (part : IsPartial q start.places) (pass : Pass) (so_far : IsSoFar q start now pass) where
+module _ (q : Question) (start now next : Trailed) (part : IsPartial q start.places) (pass : Pass)
+    (so_far : IsSoFar q start now pass) where
   pub IsSoFar-settled : Grows now next → IsDeduced q now.places next.places Settled → IsSoFar q start next pass
   IsSoFar-settled grows d = record {
     narrows = Narrows-settled q start.places now.places next.places part so_far.narrows d;
@@ -56,9 +58,16 @@ module _ (q : Question) (start now next : Trailed) (part : IsPartial q start.pla
   pub IsSoFar-advanced : Grows now next → IsDeduced q now.places next.places Advanced → IsSoFar q start next Advanced
   IsSoFar-advanced grows d =
       let whole = Deduced-advanced q start.places now.places next.places part so_far.narrows d in
-      record { narrows = whole.0; deduced = whole; grows = Grows-twice start now next so_far.grows grows; alive = λ (eq : Advanced ≡ Dead). cc }
+      record {
+        narrows = whole.0;
+        deduced = whole;
+        grows = Grows-twice start now next so_far.grows grows;
+        alive =
+            λ (eq : Advanced ≡ Dead). cc;
+      }
 
-  pub IsSoFar-set : (place value : ℕ) → IsForced q now.places place value → next.places ≡ set now.places place (Some value)
+  pub IsSoFar-set : (place value : ℕ) → IsForced q now.places place value
+      → next.places ≡ set now.places place (Some value)
       → next.trail ≡ now.trail ++ place ∷ [] → IsSoFar q start next Advanced
   IsSoFar-set place value forced places trail =
       let after = forced_after q start.places now.places place value part so_far.narrows forced in
@@ -70,8 +79,11 @@ module _ (q : Question) (start now next : Trailed) (part : IsPartial q start.pla
       }
 
 -- a pass that found it not dead, after one that set something
-pub IsSoFar-then : (q : Question) (start now next : Trailed) → IsPartial q start.places → IsSoFar q start now Advanced → Grows now next
+pub IsSoFar-then : (q : Question) (start now next : Trailed) → IsPartial q start.places → IsSoFar q start now Advanced
+    → Grows now next
     → (last : Pass) → last ≢ Dead → IsDeduced q now.places next.places last → IsSoFar q start next Advanced
-IsSoFar-then q start now next part so_far grows Settled alive d = IsSoFar-settled q start now next part Advanced so_far grows d
-IsSoFar-then q start now next part so_far grows Advanced alive d = IsSoFar-advanced q start now next part Advanced so_far grows d
+IsSoFar-then q start now next part so_far grows Settled alive d = IsSoFar-settled q start now next part Advanced so_far
+    grows d
+IsSoFar-then q start now next part so_far grows Advanced alive d = IsSoFar-advanced q start now next part Advanced
+    so_far grows d
 IsSoFar-then q start now next part so_far grows Dead alive d = absurd (alive refl)

@@ -9,7 +9,8 @@ use Rattle.hall_nurikabe.specs.Steps.{FallsByOne, Raises}
 pub Raises-none : (reach : ℕ) (left : List ℕ) → Raises reach left left
 Raises-none reach left = record { exact = refl; only = λ c. inl refl }
 
-pub Raises-set : (reach : ℕ) (old cur : List ℕ) (i : ℕ) → i < length cur → get_or cur i 0 < reach → Raises reach old cur → Raises reach old (set cur i reach)
+pub Raises-set : (reach : ℕ) (old cur : List ℕ) (i : ℕ) → i < length cur → get_or cur i 0 < reach → Raises reach old cur
+    → Raises reach old (set cur i reach)
 Raises-set reach old cur i low less r = record {
   exact = length-set cur i reach ∙ r.exact;
   only = λ c. elim (cases_eq c i) [
@@ -39,14 +40,21 @@ Raises-then reach l0 l1 l2 p q = record {
 }
 
 pub rises : (reach : ℕ) (old new : List ℕ) (c : ℕ) → Raises reach old new → get_or old c 0 ≤ get_or new c 0
-rises reach old new c r = elim (r.only c) [ inl same ↦ omega arith | inr k ↦ (let low = k.0 in let e = k.1 in omega arith) ]
+rises reach old new c r = elim (r.only c) [
+  | inl same ↦ omega arith
+  | inr k ↦
+      (let low = k.0 in let e = k.1 in omega arith)
+]
 
 -- more than this much was there before
-pub unchanged : (reach : ℕ) (old new : List ℕ) (c : ℕ) → Raises reach old new → reach < get_or new c 0 → get_or new c 0 ≡ get_or old c 0
+pub unchanged : (reach : ℕ) (old new : List ℕ) (c : ℕ) → Raises reach old new → reach < get_or new c 0
+    → get_or new c 0 ≡ get_or old c 0
 unchanged reach old new c r more = elim (r.only c) [ inl same ↦ same | inr k ↦ absurd (let e = k.1 in omega arith) ]
 
-pub FallsByOne-raised : (size : Size) (IsMember : ℕ → Type 0) (reach : ℕ) (old new : List ℕ) → FallsByOne size IsMember old (reach + 1) → Raises reach old new
-    → ((a b : ℕ) → Touch size a b → IsMember b → get_or new a 0 ≡ reach + 1 → reach ≤ get_or new b 0) → FallsByOne size IsMember new reach
+pub FallsByOne-raised : (size : Size) (IsMember : ℕ → Type 0) (reach : ℕ) (old new : List ℕ)
+    → FallsByOne size IsMember old (reach + 1) → Raises reach old new
+    → ((a b : ℕ) → Touch size a b → IsMember b → get_or new a 0 ≡ reach + 1 → reach ≤ get_or new b 0)
+    → FallsByOne size IsMember new reach
 FallsByOne-raised size IsMember reach old new falls r done a b t mb more =
     let same = unchanged reach old new a r more in
     let up = rises reach old new b r in

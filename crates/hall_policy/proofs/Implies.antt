@@ -1,12 +1,19 @@
 -- What the decisions imply, from what the rules imply that pass.
-use Rattle.std.proofs.Common.{◌≡◌, ℕ, ◌<◌, Bool, true, false, IsTrue, IsSome, Option, Some, None, List, slice_get, refl, sym, subst, lit<}
+use Rattle.std.proofs.Common.{◌≡◌, ℕ, ◌<◌, Bool, true, false, IsTrue, IsSome, Option, Some, None, List, slice_get, refl}
+use Rattle.std.proofs.Common.{sym, subst, lit<}
 use Rattle.hall_policy.specs.Actions.{number_of, rules_asked, may}
 use Rattle.hall_policy.specs.Rules.{TheCaller, LacksRole}
 use Rattle.hall_policy.specs.Facts.{deciding}
-use Rattle.hall_policy.specs.Implies.{CallerMay, NamesOwnPuzzle, RoundIsThere, EntryIsThere, ObjectIsThere, IsByOthers, StandsInNoReleased, AreCertified, IsStillDraft, IsPublishedAsAsked, AreProtestsRuled, IsUninvolved, HasNoConflict, TokenIsNew, RulingIsNew, IsBelowLimit, IsSame, IsAllowable, IsRepetition, PassImplies}
+use Rattle.hall_policy.specs.Implies.{CallerMay, NamesOwnPuzzle, RoundIsThere, EntryIsThere, ObjectIsThere, IsByOthers}
+use Rattle.hall_policy.specs.Implies.{StandsInNoReleased, AreCertified, IsStillDraft, IsPublishedAsAsked}
+use Rattle.hall_policy.specs.Implies.{AreProtestsRuled, IsUninvolved, HasNoConflict, TokenIsNew, RulingIsNew}
+use Rattle.hall_policy.specs.Implies.{IsBelowLimit, IsSame, IsAllowable, IsRepetition, PassImplies}
 use Rattle.hall_policy.specs.declared.record.Person.{Person}
 use Rattle.hall_policy.specs.declared.rule.Rule.{Rule}
-use Rattle.hall_policy.specs.declared.rule.Rule.TheVariants.{UnknownKey, NoRole, OtherAuthor, Missing, OwnPuzzle, TokenTaken, InReleasedRound, NotCertified, NoDraft, Published, OpenProtest, Involved, RuledOtherwise, LimitReached, ListConflict}
+use Rattle.hall_policy.specs.declared.rule.Rule.TheVariants.{UnknownKey, NoRole, OtherAuthor, Missing, OwnPuzzle}
+use Rattle.hall_policy.specs.declared.rule.Rule.TheVariants.{TokenTaken, InReleasedRound, NotCertified, NoDraft}
+use Rattle.hall_policy.specs.declared.rule.Rule.TheVariants.{Published, OpenProtest, Involved, RuledOtherwise}
+use Rattle.hall_policy.specs.declared.rule.Rule.TheVariants.{LimitReached, ListConflict}
 use Rattle.hall_policy.specs.declared.rule.Decision.TheVariants.{Repeat}
 use Rattle.hall_policy.specs.declared.request.Action.{Action}
 use Rattle.hall_policy.specs.declared.request.Action.TheVariants as action
@@ -16,7 +23,8 @@ not_false : (b : Bool) → ¬ (b ≡ false) → IsTrue b
 not_false true n = refl
 not_false false n = absurd (n refl)
 
-may_from : (caller : Option Person) (action : Action) → IsSome caller → ¬ (LacksRole caller action) → TheCaller caller (λ person. IsTrue (may person.roles action))
+may_from : (caller : Option Person) (action : Action) → IsSome caller → ¬ (LacksRole caller action)
+    → TheCaller caller (λ person. IsTrue (may person.roles action))
 may_from (Some person) action there may = (person, refl, not_false _ (λ lacks. may (person, refl, lacks)))
 may_from None action there may = cc
 
@@ -29,25 +37,36 @@ abbrev pub AllPass : Facts → Action → Type 0
 AllPass facts action = (k : ℕ) (r : Rule) → slice_get (rules_asked action) k ≡ Some r → PassImplies r facts action
 
 caller_may : (facts : Facts) (action : Action) → AllPass facts action → CallerMay facts action
-caller_may facts (action.Import people) h = may_from facts.caller (action.Import people) (h 0 UnknownKey refl) (h 1 NoRole refl)
-caller_may facts (action.PutPuzzle key puzzle) h = may_from facts.caller (action.PutPuzzle key puzzle) (h 0 UnknownKey refl) (h 1 NoRole refl)
-caller_may facts (action.ReadPuzzle key) h = may_from facts.caller (action.ReadPuzzle key) (h 0 UnknownKey refl) (h 1 NoRole refl)
+caller_may facts (action.Import people) h = may_from facts.caller (action.Import people) (h 0 UnknownKey refl)
+    (h 1 NoRole refl)
+caller_may facts (action.PutPuzzle key puzzle) h = may_from facts.caller (action.PutPuzzle key puzzle)
+    (h 0 UnknownKey refl) (h 1 NoRole refl)
+caller_may facts (action.ReadPuzzle key) h = may_from facts.caller (action.ReadPuzzle key) (h 0 UnknownKey refl)
+    (h 1 NoRole refl)
 caller_may facts action.ListPuzzles h = may_from facts.caller action.ListPuzzles (h 0 UnknownKey refl) (h 1 NoRole refl)
-caller_may facts (action.Certify key budget) h = may_from facts.caller (action.Certify key budget) (h 0 UnknownKey refl) (h 1 NoRole refl)
-caller_may facts (action.PutRound round sheet) h = may_from facts.caller (action.PutRound round sheet) (h 0 UnknownKey refl) (h 1 NoRole refl)
-caller_may facts (action.Release round) h = may_from facts.caller (action.Release round) (h 0 UnknownKey refl) (h 1 NoRole refl)
+caller_may facts (action.Certify key budget) h = may_from facts.caller (action.Certify key budget) (h 0 UnknownKey refl)
+    (h 1 NoRole refl)
+caller_may facts (action.PutRound round sheet) h = may_from facts.caller (action.PutRound round sheet)
+    (h 0 UnknownKey refl) (h 1 NoRole refl)
+caller_may facts (action.Release round) h = may_from facts.caller (action.Release round) (h 0 UnknownKey refl)
+    (h 1 NoRole refl)
 caller_may facts action.ListRounds h = anyone facts.caller (h 0 UnknownKey refl)
-caller_may facts (action.ReadRound round) h = may_from facts.caller (action.ReadRound round) (h 0 UnknownKey refl) (h 1 NoRole refl)
+caller_may facts (action.ReadRound round) h = may_from facts.caller (action.ReadRound round) (h 0 UnknownKey refl)
+    (h 1 NoRole refl)
 caller_may facts (action.Submit round number token answer) h =
     may_from facts.caller (action.Submit round number token answer) (h 0 UnknownKey refl) (h 1 NoRole refl)
-caller_may facts (action.Answers round) h = may_from facts.caller (action.Answers round) (h 0 UnknownKey refl) (h 1 NoRole refl)
-caller_may facts (action.Solutions round) h = may_from facts.caller (action.Solutions round) (h 0 UnknownKey refl) (h 1 NoRole refl)
+caller_may facts (action.Answers round) h = may_from facts.caller (action.Answers round) (h 0 UnknownKey refl)
+    (h 1 NoRole refl)
+caller_may facts (action.Solutions round) h = may_from facts.caller (action.Solutions round) (h 0 UnknownKey refl)
+    (h 1 NoRole refl)
 caller_may facts (action.Protest round token number text) h =
     may_from facts.caller (action.Protest round token number text) (h 0 UnknownKey refl) (h 1 NoRole refl)
-caller_may facts (action.Protests round) h = may_from facts.caller (action.Protests round) (h 0 UnknownKey refl) (h 1 NoRole refl)
+caller_may facts (action.Protests round) h = may_from facts.caller (action.Protests round) (h 0 UnknownKey refl)
+    (h 1 NoRole refl)
 caller_may facts (action.RuleProtest round entrant token ruling) h =
     may_from facts.caller (action.RuleProtest round entrant token ruling) (h 0 UnknownKey refl) (h 1 NoRole refl)
-caller_may facts (action.Publish round) h = may_from facts.caller (action.Publish round) (h 0 UnknownKey refl) (h 1 NoRole refl)
+caller_may facts (action.Publish round) h = may_from facts.caller (action.Publish round) (h 0 UnknownKey refl)
+    (h 1 NoRole refl)
 caller_may facts (action.Table round) h = tt
 
 object_there : (facts : Facts) (action : Action) → AllPass facts action → ObjectIsThere facts action
@@ -149,33 +168,42 @@ implied_allow facts action h = record {
 
 -- the rules pass that are asked before the one that finds a repetition
 abbrev pub EarlierPass : Facts → Action → Type 0
-EarlierPass facts action = (k : ℕ) (r : Rule) → slice_get (rules_asked action) k ≡ Some r → number_of r < deciding action Repeat → PassImplies r facts action
+EarlierPass facts action = (k : ℕ) (r : Rule) → slice_get (rules_asked action) k ≡ Some r
+    → number_of r < deciding action Repeat → PassImplies r facts action
 
-pub implied_repeat : (facts : Facts) (action : Action) → IsSame facts action → EarlierPass facts action → IsRepetition facts action
+pub implied_repeat : (facts : Facts) (action : Action) → IsSame facts action → EarlierPass facts action
+    → IsRepetition facts action
 implied_repeat facts (action.Submit round number token answer) same h = record {
-  caller = may_from facts.caller (action.Submit round number token answer) (h 0 UnknownKey refl (lit< tt)) (h 1 NoRole refl (lit< tt));
+  caller = may_from facts.caller (action.Submit round number token answer) (h 0 UnknownKey refl (lit< tt))
+      (h 1 NoRole refl (lit< tt));
   object = h 2 Missing refl (lit< tt);
   same = same;
 }
 implied_repeat facts (action.Protest round token number text) same h = record {
-  caller = may_from facts.caller (action.Protest round token number text) (h 0 UnknownKey refl (lit< tt)) (h 1 NoRole refl (lit< tt));
+  caller = may_from facts.caller (action.Protest round token number text) (h 0 UnknownKey refl (lit< tt))
+      (h 1 NoRole refl (lit< tt));
   object = h 2 Missing refl (lit< tt);
   same = same;
 }
 implied_repeat facts (action.RuleProtest round entrant token ruling) same h = record {
-  caller = may_from facts.caller (action.RuleProtest round entrant token ruling) (h 0 UnknownKey refl (lit< tt)) (h 1 NoRole refl (lit< tt));
+  caller = may_from facts.caller (action.RuleProtest round entrant token ruling) (h 0 UnknownKey refl (lit< tt))
+      (h 1 NoRole refl (lit< tt));
   object = h 2 Missing refl (lit< tt);
   same = same;
 }
 implied_repeat facts _ same h = absurd same
 
 -- the round that is shown has the answer's number
-pub submit_there : (facts : Facts) (named : Action) (round : List ℕ) (number : ℕ) (token answer : List ℕ) → named ≡ action.Submit round number token answer →
+pub submit_there : (facts : Facts) (named : Action) (round : List ℕ) (number : ℕ) (token answer : List ℕ)
+    → named ≡ action.Submit round number token answer →
     (shown : RoundIsThere facts named) → EntryIsThere shown.row number → ObjectIsThere facts named
 submit_there facts named round number token answer is shown entry =
-    subst (λ (a : Action). (round : RoundIsThere facts a) → EntryIsThere round.row number → ObjectIsThere facts a) (sym is) (λ s e. record { round = s; entry = e }) shown entry
+    subst (λ (a : Action). (round : RoundIsThere facts a) → EntryIsThere round.row number → ObjectIsThere facts a)
+    (sym is) (λ s e. record { round = s; entry = e }) shown entry
 
-pub protest_there : (facts : Facts) (named : Action) (round token : List ℕ) (number : ℕ) (text : List ℕ) → named ≡ action.Protest round token number text →
+pub protest_there : (facts : Facts) (named : Action) (round token : List ℕ) (number : ℕ) (text : List ℕ)
+    → named ≡ action.Protest round token number text →
     (shown : RoundIsThere facts named) → EntryIsThere shown.row number → ObjectIsThere facts named
 protest_there facts named round token number text is shown entry =
-    subst (λ (a : Action). (round : RoundIsThere facts a) → EntryIsThere round.row number → ObjectIsThere facts a) (sym is) (λ s e. record { round = s; entry = e }) shown entry
+    subst (λ (a : Action). (round : RoundIsThere facts a) → EntryIsThere round.row number → ObjectIsThere facts a)
+    (sym is) (λ s e. record { round = s; entry = e }) shown entry

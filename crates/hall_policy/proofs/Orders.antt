@@ -25,11 +25,13 @@ tester_total = then_total (on_total (λ k. k.round) text_total) (on_total (λ k.
 pub answer_total : IsTotalOrder answer_cmp
 answer_total =
     then_total (on_total (λ k. k.entrant) text_total)
-    (then_total (on_total (λ k. k.round) text_total) (then_total (on_total (λ k. k.number) nat_cmp_total) (on_total (λ k. k.token) text_total)))
+    (then_total (on_total (λ k. k.round) text_total) (then_total (on_total (λ k. k.number) nat_cmp_total)
+    (on_total (λ k. k.token) text_total)))
 
 pub protest_total : IsTotalOrder protest_cmp
 protest_total =
-    then_total (on_total (λ k. k.entrant) text_total) (then_total (on_total (λ k. k.round) text_total) (on_total (λ k. k.token) text_total))
+    then_total (on_total (λ k. k.entrant) text_total) (then_total (on_total (λ k. k.round) text_total)
+    (on_total (λ k. k.token) text_total))
 
 -- texts, and numbers, that tie are one
 pub same_texts : IsAntisymmetric text_cmp
@@ -64,8 +66,10 @@ same_tester_keys a b e =
 
 pub same_answer_keys : IsAntisymmetric answer_cmp
 same_answer_keys a b e =
-    let t = tied_then (text_cmp a.entrant b.entrant) (ordering_then (text_cmp a.round b.round) (ordering_then (nat_cmp a.number b.number) (text_cmp a.token b.token))) e in
-    let u = tied_then (text_cmp a.round b.round) (ordering_then (nat_cmp a.number b.number) (text_cmp a.token b.token)) t.1 in
+    let t = tied_then (text_cmp a.entrant b.entrant) (ordering_then (text_cmp a.round b.round)
+    (ordering_then (nat_cmp a.number b.number) (text_cmp a.token b.token))) e in
+    let u = tied_then (text_cmp a.round b.round) (ordering_then (nat_cmp a.number b.number) (text_cmp a.token b.token))
+    t.1 in
     let v = tied_then (nat_cmp a.number b.number) (text_cmp a.token b.token) u.1 in
     let entrant : a.entrant ≡ b.entrant = same_texts a.entrant b.entrant t.0 in
     let round : a.round ≡ b.round = same_texts a.round b.round u.0 in
@@ -75,7 +79,8 @@ same_answer_keys a b e =
 
 pub same_protest_keys : IsAntisymmetric protest_cmp
 same_protest_keys a b e =
-    let t = tied_then (text_cmp a.entrant b.entrant) (ordering_then (text_cmp a.round b.round) (text_cmp a.token b.token)) e in
+    let t = tied_then (text_cmp a.entrant b.entrant) (ordering_then (text_cmp a.round b.round)
+    (text_cmp a.token b.token)) e in
     let u = tied_then (text_cmp a.round b.round) (text_cmp a.token b.token) t.1 in
     let entrant : a.entrant ≡ b.entrant = same_texts a.entrant b.entrant t.0 in
     let round : a.round ≡ b.round = same_texts a.round b.round u.0 in

@@ -1,5 +1,6 @@
 -- The rules give no second total.
-use Rattle.std.proofs.Common.{arith, ◌≡◌, ◌<◌, ◌+◌, ◌-◌, ◌*◌, ◌+ℤ◌, ◌*ℤ◌, ◌==◌, inl, inr, ℕ, ℤ, pos, negsuc, List, length, sym, ap, subst, get_or, ◌∙◌, sum_by, nat_lt}
+use Rattle.std.proofs.Common.{arith, ◌≡◌, ◌<◌, ◌+◌, ◌-◌, ◌*◌, ◌+ℤ◌, ◌*ℤ◌, ◌==◌, inl, inr, ℕ, ℤ, pos, negsuc, List}
+use Rattle.std.proofs.Common.{length, sym, ap, subst, get_or, ◌∙◌, sum_by, nat_lt}
 use Rattle.std.specs.List.{range_with_len}
 use Rattle.std.proofs.lemmas.List.FromFn.{length-range_with_len, get_or-range_with_len}
 use Rattle.std.proofs.lemmas.Int.{ints}
@@ -15,7 +16,8 @@ use Rattle.hall_score.proofs.Counting.{by_bool, eqb_true, eqb_same, not_less, le
 use Rattle.hall_score.proofs.Scores.{entry_of, true_false}
 
 -- ---- a puzzle
-instant_once : (penalty : ℕ) (answers : List AnswerRow) (number points one other : ℕ) → GivesInstant penalty answers number points one → GivesInstant penalty answers number points other → one ≡ other
+instant_once : (penalty : ℕ) (answers : List AnswerRow) (number points one other : ℕ)
+    → GivesInstant penalty answers number points one → GivesInstant penalty answers number points other → one ≡ other
 instant_once penalty answers number points one other (inl a) (inl b) =
     let up = a.1.first b.0 b.1.to b.1.right in
     let down = b.1.first a.0 a.1.to a.1.right in
@@ -26,7 +28,8 @@ instant_once penalty answers number points one other (inr a) (inl b) = absurd (a
 instant_once penalty answers number points one other (inr a) (inr b) = a.1 ∙ sym b.1
 
 -- two last answers stand at one place
-one_last : (answers : List AnswerRow) → AreNumbered answers → (number : ℕ) (a b : AnswerRow) → IsLast number answers a → IsLast number answers b → a ≡ b
+one_last : (answers : List AnswerRow) → AreNumbered answers → (number : ℕ) (a b : AnswerRow) → IsLast number answers a
+    → IsLast number answers b → a ≡ b
 one_last answers numbered number a b one other =
     let i = one.to.given.0 in
     let j = other.to.given.0 in
@@ -34,8 +37,10 @@ one_last answers numbered number a b one other =
     let there : get_or answers j a ≡ b = same_default answers j a b other.to.given.1 ∙ other.to.given.2 in
     let up = one.last b other.to in
     let down = other.last a one.to in
-    let same_n : (get_or answers i a).n ≡ (get_or answers j a).n = ap (λ r. r.n) here ∙ (omega (arith, up, down) ∙ sym (ap (λ r. r.n) there)) in
-    let same_puzzle : (get_or answers i a).key.number ≡ (get_or answers j a).key.number = ap (λ r. r.key.number) here ∙ (one.to.puzzle ∙ (sym other.to.puzzle ∙ sym (ap (λ r. r.key.number) there))) in
+    let same_n : (get_or answers i a).n ≡ (get_or answers j a).n = ap (λ r. r.n) here
+    ∙ (omega (arith, up, down) ∙ sym (ap (λ r. r.n) there)) in
+    let same_puzzle : (get_or answers i a).key.number ≡ (get_or answers j a).key.number = ap (λ r. r.key.number) here
+    ∙ (one.to.puzzle ∙ (sym other.to.puzzle ∙ sym (ap (λ r. r.key.number) there))) in
     by_bool (a ≡ b) (i == j)
     (λ e. sym here ∙ (ap (λ k. get_or answers k a) (eqb_true i j e) ∙ there))
     (λ e. by_bool (a ≡ b) (nat_lt i j)
@@ -45,7 +50,8 @@ one_last answers numbered number a b one other =
     let h = not_less i j after in
     absurd (numbered j i a (omega (arith, apart, h)) one.to.given.1 (sym same_puzzle) (sym same_n))))
 
-sealed_once : (answers : List AnswerRow) → AreNumbered answers → (number points one other : ℕ) → GivesSealed answers number points one → GivesSealed answers number points other → one ≡ other
+sealed_once : (answers : List AnswerRow) → AreNumbered answers → (number points one other : ℕ)
+    → GivesSealed answers number points one → GivesSealed answers number points other → one ≡ other
 sealed_once answers numbered number points one other (inl a) (inl b) =
     let same : a.0 ≡ b.0 = one_last answers numbered number a.0 b.0 a.1 b.1 in
     by_bool (one ≡ other) (is_right a.0)
@@ -57,12 +63,17 @@ sealed_once answers numbered number points one other (inl a) (inr b) = absurd (b
 sealed_once answers numbered number points one other (inr a) (inl b) = absurd (a.0 b.0 b.1.to)
 sealed_once answers numbered number points one other (inr a) (inr b) = a.1 ∙ sym b.1
 
-gives_once : (mode : Mode) (penalty : ℕ) (answers : List AnswerRow) → AreNumbered answers → (number points one other : ℕ) → GivesPoints mode penalty answers number points one → GivesPoints mode penalty answers number points other → one ≡ other
-gives_once Instant penalty answers numbered number points one other a b = instant_once penalty answers number points one other a b
-gives_once Sealed penalty answers numbered number points one other a b = sealed_once answers numbered number points one other a b
+gives_once : (mode : Mode) (penalty : ℕ) (answers : List AnswerRow) → AreNumbered answers
+    → (number points one other : ℕ) → GivesPoints mode penalty answers number points one
+    → GivesPoints mode penalty answers number points other → one ≡ other
+gives_once Instant penalty answers numbered number points one other a b = instant_once penalty answers number points one
+    other a b
+gives_once Sealed penalty answers numbered number points one other a b = sealed_once answers numbered number points one
+    other a b
 
 -- ---- the bonus
-moment_once : (round : RoundRow) (answers : List AnswerRow) (one other : ℕ) → IsLastMoment round answers one → IsLastMoment round answers other → one ≡ other
+moment_once : (round : RoundRow) (answers : List AnswerRow) (one other : ℕ) → IsLastMoment round answers one
+    → IsLastMoment round answers other → one ≡ other
 moment_once round answers one other a b =
     let up = b.greatest a.reached.0 a.reached.1 a.reached.2 a.reached.3 in
     let down = a.greatest b.reached.0 b.reached.1 b.reached.2 b.reached.3 in
@@ -74,10 +85,12 @@ minutes_once moment end (pos n) (negsuc k) a b = omega (arith, ints, a.fit, a.no
 minutes_once moment end (negsuc n) (pos k) a b = omega (arith, ints, a.fit, a.no_more, b.fit, b.no_more)
 minutes_once moment end (negsuc n) (negsuc k) a b = omega (arith, ints, a.fit, a.no_more, b.fit, b.no_more)
 
-bonus_once : (round : RoundRow) (answers : List AnswerRow) (one other : ℤ) → IsBonus round answers one → IsBonus round answers other → one ≡ other
+bonus_once : (round : RoundRow) (answers : List AnswerRow) (one other : ℤ) → IsBonus round answers one
+    → IsBonus round answers other → one ≡ other
 bonus_once round answers one other (inl a) (inl b) =
     let same = moment_once round answers a.1.0 b.1.0 a.1.2 b.1.2 in
-    let minutes = minutes_once b.1.0 (end_of round.round) a.1.1 b.1.1 (subst (λ m. AreMinutes m (end_of round.round) a.1.1) same a.1.3) b.1.3 in
+    let minutes = minutes_once b.1.0 (end_of round.round) a.1.1 b.1.1
+    (subst (λ m. AreMinutes m (end_of round.round) a.1.1) same a.1.3) b.1.3 in
     a.1.4 ∙ (ap (λ z. pos round.round.bonus *ℤ z) minutes ∙ sym b.1.4)
 bonus_once round answers one other (inl a) (inr b) = absurd (b.0 a.0)
 bonus_once round answers one other (inr a) (inl b) = absurd (a.0 b.0)
@@ -92,7 +105,8 @@ totals_are_one round answers protests one other numbered a b =
     let index : k < count = omega (arith, within, length-range_with_len 1 count) in
     let at = get_or-range_with_len 1 count k d index in
     let entry = entry_of round.puzzles (1 + k) (omega arith) (omega (arith, index)) in
-    let same = gives_once round.round.mode round.round.penalty answers numbered (1 + k) entry.0.points (a.given (1 + k)) (b.given (1 + k)) (a.each (1 + k) entry.0 entry.1) (b.each (1 + k) entry.0 entry.1) in
+    let same = gives_once round.round.mode round.round.penalty answers numbered (1 + k) entry.0.points (a.given (1 + k))
+    (b.given (1 + k)) (a.each (1 + k) entry.0 entry.1) (b.each (1 + k) entry.0 entry.1) in
     ap a.given at ∙ (same ∙ sym (ap b.given at))) in
     let bonus = bonus_once round answers a.bonus b.bonus a.bonus_is b.bonus_is in
     a.total_is ∙ (ap (λ n. (pos n +ℤ a.bonus) +ℤ upheld_points protests) given

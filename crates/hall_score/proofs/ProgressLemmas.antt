@@ -1,5 +1,7 @@
 -- One entrant's answers, taken by their numbers, then by their n.
-use Rattle.std.proofs.Common.{arith, ◌≡◌, ◌≤◌, ◌<◌, ◌+◌, ◌+ℤ◌, ◌*ℤ◌, ◌==◌, ◌&&◌, ℕ, ℤ, pos, suc, Bool, true, false, List, [], ◌∷◌, ◌++◌, length, max, All, refl, sym, ap, subst, ◌∙◌, sum_by, count_by, append_assoc}
+use Rattle.std.proofs.Common.{arith, ◌≡◌, ◌≤◌, ◌<◌, ◌+◌, ◌+ℤ◌, ◌*ℤ◌, ◌==◌, ◌&&◌, ℕ, ℤ, pos, suc, Bool, true, false}
+use Rattle.std.proofs.Common.{List, [], ◌∷◌, ◌++◌, length, max, All, refl, sym, ap, subst, ◌∙◌, sum_by, count_by}
+use Rattle.std.proofs.Common.{append_assoc}
 use Rattle.std.specs.List.{list_all, range_with_len}
 use Rattle.std.proofs.lemmas.List.FromFn.{length-range_with_len}
 use Rattle.std.proofs.lemmas.List.Sums.{sum_by-cons}
@@ -19,7 +21,9 @@ use Rattle.hall_score.proofs.Tried.{alone}
 none_at_all : (round : RoundRow) (score : Score) → HasScoreParts score 0 0 0 → IsScoreOf round [] score
 none_at_all round score gives = none_scores round [] score (λ k d within. absurd (omega arith)) gives.0 gives.1 gives.2
 
-pub first_work : (round : RoundRow) (row : AnswerRow) (progress : Progress) → progress.number ≡ row.key.number → progress.n ≡ row.n → HasScoreParts progress.closed 0 0 0 → AreTriesOf round (row ∷ []) progress.tries → IsProgressOf round (row ∷ []) progress
+pub first_work : (round : RoundRow) (row : AnswerRow) (progress : Progress) → progress.number ≡ row.key.number
+    → progress.n ≡ row.n → HasScoreParts progress.closed 0 0 0 → AreTriesOf round (row ∷ []) progress.tries
+    → IsProgressOf round (row ∷ []) progress
 first_work round row progress number n gives tries = record {
   closed = [];
   current = row ∷ [];
@@ -33,33 +37,49 @@ first_work round row progress number n gives tries = record {
 }
 
 -- the answers to the puzzle at hand come before the next one to it
-pub tried_before : (round : RoundRow) (rows : List AnswerRow) (progress : Progress) (row : AnswerRow) (is : IsProgressOf round rows progress) → progress.number ≡ row.key.number → progress.n < row.n → AreTriedBefore is.current row
+pub tried_before : (round : RoundRow) (rows : List AnswerRow) (progress : Progress) (row : AnswerRow)
+    (is : IsProgressOf round rows progress) → progress.number ≡ row.key.number → progress.n < row.n
+    → AreTriedBefore is.current row
 tried_before round rows progress row is number n k d within =
     let here = is.here k d within in
     let up_to = is.up_to k d within in
     (here ∙ number, omega arith)
 
-pub try_work : (round : RoundRow) (rows : List AnswerRow) (row : AnswerRow) (progress next : Progress) (is : IsProgressOf round rows progress) → progress.number ≡ row.key.number → progress.n < row.n → next.closed ≡ progress.closed → next.number ≡ progress.number → next.n ≡ row.n → AreTriesOf round (is.current ++ row ∷ []) next.tries → IsProgressOf round (rows ++ row ∷ []) next
+pub try_work : (round : RoundRow) (rows : List AnswerRow) (row : AnswerRow) (progress next : Progress)
+    (is : IsProgressOf round rows progress) → progress.number ≡ row.key.number → progress.n < row.n
+    → next.closed ≡ progress.closed → next.number ≡ progress.number → next.n ≡ row.n
+    → AreTriesOf round (is.current ++ row ∷ []) next.tries → IsProgressOf round (rows ++ row ∷ []) next
 try_work round rows row progress next is number less closed same n tries = record {
   closed = is.closed;
   current = is.current ++ row ∷ [];
   whole = ap (λ l. l ++ row ∷ []) is.whole ∙ append_assoc is.closed is.current (row ∷ []);
   before = λ k d within. let h = is.before k d within in omega arith;
-  here = All-push (λ r. r.key.number ≡ next.number) is.current row (λ k d within. is.here k d within ∙ sym same) (sym number ∙ sym same);
-  up_to = All-push (λ r. r.n ≤ next.n) is.current row (λ k d within. let h = is.up_to k d within in omega arith) (omega arith);
+  here = All-push (λ r. r.key.number ≡ next.number) is.current row (λ k d within. is.here k d within ∙ sym same)
+      (sym number ∙ sym same);
+  up_to = All-push (λ r. r.n ≤ next.n) is.current row (λ k d within. let h = is.up_to k d within in omega arith)
+      (omega arith);
   reached = (row, Contains-push is.current row, sym n);
   score = subst (λ s. IsScoreOf round is.closed s) (sym closed) is.score;
   tries = tries;
 }
 
-pub score_work : (round : RoundRow) (rows : List AnswerRow) (progress : Progress) (score : Score) (is : IsProgressOf round rows progress) → score.points ≡ progress.closed.points + progress.tries.score.points → score.solved ≡ progress.closed.solved + progress.tries.score.solved → score.last ≡ max progress.closed.last progress.tries.score.last → IsScoreOf round rows score
+pub score_work : (round : RoundRow) (rows : List AnswerRow) (progress : Progress) (score : Score)
+    (is : IsProgressOf round rows progress) → score.points ≡ progress.closed.points + progress.tries.score.points
+    → score.solved ≡ progress.closed.solved + progress.tries.score.solved
+    → score.last ≡ max progress.closed.last progress.tries.score.last → IsScoreOf round rows score
 score_work round rows progress score is points solved last =
-    subst (λ l. IsScoreOf round l score) (sym is.whole) (score_append round is.closed is.current progress.number progress.closed progress.tries.score score is.score is.tries.score is.before is.here points solved last)
+    subst (λ l. IsScoreOf round l score) (sym is.whole) (score_append round is.closed is.current progress.number
+    progress.closed progress.tries.score score is.score is.tries.score is.before is.here points solved last)
 
-pub puzzle_work : (round : RoundRow) (rows : List AnswerRow) (row : AnswerRow) (progress next : Progress) (is : IsProgressOf round rows progress) → progress.number < row.key.number → IsScoreOf round rows next.closed → next.number ≡ row.key.number → next.n ≡ row.n → AreTriesOf round (row ∷ []) next.tries → IsProgressOf round (rows ++ row ∷ []) next
+pub puzzle_work : (round : RoundRow) (rows : List AnswerRow) (row : AnswerRow) (progress next : Progress)
+    (is : IsProgressOf round rows progress) → progress.number < row.key.number → IsScoreOf round rows next.closed
+    → next.number ≡ row.key.number → next.n ≡ row.n → AreTriesOf round (row ∷ []) next.tries
+    → IsProgressOf round (rows ++ row ∷ []) next
 puzzle_work round rows row progress next is ahead score number n tries =
-    let lower : All (λ r. r.key.number < next.number) (is.closed ++ is.current) = All-append (λ r. r.key.number < next.number) is.closed is.current
-    (λ k d within. let h = is.before k d within in omega arith) (λ k d within. let h = is.here k d within in omega arith) in
+    let lower : All (λ r. r.key.number < next.number) (is.closed ++ is.current) = All-append
+    (λ r. r.key.number < next.number) is.closed is.current
+    (λ k d within. let h = is.before k d within in omega arith)
+    (λ k d within. let h = is.here k d within in omega arith) in
     record {
       closed = rows;
       current = row ∷ [];
@@ -89,7 +109,8 @@ other_number a b e = grind (arith, nat_tests)
 plus_none : (n : ℕ) → pos n +ℤ pos 0 ≡ pos n
 plus_none n = omega (arith, ints)
 
-by_first : (b all : Bool) (count more n : ℕ) → all ≡ (count == n) → more ≡ one_if b + count → count ≤ n → (b && all) ≡ (more == suc n)
+by_first : (b all : Bool) (count more n : ℕ) → all ≡ (count == n) → more ≡ one_if b + count → count ≤ n
+    → (b && all) ≡ (more == suc n)
 by_first true all count more n rest is most = rest ∙ same_tests count n more (suc n) (omega arith) (omega arith)
 by_first false all count more n rest is most = sym (other_number more (suc n) (λ e. omega arith))
 
@@ -108,19 +129,28 @@ all_counted p (k ∷ ks) =
     let count = sum_by-cons (λ k. one_if (p k)) k ks in
     by_first (p k) (list_all p ks) (count_by p ks) (count_by p (k ∷ ks)) (length ks) rest count (count_at_most p ks)
 
-pub all_solved : (round : RoundRow) (rows : List AnswerRow) (score : Score) → IsScoreOf round rows score → are_all_solved round rows ≡ (score.solved == length round.puzzles)
+pub all_solved : (round : RoundRow) (rows : List AnswerRow) (score : Score) → IsScoreOf round rows score
+    → are_all_solved round rows ≡ (score.solved == length round.puzzles)
 all_solved round rows score is =
     all_counted (is_solved round rows) (range_with_len 1 (length round.puzzles))
-    ∙ (ap (λ n. n == length (range_with_len 1 (length round.puzzles))) (sym is.solved) ∙ ap (λ n. score.solved == n) (length-range_with_len 1 (length round.puzzles)))
+    ∙ (ap (λ n. n == length (range_with_len 1 (length round.puzzles))) (sym is.solved)
+    ∙ ap (λ n. score.solved == n) (length-range_with_len 1 (length round.puzzles)))
 
-pub points_with_bonus : (round : RoundRow) (rows : List AnswerRow) (score : Score) (z : ℤ) → IsScoreOf round rows score → score.solved ≡ length round.puzzles → z ≡ pos score.points +ℤ (pos round.round.bonus *ℤ minutes_left round score.last) → z ≡ answer_points round rows
+pub points_with_bonus : (round : RoundRow) (rows : List AnswerRow) (score : Score) (z : ℤ) → IsScoreOf round rows score
+    → score.solved ≡ length round.puzzles → z ≡ pos score.points +ℤ
+    (pos round.round.bonus *ℤ minutes_left round score.last) → z ≡ answer_points round rows
 points_with_bonus round rows score z is solved value =
-    let all : are_all_solved round rows ≡ true = all_solved round rows score is ∙ same_number score.solved (length round.puzzles) solved in
+    let all : are_all_solved round rows ≡ true = all_solved round rows score is
+    ∙ same_number score.solved (length round.puzzles) solved in
     let bonus : bonus_of round rows ≡ pos round.round.bonus *ℤ minutes_left round score.last = rw (all, is.last) refl in
-    value ∙ (ap (λ n. pos n +ℤ (pos round.round.bonus *ℤ minutes_left round score.last)) is.points ∙ ap (λ b. pos (sum_by (points_for round rows) rows) +ℤ b) (sym bonus))
+    value ∙ (ap (λ n. pos n +ℤ (pos round.round.bonus *ℤ minutes_left round score.last)) is.points
+    ∙ ap (λ b. pos (sum_by (points_for round rows) rows) +ℤ b) (sym bonus))
 
-pub points_alone : (round : RoundRow) (rows : List AnswerRow) (score : Score) (z : ℤ) → IsScoreOf round rows score → (score.solved ≡ length round.puzzles → ⊥) → z ≡ pos score.points → z ≡ answer_points round rows
+pub points_alone : (round : RoundRow) (rows : List AnswerRow) (score : Score) (z : ℤ) → IsScoreOf round rows score
+    → (score.solved ≡ length round.puzzles → ⊥) → z ≡ pos score.points → z ≡ answer_points round rows
 points_alone round rows score z is apart value =
-    let all : are_all_solved round rows ≡ false = all_solved round rows score is ∙ other_number score.solved (length round.puzzles) apart in
+    let all : are_all_solved round rows ≡ false = all_solved round rows score is
+    ∙ other_number score.solved (length round.puzzles) apart in
     let bonus : bonus_of round rows ≡ pos 0 = rw all refl in
-    value ∙ (ap (λ n. pos n) is.points ∙ (sym (plus_none (sum_by (points_for round rows) rows)) ∙ ap (λ b. pos (sum_by (points_for round rows) rows) +ℤ b) (sym bonus)))
+    value ∙ (ap (λ n. pos n) is.points ∙ (sym (plus_none (sum_by (points_for round rows) rows))
+    ∙ ap (λ b. pos (sum_by (points_for round rows) rows) +ℤ b) (sym bonus)))

@@ -1,11 +1,13 @@
 -- What a hole with a width writes.
-use Rattle.std.proofs.Common.{arith, ◌≡◌, ◌≤◌, ◌-◌, ◌^◌, ℕ, suc, ℤ, pos, negsuc, List, [], ◌∷◌, length, true, false, All, refl, append_assoc, IsTrue, ltb}
+use Rattle.std.proofs.Common.{arith, ◌≡◌, ◌≤◌, ◌-◌, ◌^◌, ℕ, suc, ℤ, pos, negsuc, List, [], ◌∷◌, length, true, false}
+use Rattle.std.proofs.Common.{All, refl, append_assoc, IsTrue, ltb}
 use Rattle.std.proofs.Padding.{take_chars_all}
 use Rattle.std.proofs.Math.Nat.{sub_self}
 use Rattle.std.proofs.lemmas.List.{append-nil}
 use Rattle.std.proofs.lemmas.Bool.Decides.{nat_tests}
 use Rattle.std.proofs.lemmas.List.Elements.{All-tail, All-head}
-use Rattle.std.specs.Fmt.{decimal, signed_decimal, format_spec, padded, padded_integral, char_count, is_char_start, styled_text, styled_decimal, styled_signed_decimal}
+use Rattle.std.specs.Fmt.{decimal, signed_decimal, format_spec, padded, padded_integral, char_count, is_char_start}
+use Rattle.std.specs.Fmt.{styled_text, styled_decimal, styled_signed_decimal}
 use Rattle.hall_policy.specs.Text.{is_word_byte}
 use Rattle.hall_score.specs.Table.{to_right, to_left}
 
@@ -36,10 +38,17 @@ unfolding char_count
 one_byte_each [] all = refl
 one_byte_each (b ∷ text) all =
     let start : is_char_start b ≡ true = one_byte b (All-head (λ x. IsTrue (is_word_byte x)) b text all) in
-    let rest : char_count text ≡ length text = one_byte_each text (All-tail (λ x. IsTrue (is_word_byte x)) b text all) in
+    let rest : char_count text ≡ length text = one_byte_each text
+    (All-tail (λ x. IsTrue (is_word_byte x)) b text all) in
     rw (start, rest) (omega arith)
 
 -- a name at the left end of 24 places
-pub name_padded : (name : List ℕ) → length name ≤ 24 → All (λ byte. IsTrue (is_word_byte byte)) name → styled_text (format_spec 32 1 0 24 (2 ^ 64 - 1)) name ≡ to_left 24 name
+pub name_padded : (name : List ℕ) → length name ≤ 24 → All (λ byte. IsTrue (is_word_byte byte)) name
+    → styled_text (format_spec 32 1 0 24 (2 ^ 64 - 1)) name ≡ to_left 24 name
 unfolding padded lib.Utf8.encode
-name_padded name few all = rw (take_chars_all (2 ^ 64 - 1) name (omega arith), one_byte_each name all, less_none (24 - length name)) refl
+name_padded name few all = rw (
+  take_chars_all (2 ^ 64 - 1) name (omega arith),
+  one_byte_each name all,
+  less_none
+      (24 - length name),
+) refl

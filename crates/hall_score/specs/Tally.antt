@@ -71,7 +71,7 @@ AreHeld round protests answers totals None = (answers ≡ []) × (totals ≡ [])
 
 -- the tally of the round has taken these protests and then these answers
 pub record IsTallyOf (round : RoundRow) (protests : List ProtestRow) (answers : List AnswerRow) (tally : Tally)
-  : Type 0 where
+    : Type 0 where
   pub round_is : tally.round ≡ round
   pub rulings_are : AreRulingsOf protests (rulings_at tally.rulings)
   pub answers_are : AreHeld round protests answers tally.totals tally.last

@@ -1,6 +1,6 @@
 -- When daylight saving time is in force, by the changes of one year.
-use Rattle.std.proofs.Common.{◌≡◌, ◌∙◌, sym, subst, refl, arith, ◌⊎◌, inl, inr, ℤ, pos, neg_ℤ, ◌+ℤ◌, ◌-ℤ◌, ◌*ℤ◌, ◌<ℤ◌, ◌≤ℤ◌}
-use Rattle.std.proofs.Common.{Some}
+use Rattle.std.proofs.Common.{◌≡◌, ◌∙◌, sym, subst, refl, arith, ◌⊎◌, inl, inr, ℤ, pos, neg_ℤ, ◌+ℤ◌, ◌-ℤ◌, ◌*ℤ◌, ◌<ℤ◌}
+use Rattle.std.proofs.Common.{◌≤ℤ◌, Some}
 use Rattle.std.proofs.lemmas.Int.{ints, by_lt_z}
 use Rattle.jiff_core.specs.Calendar.{IsYear, days_in_year}
 use Rattle.jiff_core.proofs.CalendarLemmas.{day_count-later_year, days_from_civil-day_count}
@@ -69,10 +69,12 @@ module _ (std : ℤ) (dst : DstText) where
   -- a year has one beginning and one end
   one_begun : (z y t : ℤ) (c : ChangesIn std dst y) → z ≡ y → second_in z dst.start ≡ Some (t +ℤ std) → t ≡ c.begun
   one_begun z y t c same e =
-      let both : t +ℤ std ≡ c.begun +ℤ std = some_same (sym (subst (λ x. second_in x dst.start ≡ Some (t +ℤ std)) same e) ∙ c.begins) in
+      let both : t +ℤ std ≡ c.begun +ℤ std = some_same (sym (subst (λ x. second_in x dst.start ≡ Some (t +ℤ std)) same
+      e) ∙ c.begins) in
       omega (arith, ints)
 
-  one_ended : (z y t : ℤ) (c : ChangesIn std dst y) → z ≡ y → second_in z dst.finish ≡ Some (t +ℤ dst.seconds) → t ≡ c.ended
+  one_ended : (z y t : ℤ) (c : ChangesIn std dst y) → z ≡ y → second_in z dst.finish ≡ Some (t +ℤ dst.seconds)
+      → t ≡ c.ended
   one_ended z y t c same e =
       let both : t +ℤ dst.seconds ≡ c.ended +ℤ dst.seconds =
       some_same (sym (subst (λ x. second_in x dst.finish ≡ Some (t +ℤ dst.seconds)) same e) ∙ c.ends) in

@@ -1,7 +1,7 @@
 -- The moment of a civil time in a zone is the first at which the zone's clocks show it.
-use Rattle.std.proofs.Common.{◌≡◌, ◌∙◌, sym, ap, subst, refl, arith, ℕ, ◌⊎◌, inl, inr, ◌<◌, ◌≤◌, ◌+◌, ◌*◌}
-use Rattle.std.proofs.Common.{ℤ, pos, negsuc, ◌+ℤ◌, ◌-ℤ◌, ◌*ℤ◌, ◌<ℤ◌, ◌≤ℤ◌, List, Option, Some, None, Ok}
-use Rattle.std.proofs.Common.{◌&&◌, true, false, cond}
+use Rattle.std.proofs.Common.{◌≡◌, ◌∙◌, sym, ap, subst, refl, arith, ℕ, ◌⊎◌, inl, inr, ◌<◌, ◌≤◌, ◌+◌, ◌*◌, ℤ, pos}
+use Rattle.std.proofs.Common.{negsuc, ◌+ℤ◌, ◌-ℤ◌, ◌*ℤ◌, ◌<ℤ◌, ◌≤ℤ◌, List, Option, Some, None, Ok, ◌&&◌, true, false}
+use Rattle.std.proofs.Common.{cond}
 use Rattle.std.specs.Prelude.{codes, nat_le}
 use Rattle.std.proofs.lemmas.Bool.{and_parts, leb-true}
 use Rattle.std.proofs.lemmas.Int.{ints, by_lt_z}
@@ -19,9 +19,11 @@ use Rattle.hall_sheet.specs.Civil.{Civil, seconds_to, moment_at}
 use Rattle.hall_sheet.specs.Start.{has_form, number_at, day_in, clock_in, civil_of, civil_in}
 use Rattle.hall_sheet.specs.Table.{in_range}
 use Rattle.hall_sheet.specs.Laws.{ClocksShowStarts}
-use Rattle.hall_sheet.specs.Clocks.{IsSaving, IsInYear, StandsAt, ShowsAt, IsFirstShown, IsSkipped, LieApart, AllShowYear, BeginsFirst, EndsFirst, IsRegularWith}
+use Rattle.hall_sheet.specs.Clocks.{IsSaving, IsInYear, StandsAt, ShowsAt, IsFirstShown, IsSkipped, LieApart}
+use Rattle.hall_sheet.specs.Clocks.{AllShowYear, BeginsFirst, EndsFirst, IsRegularWith}
 use Rattle.hall_sheet.specs.Zone.{offset_of, shown}
-use Rattle.hall_sheet.proofs.Changes.{Reads, ReadsIn, reads_change, saving_between, not_saving_beside, not_saving_between, saving_after, saving_before}
+use Rattle.hall_sheet.proofs.Changes.{Reads, ReadsIn, reads_change, saving_between, not_saving_beside}
+use Rattle.hall_sheet.proofs.Changes.{not_saving_between, saving_after, saving_before}
 use Rattle.hall_sheet.proofs.Dates.{passed}
 use Rattle.hall_sheet.proofs.Picked.{IsPicked, IsCivilSecond, comes, picked_first, picked_last}
 
@@ -102,7 +104,8 @@ module _ (zone : TzText) (civil : Civil) (reads : ℤ → Type 0) (inner outer f
         told = refl;
       }))
 
-  outer_told : ((at <ℤ (first +ℤ outer)) ⊎ (at <ℤ (first +ℤ inner))) ⊎ (((second +ℤ inner) ≤ℤ at) × ((second +ℤ outer) ≤ℤ at))
+  outer_told : ((at <ℤ (first +ℤ outer)) ⊎ (at <ℤ (first +ℤ inner)))
+      ⊎ (((second +ℤ inner) ≤ℤ at) × ((second +ℤ outer) ≤ℤ at))
       → IsTold zone civil (seconds_to civil outer)
   outer_told (inr (after, past)) =
       let one = after in
@@ -149,7 +152,8 @@ module _ (zone : TzText) (civil : Civil) (reads : ℤ → Type 0) (inner outer f
       }))
 
   told_by : (offset : ℤ) → IsPicked inner outer first second at offset → IsTold zone civil (seconds_to civil offset)
-  told_by offset (inl (is, late, past, before)) = subst (λ o. IsTold zone civil (seconds_to civil o)) (sym is) (inner_told late past before)
+  told_by offset (inl (is, late, past, before)) = subst (λ o. IsTold zone civil (seconds_to civil o)) (sym is)
+      (inner_told late past before)
   told_by offset (inr (is, out)) = subst (λ o. IsTold zone civil (seconds_to civil o)) (sym is) (outer_told out)
 
 -- ---- the reader's civil times
@@ -162,7 +166,8 @@ record IsRead (civil : Civil) : Type 0 where
 
 clock_below : (hours minutes seconds clock : ℕ) → clock_in hours minutes seconds ≡ Some clock → clock < 86400
 clock_below hours minutes seconds clock e =
-    let (test, same) = cond_some (nat_le hours 23 && nat_le minutes 59 && nat_le seconds 59) (3600 * hours + 60 * minutes + seconds) clock e in
+    let (test, same) = cond_some (nat_le hours 23 && nat_le minutes 59 && nat_le seconds 59)
+    (3600 * hours + 60 * minutes + seconds) clock e in
     let (front, third) = and_parts (nat_le hours 23 && nat_le minutes 59) (nat_le seconds 59) test in
     let (first, second) = and_parts (nat_le hours 23) (nat_le minutes 59) front in
     let a = leb-true hours 23 first in
@@ -172,7 +177,8 @@ clock_below hours minutes seconds clock e =
     omega arith
 
 day_within : (year month day : ℕ) (number : ℤ) → day_in year month day ≡ Some number
-    → (year ≤ 9999) × (first_day (pos year) ≤ℤ number) × (number <ℤ (first_day (pos year) +ℤ pos (days_in_year (pos year))))
+    → (year ≤ 9999) × (first_day (pos year) ≤ℤ number) × (number <ℤ
+    (first_day (pos year) +ℤ pos (days_in_year (pos year))))
 day_within year month day number e =
     let (test, same) = cond_some (nat_le year 9999 && (nat_le 1 month && nat_le month 12)
     && (nat_le 1 day && nat_le day (days_in_month (pos year) month))) (days_from_civil (pos year) month day) number e in
@@ -182,8 +188,11 @@ day_within year month day number e =
     let d = is.2 in
     let low = d.0 in
     let high = d.1 in
-    let date : IsCivilDate (pos year) month day =
-    (is.0, (omega (arith, ints, m.0), omega (arith, ints, m.1)), (omega (arith, ints, low), omega (arith, ints, high))) in
+    let date : IsCivilDate (pos year) month day = (
+      is.0,
+      (omega (arith, ints, m.0), omega (arith, ints, m.1)),
+      (omega (arith, ints, low), omega (arith, ints, high)),
+    ) in
     let bound = day_of_year_bound (pos year) month day date in
     let place = day_count-day_of_year (pos year) month day (omega (arith, ints, low)) in
     let count = days_from_civil-day_count (pos year) month day in
@@ -204,11 +213,15 @@ is_read text civil e = elim (has_form (codes "0000-00-00T00:00:00") text) as (λ
     (day_in (number_at text 0 4) (number_at text 5 7) (number_at text 8 10))
     (clock_in (number_at text 11 13) (number_at text 14 16) (number_at text 17 19))) None ≡ Some civil → IsRead civil) [
       | true ↦ λ there.
-          let (same, day, clock) = civil_parts (number_at text 0 4) (day_in (number_at text 0 4) (number_at text 5 7) (number_at text 8 10))
+          let (same, day, clock) = civil_parts (number_at text 0 4)
+          (day_in (number_at text 0 4) (number_at text 5 7) (number_at text 8 10))
           (clock_in (number_at text 11 13) (number_at text 14 16) (number_at text 17 19)) civil there in
-          let (late, low, high) = day_within (number_at text 0 4) (number_at text 5 7) (number_at text 8 10) civil.day day in
-          let small = clock_below (number_at text 11 13) (number_at text 14 16) (number_at text 17 19) civil.clock clock in
-          let reads : Reads (pos (number_at text 0 4)) (civil.day *ℤ pos 86400 +ℤ pos civil.clock) = (omega (arith, ints), omega (arith, ints)) in
+          let (late, low, high) = day_within (number_at text 0 4) (number_at text 5 7) (number_at text 8 10) civil.day
+          day in
+          let small = clock_below (number_at text 11 13) (number_at text 14 16) (number_at text 17 19) civil.clock
+          clock in
+          let reads : Reads (pos (number_at text 0 4)) (civil.day *ℤ pos 86400 +ℤ pos civil.clock) =
+          (omega (arith, ints), omega (arith, ints)) in
           record {
             year = number_at text 0 4;
             is_year = same;
@@ -247,7 +260,8 @@ module _ (name : List ℕ) (std : ℤ) (d : DstText) (civil : Civil) (read : IsR
   reads_before t shown = let a = shown.0.0 in let b = shown.0.1 in inl (omega (arith, ints), omega (arith, ints))
 
   module _ (all : BeginsFirst std d) where
-    first_swings : Swings zone (ReadsIn std d civil.year) d.seconds std (all civil.year is_in).0.begun (all civil.year is_in).0.ended
+    first_swings : Swings zone (ReadsIn std d civil.year) d.seconds std (all civil.year is_in).0.begun
+        (all civil.year is_in).0.ended
     first_swings =
         let c = (all civil.year is_in).0 in
         record {
@@ -269,7 +283,8 @@ module _ (name : List ℕ) (std : ℤ) (d : DstText) (civil : Civil) (read : IsR
           reads_before_first = reads_before c.begun c.begun_in;
           reads_second = reads_change std d civil.year c.ended c.ended_in;
           reads_before_second = reads_before c.ended c.ended_in;
-          apart = let a = (all civil.year is_in).1.0 in let b = (all civil.year is_in).1.1 in (omega (arith, ints), omega (arith, ints));
+          apart = let a = (all civil.year is_in).1.0 in let b = (all civil.year is_in).1.1 in
+              (omega (arith, ints), omega (arith, ints));
         }
 
     first_told : IsTold zone civil (seconds_to civil (offset_of zone civil))
@@ -281,7 +296,8 @@ module _ (name : List ℕ) (std : ℤ) (d : DstText) (civil : Civil) (read : IsR
         let picked = picked_first std d.seconds c.begun c.ended (civil.day *ℤ pos 86400 +ℤ pos civil.clock)
         (second_is_civil civil.year (c.begun +ℤ d.seconds) is_in c.begun_in.1)
         (second_is_civil civil.year (c.ended +ℤ std) is_in c.ended_in.0) (all civil.year is_in).1 in
-        rw (starts, finishes, n) (told_by zone civil (ReadsIn std d civil.year) d.seconds std c.begun c.ended first_swings by_dst by_std _ picked)
+        rw (starts, finishes, n) (told_by zone civil (ReadsIn std d civil.year) d.seconds std c.begun c.ended
+        first_swings by_dst by_std _ picked)
 
   module _ (all : EndsFirst std d) where
     holds_beside : (m : ℤ) → ReadsIn std d civil.year m
@@ -289,7 +305,8 @@ module _ (name : List ℕ) (std : ℤ) (d : DstText) (civil : Civil) (read : IsR
     holds_beside m reads (inl before) = saving_before std d all civil.year m is_in reads is_after before
     holds_beside m reads (inr after) = saving_after std d all civil.year m is_in reads after
 
-    last_swings : Swings zone (ReadsIn std d civil.year) std d.seconds (all civil.year is_in).0.ended (all civil.year is_in).0.begun
+    last_swings : Swings zone (ReadsIn std d civil.year) std d.seconds (all civil.year is_in).0.ended
+        (all civil.year is_in).0.begun
     last_swings =
         let c = (all civil.year is_in).0 in
         record {
@@ -323,24 +340,27 @@ module _ (name : List ℕ) (std : ℤ) (d : DstText) (civil : Civil) (read : IsR
         let picked = picked_last std d.seconds c.begun c.ended (civil.day *ℤ pos 86400 +ℤ pos civil.clock)
         (second_is_civil civil.year (c.begun +ℤ d.seconds) is_in c.begun_in.1)
         (second_is_civil civil.year (c.ended +ℤ std) is_in c.ended_in.0) (all civil.year is_in).1 in
-        rw (starts, finishes, n) (told_by zone civil (ReadsIn std d civil.year) std d.seconds c.ended c.begun last_swings by_std by_dst _ picked)
+        rw (starts, finishes, n) (told_by zone civil (ReadsIn std d civil.year) std d.seconds c.ended c.begun
+        last_swings by_std by_dst _ picked)
 
 zone_told : (name : List ℕ) (std : ℤ) (dst : Option DstText) (civil : Civil) → IsRead civil → IsRegularWith std dst
     → let zone : TzText = record { std_name = name; std_seconds = std; dst = dst } in
     IsTold zone civil (seconds_to civil (offset_of zone civil))
 zone_told name std None civil read regular = inl (record {
   shown = (std, refl, refl);
-  first = λ m shows. let (o, stands, told) = shows in let is = told ∙ ap (seconds_to civil) stands in omega (arith, ints);
+  first = λ m shows. let (o, stands, told) = shows in let is = told
+      ∙ ap (seconds_to civil) stands in omega (arith, ints);
 })
 zone_told name std (Some d) civil read (inl all) = first_told name std d civil read all
 zone_told name std (Some d) civil read (inr all) = last_told name std d civil read all
 
 -- what is in range is the moment
 in_range_is : (f : Field) (most : ℕ) (z : ℤ) (moment : ℕ) → in_range f 0 most z ≡ Ok moment → z ≡ pos moment
-in_range_is f most (pos n) moment e = elim (nat_le 0 n && nat_le n most) as (λ t. (unless (refusal.Range f) t >>= (λ _. Ok n)) ≡ Ok moment → pos n ≡ pos moment) [
-  | true ↦ λ there. let same : n ≡ moment = cc in ap (λ k. pos k) same
-  | false ↦ λ there. absurd (cc)
-] e
+in_range_is f most (pos n) moment e = elim (nat_le 0 n && nat_le n most) as
+    (λ t. (unless (refusal.Range f) t >>= (λ _. Ok n)) ≡ Ok moment → pos n ≡ pos moment) [
+      | true ↦ λ there. let same : n ≡ moment = cc in ap (λ k. pos k) same
+      | false ↦ λ there. absurd (cc)
+    ] e
 in_range_is f most (negsuc n) moment e = absurd (cc)
 
 pub clocks_show_starts : ClocksShowStarts

@@ -1,6 +1,6 @@
 -- The number that a few digits write is small.
-use Rattle.std.proofs.Common.{◌≡◌, ℕ, zero, suc, ◌+◌, ◌*◌, ◌-◌, ◌^◌, ◌<◌, ◌≤◌, List, length, take, get_or, true}
-use Rattle.std.proofs.Common.{arith, refl, length-take, lit≤}
+use Rattle.std.proofs.Common.{◌≡◌, ℕ, zero, suc, ◌+◌, ◌*◌, ◌-◌, ◌^◌, ◌<◌, ◌≤◌, List, length, take, get_or, true, arith}
+use Rattle.std.proofs.Common.{refl, length-take, lit≤}
 use Rattle.std.specs.List.{list_all}
 use Rattle.std.specs.Char.{is_ascii_digit, digit_value}
 use Rattle.std.specs.Str.Parse.{digits_value, AllDigits}
@@ -30,7 +30,8 @@ pub record IsDigit (byte : ℕ) : Type 0 where
 digit_is : (byte : ℕ) → is_ascii_digit byte ≡ true → IsDigit byte
 digit_is byte h = record { least = grind arith; most = grind arith; value = grind arith }
 
-pub digit_at : (text : List ℕ) (i : ℕ) → list_all is_ascii_digit text ≡ true → i < length text → IsDigit (get_or text i 0)
+pub digit_at : (text : List ℕ) (i : ℕ) → list_all is_ascii_digit text ≡ true → i < length text
+    → IsDigit (get_or text i 0)
 digit_at text i all within = digit_is (get_or text i 0) (AllPass-from_list_all is_ascii_digit text all i 0 within)
 
 pub value_more : (text : List ℕ) (i v : ℕ) → i < length text → v ≡ digits_value 10 (take i text)

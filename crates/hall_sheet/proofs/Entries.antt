@@ -1,6 +1,7 @@
 -- Entries one after another.
-use Rattle.std.proofs.Common.{◌≡◌, ◌∙◌, sym, refl, arith, ℕ, zero, suc, ◌+◌, ◌<◌, ◌≤◌, ◌||◌, Bool, true, false}
-use Rattle.std.proofs.Common.{◌⊎◌, inl, inr, ap, List, [], ◌∷◌, ◌++◌, length, drop, map, get_or, length-append, Ok, Err, Result, AllPairs}
+use Rattle.std.proofs.Common.{◌≡◌, ◌∙◌, sym, refl, arith, ℕ, zero, suc, ◌+◌, ◌<◌, ◌≤◌, ◌||◌, Bool, true, false, ◌⊎◌}
+use Rattle.std.proofs.Common.{inl, inr, ap, List, [], ◌∷◌, ◌++◌, length, drop, map, get_or, length-append, Ok, Err}
+use Rattle.std.proofs.Common.{Result, AllPairs}
 use Rattle.std.specs.List.{list_any}
 use Rattle.std.specs.Str.{bytes_eq}
 use Rattle.std.proofs.lemmas.Bool.{cases_Bool, false≢true, and_from, eq-eqb}
@@ -77,10 +78,12 @@ differ_more : (before : List Entry) (entry : Entry) → Differ before → list_a
     → Differ (before ++ entry ∷ [])
 differ_more before entry differ none =
     all_pairs_push (λ a b. ¬ (a.puzzle ≡ b.puzzle)) before entry differ (λ k d within same.
-    false≢true (sym (none_passes (is_repeated entry) before k d none within) ∙ seen_again entry (get_or before k d) same))
+    false≢true (sym (none_passes (is_repeated entry) before k d none within)
+    ∙ seen_again entry (get_or before k d) same))
 
 -- the entries that were read differ, and there is one for each table
-pub entries_whole : (before : List Entry) (tables : List Members) (list : List Entry) → entries_in before tables ≡ Ok list
+pub entries_whole : (before : List Entry) (tables : List Members) (list : List Entry)
+    → entries_in before tables ≡ Ok list
     → Differ before → Differ list × (length list ≡ length before + length tables)
 entries_whole before [] list e differ = let same : before ≡ list = cc in (rw same at differ, rw same (omega arith))
 entries_whole before (ms ∷ more) list e differ =
@@ -89,7 +92,8 @@ entries_whole before (ms ∷ more) list e differ =
           elim (cases_Bool (list_any (is_repeated entry) before)) [
             | inl again ↦ absurd (let no = sym (repeated_entry before ms more entry is again) ∙ e in cc)
             | inr new ↦
-                let rest = entries_whole (before ++ entry ∷ []) more list (sym (new_entry before ms more entry is new) ∙ e)
+                let rest = entries_whole (before ++ entry ∷ []) more list
+                (sym (new_entry before ms more entry is new) ∙ e)
                 (differ_more before entry differ new) in
                 (rest.0, omega (arith, rest.1, length-append before (entry ∷ [])))
           ]

@@ -1,6 +1,6 @@
 -- What a form says of the bytes of a text: where the form has zeros, the text has digits.
-use Rattle.std.proofs.Common.{◌≡◌, refl, arith, ℕ, zero, suc, ◌-◌, true, ◌==◌, List, [], ◌∷◌}
-use Rattle.std.proofs.Common.{length, take, drop, length-take, length-drop}
+use Rattle.std.proofs.Common.{◌≡◌, refl, arith, ℕ, zero, suc, ◌-◌, true, ◌==◌, List, [], ◌∷◌, length, take, drop}
+use Rattle.std.proofs.Common.{length-take, length-drop}
 use Rattle.std.specs.Prelude.{slice_range, codes}
 use Rattle.std.specs.List.{list_all, zip}
 use Rattle.std.specs.Char.{is_ascii_digit}
@@ -15,7 +15,8 @@ fit_take zero form text h = refl
 fit_take (suc n) [] text h = refl
 fit_take (suc n) (m ∷ ms) [] h = refl
 fit_take (suc n) (m ∷ ms) (b ∷ bs) h =
-    let (here, more) = and_parts (fits_mark m b) (list_all (λ (p : ℕ × ℕ). fits_mark p.0 p.1) (zip ms bs)) h in and_from _ _ here (fit_take n ms bs more)
+    let (here, more) = and_parts (fits_mark m b) (list_all (λ (p : ℕ × ℕ). fits_mark p.0 p.1) (zip ms bs)) h in and_from
+    _ _ here (fit_take n ms bs more)
 
 fit_none : (form : List ℕ) → Fit form []
 fit_none [] = refl
@@ -25,7 +26,8 @@ fit_drop : (n : ℕ) (form text : List ℕ) → Fit form text → Fit (drop n fo
 fit_drop zero form text h = h
 fit_drop (suc n) [] text h = refl
 fit_drop (suc n) (m ∷ ms) [] h = fit_none (drop n ms)
-fit_drop (suc n) (m ∷ ms) (b ∷ bs) h = let (here, more) = and_parts (fits_mark m b) (list_all (λ (p : ℕ × ℕ). fits_mark p.0 p.1) (zip ms bs)) h in fit_drop n ms bs more
+fit_drop (suc n) (m ∷ ms) (b ∷ bs) h = let (here, more) = and_parts (fits_mark m b)
+    (list_all (λ (p : ℕ × ℕ). fits_mark p.0 p.1) (zip ms bs)) h in fit_drop n ms bs more
 
 -- a text that fits zeros is digits
 fit_digits : (form text : List ℕ) → length text ≡ length form → Fit form text → list_all (λ m. m == 48) form ≡ true
@@ -45,7 +47,8 @@ digits_within form text from to h zeros =
     let (same, fit) = and_parts _ _ h in
     let long : length text ≡ length form = eqb-true _ _ same in
     fit_digits (slice_range form from to) (slice_range text from to)
-    (simp (length-take, length-drop) (rw long refl)) (fit_take (to - from) (drop from form) (drop from text) (fit_drop from form text fit)) zeros
+    (simp (length-take, length-drop) (rw long refl)) (fit_take (to - from) (drop from form) (drop from text)
+    (fit_drop from form text fit)) zeros
 
 -- the digits of a civil time
 pub record CivilDigits (text : List ℕ) : Type 0 where

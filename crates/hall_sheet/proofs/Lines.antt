@@ -31,7 +31,8 @@ not_three (x ∷ y ∷ z ∷ []) n = absurd (n refl)
 not_three (x ∷ y ∷ z ∷ u ∷ more) n = refl
 
 -- one of three fields is there
-pub one_of_three : {G : Type 0} (fields : List (List ℕ)) (i : ℕ) → length fields ≡ 3 → i < 3 → None ≡ field_at fields i → G
+pub one_of_three : {G : Type 0} (fields : List (List ℕ)) (i : ℕ) → length fields ≡ 3 → i < 3 → None ≡ field_at fields i
+    → G
 one_of_three fields i three low none = absurd (field-there fields i (omega (arith, three, low)) (sym none))
 
 all_utf8 : (fields : List (List ℕ)) → AllText fields → list_all is_utf8 fields ≡ true

@@ -1,12 +1,12 @@
 -- Which of its two offsets a zone's rule picks for a civil time.
-use Rattle.std.proofs.Common.{◌≡◌, ◌∙◌, sym, ap, refl, arith, ◌⊎◌, inl, inr, Bool, true, false, not, ◌&&◌, cond}
-use Rattle.std.proofs.Common.{ℤ, pos, neg_ℤ, ◌+ℤ◌, ◌-ℤ◌, ◌*ℤ◌, ◌<ℤ◌, ◌≤ℤ◌, Option, Some, None}
+use Rattle.std.proofs.Common.{◌≡◌, ◌∙◌, sym, ap, refl, arith, ◌⊎◌, inl, inr, Bool, true, false, not, ◌&&◌, cond, ℤ, pos}
+use Rattle.std.proofs.Common.{neg_ℤ, ◌+ℤ◌, ◌-ℤ◌, ◌*ℤ◌, ◌<ℤ◌, ◌≤ℤ◌, Option, Some, None}
 use Rattle.std.specs.Prelude.{int_lt, int_le, if◌then◌else◌, option_map}
 use Rattle.std.proofs.lemmas.Int.{ints, by_lt_z}
 use Rattle.jiff_core.specs.Timestamp.{nanos_of_seconds}
 use Rattle.jiff_tz.specs.declared.posix.Day.{Day}
-use Rattle.jiff_tz.specs.PosixRule.{match_some, clamp_to, nanos_per_day, first_nanosecond, last_nanosecond}
-use Rattle.jiff_tz.specs.PosixRule.{rule_day, in_window, in_span, civil_min, civil_max, saturating_add, saturating_sub}
+use Rattle.jiff_tz.specs.PosixRule.{match_some, clamp_to, nanos_per_day, first_nanosecond, last_nanosecond, rule_day}
+use Rattle.jiff_tz.specs.PosixRule.{in_window, in_span, civil_min, civil_max, saturating_add, saturating_sub}
 use Rattle.hall_sheet.specs.Clocks.{second_in, IsInYear, LieApart}
 use Rattle.hall_sheet.specs.Zone.{comes_at, ahead, offset_by}
 
@@ -160,7 +160,11 @@ module _ (std dst begun ended at : ℤ) (start start_after finish finish_after n
       (λ late.
       let since = yes_le start n (omega (arith, ints)) in
       by_lt_z at (begun +ℤ dst)
-      (λ gap. inr (rw (order, since, yes_lt n finish (omega (arith, ints)), yes_lt n start_after (omega (arith, ints))) refl, inl (inr gap)))
+      (λ gap. inr (
+        rw (order, since, yes_lt n finish (omega (arith, ints)), yes_lt n start_after (omega (arith, ints)))
+            refl,
+        inl (inr gap),
+      ))
       (λ past. by_lt_z at (ended +ℤ dst)
       (λ before. inl (
         rw (order, since, yes_lt n finish (omega (arith, ints)), no_lt n start_after (omega (arith, ints))) refl,
@@ -208,11 +212,21 @@ module _ (std dst begun ended at : ℤ) (start start_after finish finish_after n
       let two = apart.1 in
       let order = no_le start finish (omega (arith, ints)) in
       by_lt_z at (ended +ℤ dst)
-      (λ early. inr (rw (order, no_le finish n (omega (arith, ints)), no_le start n (omega (arith, ints))) refl, inl (inl early)))
+      (λ early. inr (
+        rw (order, no_le finish n (omega (arith, ints)), no_le start n (omega (arith, ints))) refl,
+        inl
+            (inl early),
+      ))
       (λ late.
       let since = yes_le finish n (omega (arith, ints)) in
       by_lt_z at (begun +ℤ std)
-      (λ before. inl (rw (order, since, yes_lt n start (omega (arith, ints))) refl, late, omega (arith, ints), inl before))
+      (λ before. inl (
+        rw (order, since, yes_lt n start (omega (arith, ints))) refl,
+        late,
+        omega (arith, ints),
+        inl
+            before,
+      ))
       (λ past.
       let begins = yes_le start n (omega (arith, ints)) in
       by_lt_z at (begun +ℤ dst)
@@ -238,30 +252,35 @@ level inner outer first second at offset same is =
     (λ after. inr (is, inr (omega (arith, ints), after))))
 
 -- the offset of the rule, where the changes come within the year
-module _ (std dst begun ended at : ℤ) (civil : IsCivilSecond (begun +ℤ dst)) (again : IsCivilSecond (ended +ℤ std)) where
-  abbrev window : ℤ × ℤ
-  window = ((begun +ℤ std) *ℤ pos 1_000_000_000, (ended +ℤ dst) *ℤ pos 1_000_000_000)
+module _ (std dst begun ended at : ℤ) (civil : IsCivilSecond (begun +ℤ dst)) (again : IsCivilSecond (ended +ℤ std))
+  where
+    abbrev window : ℤ × ℤ
+    window = ((begun +ℤ std) *ℤ pos 1_000_000_000, (ended +ℤ dst) *ℤ pos 1_000_000_000)
 
-  start_after : saturating_add window.0 (ahead std dst) ≡ (begun +ℤ dst) *ℤ pos 1_000_000_000
-  start_after = added window.0 (ahead std dst) (begun +ℤ dst) (omega (arith, ints)) civil
+    start_after : saturating_add window.0 (ahead std dst) ≡ (begun +ℤ dst) *ℤ pos 1_000_000_000
+    start_after = added window.0 (ahead std dst) (begun +ℤ dst) (omega (arith, ints)) civil
 
-  finish_after : saturating_sub window.1 (ahead std dst) ≡ (ended +ℤ std) *ℤ pos 1_000_000_000
-  finish_after = taken window.1 (ahead std dst) (ended +ℤ std) (omega (arith, ints)) again
+    finish_after : saturating_sub window.1 (ahead std dst) ≡ (ended +ℤ std) *ℤ pos 1_000_000_000
+    finish_after = taken window.1 (ahead std dst) (ended +ℤ std) (omega (arith, ints)) again
 
-  pub picked_first : LieApart std dst begun ended
-      → IsPicked dst std begun ended at (offset_by std dst window (at *ℤ pos 1_000_000_000))
-  picked_first apart = by_lt_z dst std
-      (λ behind. rw (yes_lt dst std behind) (behind_first std dst begun ended at _ _ _ _ _ refl start_after refl finish_after refl behind apart))
-      (λ above. by_lt_z std dst
-      (λ front. rw (no_lt dst std above, yes_lt std dst front)
-      (ahead_first std dst begun ended at _ _ _ _ _ refl start_after refl finish_after refl front apart))
-      (λ below. rw (no_lt dst std above, no_lt std dst below) (level dst std begun ended at std (omega (arith, ints)) refl)))
+    pub picked_first : LieApart std dst begun ended
+        → IsPicked dst std begun ended at (offset_by std dst window (at *ℤ pos 1_000_000_000))
+    picked_first apart = by_lt_z dst std
+        (λ behind. rw (yes_lt dst std behind) (behind_first std dst begun ended at _ _ _ _ _ refl start_after refl
+        finish_after refl behind apart))
+        (λ above. by_lt_z std dst
+        (λ front. rw (no_lt dst std above, yes_lt std dst front)
+        (ahead_first std dst begun ended at _ _ _ _ _ refl start_after refl finish_after refl front apart))
+        (λ below. rw (no_lt dst std above, no_lt std dst below)
+        (level dst std begun ended at std (omega (arith, ints)) refl)))
 
-  pub picked_last : LieApart std dst ended begun
-      → IsPicked std dst ended begun at (offset_by std dst window (at *ℤ pos 1_000_000_000))
-  picked_last apart = by_lt_z dst std
-      (λ behind. rw (yes_lt dst std behind) (behind_last std dst begun ended at _ _ _ _ _ refl start_after refl finish_after refl behind apart))
-      (λ above. by_lt_z std dst
-      (λ front. rw (no_lt dst std above, yes_lt std dst front)
-      (ahead_last std dst begun ended at _ _ _ _ _ refl start_after refl finish_after refl front apart))
-      (λ below. rw (no_lt dst std above, no_lt std dst below) (level std dst ended begun at std (omega (arith, ints)) (omega (arith, ints)))))
+    pub picked_last : LieApart std dst ended begun
+        → IsPicked std dst ended begun at (offset_by std dst window (at *ℤ pos 1_000_000_000))
+    picked_last apart = by_lt_z dst std
+        (λ behind. rw (yes_lt dst std behind) (behind_last std dst begun ended at _ _ _ _ _ refl start_after refl
+        finish_after refl behind apart))
+        (λ above. by_lt_z std dst
+        (λ front. rw (no_lt dst std above, yes_lt std dst front)
+        (ahead_last std dst begun ended at _ _ _ _ _ refl start_after refl finish_after refl front apart))
+        (λ below. rw (no_lt dst std above, no_lt std dst below)
+        (level std dst ended begun at std (omega (arith, ints)) (omega (arith, ints)))))

@@ -1,6 +1,6 @@
 -- Roles are read word by word.
-use Rattle.std.proofs.Common.{◌≡◌, ◌∙◌, ◌<◌, ◌==◌, ℕ, Bool, true, false, not, ◌&&◌, ◌||◌, List, [], ◌∷◌, length}
-use Rattle.std.proofs.Common.{Option, Some, None, refl, sym, ap, arith, codes}
+use Rattle.std.proofs.Common.{◌≡◌, ◌∙◌, ◌<◌, ◌==◌, ℕ, Bool, true, false, not, ◌&&◌, ◌||◌, List, [], ◌∷◌, length, Option}
+use Rattle.std.proofs.Common.{Some, None, refl, sym, ap, arith, codes}
 use Rattle.std.specs.Prelude.{if◌then◌else◌, option_and_then}
 use Rattle.std.specs.List.{list_all, position_or_len, before_first, after_first}
 use Rattle.std.specs.Str.{bytes_eq}
@@ -38,7 +38,8 @@ fresh d a r e words =
 
 abbrev joined : Bool → Bool → Bool → Bool → List (List ℕ) → Roles
 joined d a r e words =
-    made (d || is_among words director) (a || is_among words author) (r || is_among words referee) (e || is_among words entrant)
+    made (d || is_among words director) (a || is_among words author) (r || is_among words referee)
+    (e || is_among words entrant)
 
 abbrev told : Bool → Bool → Bool → Bool → List (List ℕ) → Option Roles
 told d a r e words =
@@ -62,7 +63,8 @@ shuffle0 true false true rest = refl
 shuffle0 true true true rest = refl
 shuffle0 true dist false rest = refl
 
-shuffle1 : (all dist m x rest : Bool) → ((all && dist) && (x && (not m && rest))) ≡ ((all && (not m && dist)) && (x && rest))
+shuffle1 : (all dist m x rest : Bool) → ((all && dist) && (x && (not m && rest))) ≡
+    ((all && (not m && dist)) && (x && rest))
 shuffle1 all dist m true rest = shuffle0 all dist m rest
 shuffle1 all dist m false rest = and_false (all && dist) ∙ sym (and_false (all && (not m && dist)))
 
@@ -100,7 +102,8 @@ chosen roles b = if b then Some roles else None
 
 director_next : (words : List (List ℕ)) → Tells words → Tells (director ∷ words)
 director_next words ih true a r e =
-    sym (ap (chosen (joined true a r e (director ∷ words))) (and_false (list_all is_role (director ∷ words) && are_distinct (director ∷ words))))
+    sym (ap (chosen (joined true a r e (director ∷ words))) (and_false
+    (list_all is_role (director ∷ words) && are_distinct (director ∷ words))))
 director_next words ih false a r e =
     ih true a r e
     ∙ ap (chosen (joined true a r e words))
@@ -108,27 +111,35 @@ director_next words ih false a r e =
 
 author_next : (words : List (List ℕ)) → Tells words → Tells (author ∷ words)
 author_next words ih d true r e =
-    sym (ap (chosen (joined d true r e (author ∷ words))) (drop1 (list_all is_role (author ∷ words) && are_distinct (author ∷ words)) (not (d && is_among words director))))
+    sym (ap (chosen (joined d true r e (author ∷ words))) (drop1
+    (list_all is_role (author ∷ words) && are_distinct (author ∷ words)) (not (d && is_among words director))))
 author_next words ih d false r e =
     ih d true r e
     ∙ ap (chosen (joined d true r e words))
-    (shuffle1 (list_all is_role words) (are_distinct words) (is_among words author) (not (d && is_among words director)) (fresh false false r e words))
+    (shuffle1 (list_all is_role words) (are_distinct words) (is_among words author) (not (d && is_among words director))
+    (fresh false false r e words))
 
 referee_next : (words : List (List ℕ)) → Tells words → Tells (referee ∷ words)
 referee_next words ih d a true e =
-    sym (ap (chosen (joined d a true e (referee ∷ words))) (drop2 (list_all is_role (referee ∷ words) && are_distinct (referee ∷ words)) (not (d && is_among words director)) (not (a && is_among words author))))
+    sym (ap (chosen (joined d a true e (referee ∷ words))) (drop2
+    (list_all is_role (referee ∷ words) && are_distinct (referee ∷ words)) (not (d && is_among words director))
+    (not (a && is_among words author))))
 referee_next words ih d a false e =
     ih d a true e
     ∙ ap (chosen (joined d a true e words))
-    (shuffle2 (list_all is_role words) (are_distinct words) (is_among words referee) (not (d && is_among words director)) (not (a && is_among words author)) (not (e && is_among words entrant)))
+    (shuffle2 (list_all is_role words) (are_distinct words) (is_among words referee)
+    (not (d && is_among words director)) (not (a && is_among words author)) (not (e && is_among words entrant)))
 
 entrant_next : (words : List (List ℕ)) → Tells words → Tells (entrant ∷ words)
 entrant_next words ih d a r true =
-    sym (ap (chosen (joined d a r true (entrant ∷ words))) (drop3 (list_all is_role (entrant ∷ words) && are_distinct (entrant ∷ words)) (not (d && is_among words director)) (not (a && is_among words author)) (not (r && is_among words referee))))
+    sym (ap (chosen (joined d a r true (entrant ∷ words))) (drop3
+    (list_all is_role (entrant ∷ words) && are_distinct (entrant ∷ words)) (not (d && is_among words director))
+    (not (a && is_among words author)) (not (r && is_among words referee))))
 entrant_next words ih d a r false =
     ih d a r true
     ∙ ap (chosen (joined d a r true words))
-    (shuffle3 (list_all is_role words) (are_distinct words) (is_among words entrant) (not (d && is_among words director)) (not (a && is_among words author)) (not (r && is_among words referee)))
+    (shuffle3 (list_all is_role words) (are_distinct words) (is_among words entrant)
+    (not (d && is_among words director)) (not (a && is_among words author)) (not (r && is_among words referee)))
 
 -- a word that is no role
 other_next : (word : List ℕ) (words : List (List ℕ)) → bytes_eq word director ≡ false → bytes_eq word author ≡ false
@@ -160,7 +171,17 @@ next word words ih = at_director (bytes_eq word director) refl
     at_director false other = at_author other (bytes_eq word author) refl
 
 tells : (words : List (List ℕ)) → Tells words
-tells [] d a r e = rw (and_false d, and_false a, and_false r, and_false e, or_false d, or_false a, or_false r, or_false e) refl
+tells [] d a r e = rw (
+  and_false d,
+  and_false a,
+  and_false r,
+  and_false e,
+  or_false d,
+  or_false a,
+  or_false r,
+  or_false
+      e,
+) refl
 tells (word ∷ words) d a r e = next word words (tells words) d a r e
 
 -- all words of a text, from no role on
@@ -202,10 +223,12 @@ pub word_taken : (roles after : Roles) (text word more : List ℕ) (answer : Opt
     → more ≡ after_first plus text → position_or_len plus text < length text → with_role roles word ≡ Some after
     → roles_from roles (words_in text) ≡ answer → roles_from after (words_in more) ≡ answer
 word_taken roles after text word more answer is rest some one so_far =
-    sym (first_word roles text word more some is rest ∙ ap (option_and_then (λ r. roles_from r (words_in more))) one) ∙ so_far
+    sym (first_word roles text word more some is rest ∙ ap (option_and_then (λ r. roles_from r (words_in more))) one)
+    ∙ so_far
 
 pub word_refused : (roles : Roles) (text word more : List ℕ) (answer : Option Roles) → word ≡ before_first plus text
     → more ≡ after_first plus text → position_or_len plus text < length text → with_role roles word ≡ None
     → roles_from roles (words_in text) ≡ answer → None ≡ answer
 word_refused roles text word more answer is rest some none so_far =
-    sym (first_word roles text word more some is rest ∙ ap (option_and_then (λ r. roles_from r (words_in more))) none) ∙ so_far
+    sym (first_word roles text word more some is rest ∙ ap (option_and_then (λ r. roles_from r (words_in more))) none)
+    ∙ so_far

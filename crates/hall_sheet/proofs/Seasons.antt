@@ -1,10 +1,12 @@
 -- Zones whose changes come on weekdays of two months are regular.
-use Rattle.std.proofs.Common.{◌≡◌, ◌∙◌, sym, ap, subst, refl, arith, ℕ, inl, inr, ◌<◌, ◌≤◌, ◌+◌, ◌-◌, ◌==◌, true, false, cond}
-use Rattle.std.proofs.Common.{ℤ, pos, ◌+ℤ◌, ◌-ℤ◌, ◌*ℤ◌, ◌<ℤ◌, ◌≤ℤ◌, Option, Some, None}
+use Rattle.std.proofs.Common.{◌≡◌, ◌∙◌, sym, ap, subst, refl, arith, ℕ, inl, inr, ◌<◌, ◌≤◌, ◌+◌, ◌-◌, ◌==◌, true, false}
+use Rattle.std.proofs.Common.{cond, ℤ, pos, ◌+ℤ◌, ◌-ℤ◌, ◌*ℤ◌, ◌<ℤ◌, ◌≤ℤ◌, Option, Some, None}
 use Rattle.std.proofs.lemmas.Bool.Decides.{nat_tests}
 use Rattle.std.proofs.lemmas.Int.{ints}
 use Rattle.jiff_core.specs.Calendar.{days_in_year, days_in_month, days_of_months, days_from_civil}
-use Rattle.jiff_core.proofs.CalendarLemmas.{day_count-day_of_year, days_from_civil-day_count, days_in_month_bounds, days_of_months-zero, days_of_months_more, days_of_months_all, days_of_months_mono}
+use Rattle.jiff_core.proofs.CalendarLemmas.{day_count-day_of_year, days_from_civil-day_count, days_in_month_bounds}
+use Rattle.jiff_core.proofs.CalendarLemmas.{days_of_months-zero, days_of_months_more, days_of_months_all}
+use Rattle.jiff_core.proofs.CalendarLemmas.{days_of_months_mono}
 use Rattle.jiff_core.proofs.DateLemmas.{days_from_civil-day}
 use Rattle.jiff_tz.specs.declared.posix.Day.{Day}
 use Rattle.jiff_tz.specs.declared.posix.Day.TheVariants.{WeekdayOfMonth}
@@ -19,19 +21,23 @@ unfolding rule_day
 rule_is y m w k = refl
 
 -- a weekday of a month is a day of the month
-last_in : (y : ℤ) (m k : ℕ) → (days_from_civil y m 1 ≤ℤ last_weekday y m k) × (last_weekday y m k <ℤ (days_from_civil y m 1 +ℤ pos (days_in_month y m)))
+last_in : (y : ℤ) (m k : ℕ) → (days_from_civil y m 1 ≤ℤ last_weekday y m k)
+    × (last_weekday y m k <ℤ (days_from_civil y m 1 +ℤ pos (days_in_month y m)))
 last_in y m k =
     let (most, least) = days_in_month_bounds y m in
     let last = days_from_civil-day y m (days_in_month y m) 1 (omega arith) (omega arith) in
     (omega (arith, ints), omega (arith, ints))
 
-nth_in : (y : ℤ) (m w k : ℕ) → w < 5 → (days_from_civil y m 1 ≤ℤ nth_weekday y m w k) × (nth_weekday y m w k <ℤ (days_from_civil y m 1 +ℤ pos (days_in_month y m)))
+nth_in : (y : ℤ) (m w k : ℕ) → w < 5 → (days_from_civil y m 1 ≤ℤ nth_weekday y m w k)
+    × (nth_weekday y m w k <ℤ (days_from_civil y m 1 +ℤ pos (days_in_month y m)))
 nth_in y m w k few =
     let (most, least) = days_in_month_bounds y m in
     (omega (arith, ints), omega (arith, ints))
 
-weekday_in : (y : ℤ) (m w k : ℕ) → w ≤ 5 → (days_from_civil y m 1 ≤ℤ weekday_of_month y m w k) × (weekday_of_month y m w k <ℤ (days_from_civil y m 1 +ℤ pos (days_in_month y m)))
-weekday_in y m w k few = elim (w == 5) as (λ t. (w == 5) ≡ t → let day : ℤ = cond t (last_weekday y m k) (nth_weekday y m w k) in
+weekday_in : (y : ℤ) (m w k : ℕ) → w ≤ 5 → (days_from_civil y m 1 ≤ℤ weekday_of_month y m w k)
+    × (weekday_of_month y m w k <ℤ (days_from_civil y m 1 +ℤ pos (days_in_month y m)))
+weekday_in y m w k few = elim (w == 5) as (λ t. (w == 5) ≡ t
+    → let day : ℤ = cond t (last_weekday y m k) (nth_weekday y m w k) in
     (days_from_civil y m 1 ≤ℤ day) × (day <ℤ (days_from_civil y m 1 +ℤ pos (days_in_month y m)))) [
       | true ↦ λ e. last_in y m k
       | false ↦ λ e. nth_in y m w k (grind (arith, nat_tests))
@@ -153,9 +159,12 @@ module _ (std : ℤ) (d : DstText) (m n : ℕ) (start : ComesInMonth m d.start) 
 regular_with : (std : ℤ) (dst : Option DstText) → IsZoneWith std dst → IsSeasonal dst → IsRegularWith std dst
 regular_with std None read seasonal = tt
 regular_with std (Some d) read s = elim s.apart [
-  | inl apart ↦ inl (begins_first std d s.begins s.ends s.start s.finish s.begins_within.0 s.begins_within.1 s.ends_within.0 s.ends_within.1 read apart)
-  | inr apart ↦ inr (ends_first std d s.begins s.ends s.start s.finish s.begins_within.0 s.begins_within.1 s.ends_within.0 s.ends_within.1 read apart)
+  | inl apart ↦ inl (begins_first std d s.begins s.ends s.start s.finish s.begins_within.0 s.begins_within.1
+      s.ends_within.0 s.ends_within.1 read apart)
+  | inr apart ↦ inr (ends_first std d s.begins s.ends s.start s.finish s.begins_within.0 s.begins_within.1
+      s.ends_within.0 s.ends_within.1 read apart)
 ]
 
 pub seasons_are_regular : SeasonsAreRegular
-seasons_are_regular text zone names seasonal = regular_with zone.std_seconds zone.dst (zone_is_read text zone names) seasonal
+seasons_are_regular text zone names seasonal = regular_with zone.std_seconds zone.dst (zone_is_read text zone names)
+    seasonal

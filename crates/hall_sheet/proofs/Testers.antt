@@ -95,7 +95,8 @@ module _ (ms : Members) (texts names : List (List ℕ)) where
       rw (read, le-leb (length texts) most_testers few, named, names_distinct names valid.different) refl
 
   -- or one of them twice
-  pub tester_repeated : texts_field field.Testers ms ≡ Ok texts → length texts ≤ most_testers → names_in texts ≡ Ok names
+  pub tester_repeated : texts_field field.Testers ms ≡ Ok texts → length texts ≤ most_testers
+      → names_in texts ≡ Ok names
       → ¬ (AreTesters names) → named_testers_in ms ≡ Err refusal.Repeated
   unfolding named_testers_in
   tester_repeated read few named invalid =

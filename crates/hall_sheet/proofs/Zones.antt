@@ -1,6 +1,6 @@
 -- The offsets of the definition are those that the calendar's crate finds.
-use Rattle.std.proofs.Common.{◌≡◌, ◌∙◌, sym, ap, refl, arith, ℕ, ◌*◌, Bool, true, false, not, ◌&&◌, inl, inr}
-use Rattle.std.proofs.Common.{ℤ, pos, negsuc, ◌+ℤ◌, ◌-ℤ◌, ◌*ℤ◌, List, Option, Some, None, Result, Err}
+use Rattle.std.proofs.Common.{◌≡◌, ◌∙◌, sym, ap, refl, arith, ℕ, ◌*◌, Bool, true, false, not, ◌&&◌, inl, inr, ℤ, pos}
+use Rattle.std.proofs.Common.{negsuc, ◌+ℤ◌, ◌-ℤ◌, ◌*ℤ◌, List, Option, Some, None, Result, Err}
 use Rattle.std.specs.Prelude.{if◌then◌else◌, int_lt, int_div, unsigned_abs, option_map, ◌<◌, ◌+◌}
 use Rattle.std.proofs.lemmas.Bool.{cases_lt, le-leb, lt-leb}
 use Rattle.std.proofs.lemmas.Int.{ints, quot-rem, rem_below}
@@ -20,8 +20,8 @@ use Rattle.jiff_tz.specs.Ambiguous.{compatible_offset, instant_of}
 use Rattle.jiff_tz.specs.PosixReader.{match_some, read_whole}
 use Rattle.jiff_tz.specs.PosixText.{TzText, tz_view, dst_view, day_time_view}
 use Rattle.jiff_tz.specs.PosixRule.{clamp_to, nanos_per_day, first_nanosecond, last_nanosecond, rule_day, rule_nanos}
-use Rattle.jiff_tz.specs.PosixRule.{in_window, in_span, saturating_add, saturating_sub, shift_between}
-use Rattle.jiff_tz.specs.PosixRule.{ambiguous_by, ambiguous_at_by}
+use Rattle.jiff_tz.specs.PosixRule.{in_window, in_span, saturating_add, saturating_sub, shift_between, ambiguous_by}
+use Rattle.jiff_tz.specs.PosixRule.{ambiguous_at_by}
 use Rattle.jiff_tz.specs.Zone.{ambiguous_at}
 use Rattle.jiff.specs.Placed.{IsPosixZone}
 use Rattle.hall_policy.specs.Limits.{last_second}
@@ -49,7 +49,8 @@ behind_is false false true std dst = refl
 behind_is false false false std dst = refl
 
 ahead_is : (a b c : Bool) (std dst : Offset)
-    → chosen (if not a then Unambiguous std else (if b then Gap std dst else (if c then Fold dst std else Unambiguous dst)))
+    → chosen (if not a then Unambiguous std else (if b then Gap std dst else
+    (if c then Fold dst std else Unambiguous dst)))
     ≡ (if a && not b then dst.seconds else std.seconds)
 ahead_is false b c std dst = refl
 ahead_is true true c std dst = refl
@@ -90,7 +91,8 @@ with_is std (Some d) dt =
     (ap (λ a. (a, rule_nanos dt.date.year d.rule.end (pos 0))) (comes_is dt.date.year d.rule.start)
     ∙ ap (λ b. (comes_at dt.date.year (day_time_view d.rule.start), b)) (comes_is dt.date.year d.rule.end))
     ∙ by_is std d.offset
-    (comes_at dt.date.year (day_time_view d.rule.start), comes_at dt.date.year (day_time_view d.rule.end)) (civil_nanos dt)
+    (comes_at dt.date.year (day_time_view d.rule.start), comes_at dt.date.year (day_time_view d.rule.end))
+    (civil_nanos dt)
 
 offset_is : (text : List ℕ) (tz : TimeZone) (rule : TzText) (dt : DateTime) → IsPosixZone text tz
     → read_whole text ≡ Some rule
@@ -158,7 +160,8 @@ module _ (text : List ℕ) (tz : TimeZone) (dt : DateTime) where
   pub moment_is : (nanosecond seconds : ℤ) (r : Result ℕ SheetFault) → dt.time.subsec_nanosecond ≡ 0
       → IsPosixZone text tz → nanosecond ≡ instant_of dt (compatible_offset (ambiguous_at tz dt))
       → seconds ≡ int_div nanosecond (pos 1_000_000_000)
-      → Gives (λ n. n) r (in_range field.Start 0 last_second seconds) → Gives (λ n. n) r (moment_in text (civil_seen dt))
+      → Gives (λ n. n) r (in_range field.Start 0 last_second seconds)
+      → Gives (λ n. n) r (moment_in text (civil_seen dt))
   moment_is nanosecond seconds r whole is at cut given =
       let (rule, e) = has_rule text tz is in
       let same : seconds ≡ seconds_to (civil_seen dt) (offset_of rule (civil_seen dt)) =

@@ -1,5 +1,6 @@
 -- What sides and colours tell of each other.
-use Rattle.std.proofs.Common.{◌≡◌, ◌<◌, ◌+◌, ◌∙◌, ℕ, Bool, true, false, cond, eqb, List, length, get_or, Option, Some, None, refl, sym, subst, inl, inr, arith}
+use Rattle.std.proofs.Common.{◌≡◌, ◌<◌, ◌+◌, ◌∙◌, ℕ, Bool, true, false, cond, eqb, List, length, get_or, Option, Some}
+use Rattle.std.proofs.Common.{None, refl, sym, subst, inl, inr, arith}
 use Rattle.std.specs.Prelude.{slice_index}
 use Rattle.std.proofs.lemmas.Bool.{cases_eq, eq-eqb, eqb-true}
 use Rattle.hall_grid.specs.Board.{Board, IsBoard, cells}
@@ -15,19 +16,22 @@ use Rattle.hall_slither.proofs.Crossing.{crossing}
 use Rattle.hall_slither.proofs.IsLayout.{size_of_board}
 
 -- the colours are known still when more is set
-pub AreColoured-keeps : (board : Board) (old new : List (Option ℕ)) (links : List Link) → Keeps old new → AreColoured board old links → AreColoured board new links
+pub AreColoured-keeps : (board : Board) (old new : List (Option ℕ)) (links : List Link) → Keeps old new
+    → AreColoured board old links → AreColoured board new links
 AreColoured-keeps board old new links keeps known = record {
   exact = known.exact;
   obeyed = λ f s. known.obeyed f (Solves-keeps (question_of Slither board) old new f keeps s);
 }
 
 -- colours of which nothing is known
-pub AreColoured-free : (board : Board) (p : List (Option ℕ)) (links : List Link) → length links ≡ cells board.size + 1 → ((colour : ℕ → Bool) → Obeys links colour)
+pub AreColoured-free : (board : Board) (p : List (Option ℕ)) (links : List Link) → length links ≡ cells board.size + 1
+    → ((colour : ℕ → Bool) → Obeys links colour)
     → AreColoured board p links
 AreColoured-free board p links exact free = record { exact = exact; obeyed = λ f s. free (colour_of board.size f) }
 
 -- more is known
-pub AreColoured-more : (board : Board) (p : List (Option ℕ)) (old new : List Link) (differs : Bool) (a b : ℕ) → length new ≡ length old
+pub AreColoured-more : (board : Board) (p : List (Option ℕ)) (old new : List Link) (differs : Bool) (a b : ℕ)
+    → length new ≡ length old
     → ((colour : ℕ → Bool) → Obeys old colour → AreTurned differs a b colour → Obeys new colour)
     → ((f : List ℕ) → Solves (question_of Slither board) p f → AreTurned differs a b (colour_of board.size f))
     → AreColoured board p old → AreColoured board p new
@@ -41,31 +45,40 @@ pub hopeless_contradicted : (board : Board) (p : List (Option ℕ)) (old : List 
     → ((colour : ℕ → Bool) → Obeys old colour → AreTurned differs a b colour → ⊥)
     → ((f : List ℕ) → Solves (question_of Slither board) p f → AreTurned differs a b (colour_of board.size f))
     → AreColoured board p old → IsHopeless (question_of Slither board) p
-hopeless_contradicted board p old differs a b contradicted told known = λ f s. contradicted (colour_of board.size f) (known.obeyed f s) (told f s)
+hopeless_contradicted board p old differs a b contradicted told known = λ f s. contradicted (colour_of board.size f)
+    (known.obeyed f s) (told f s)
 
 -- a set side tells whether the colours of its cells differ
-pub told_by_side : (board : Board) (p : List (Option ℕ)) (f : List ℕ) (side v : ℕ) → board.kind ≡ Slither → IsBoard board → side < all_sides board.size
+pub told_by_side : (board : Board) (p : List (Option ℕ)) (f : List ℕ) (side v : ℕ) → board.kind ≡ Slither
+    → IsBoard board → side < all_sides board.size
     → get_or p side None ≡ Some v → Solves (question_of Slither board) p f
     → AreTurned (eqb v 1) (cells_by board.size side).0 (cells_by board.size side).1 (colour_of board.size f)
 told_by_side board p f side v kind is_board low is s =
     let same : slice_index f side ≡ v = s.extends side v is in
-    subst (λ x. colour_of board.size f (cells_by board.size side).0 ≡ turned (eqb x 1) (colour_of board.size f (cells_by board.size side).1)) same
+    subst (λ x. colour_of board.size f (cells_by board.size side).0 ≡ turned (eqb x 1)
+    (colour_of board.size f (cells_by board.size side).1)) same
     (crossing board f side kind (size_of_board board kind is_board) s.right low)
 
 -- a set side is learned
-pub AreColoured-learned : (board : Board) (p : List (Option ℕ)) (old new : List Link) (side v a b : ℕ) → board.kind ≡ Slither → IsBoard board → side < all_sides board.size
+pub AreColoured-learned : (board : Board) (p : List (Option ℕ)) (old new : List Link) (side v a b : ℕ)
+    → board.kind ≡ Slither → IsBoard board → side < all_sides board.size
     → get_or p side None ≡ Some v → (a, b) ≡ cells_by board.size side → length new ≡ length old
-    → ((colour : ℕ → Bool) → Obeys old colour → AreTurned (eqb v 1) a b colour → Obeys new colour) → AreColoured board p old → AreColoured board p new
+    → ((colour : ℕ → Bool) → Obeys old colour → AreTurned (eqb v 1) a b colour → Obeys new colour)
+    → AreColoured board p old → AreColoured board p new
 AreColoured-learned board p old new side v a b kind is_board low is at same learned known =
     AreColoured-more board p old new (eqb v 1) a b same learned
-    (λ f s. subst (λ (x : ℕ × ℕ). AreTurned (eqb v 1) x.0 x.1 (colour_of board.size f)) (sym at) (told_by_side board p f side v kind is_board low is s)) known
+    (λ f s. subst (λ (x : ℕ × ℕ). AreTurned (eqb v 1) x.0 x.1 (colour_of board.size f)) (sym at)
+    (told_by_side board p f side v kind is_board low is s)) known
 
-pub hopeless_learned : (board : Board) (p : List (Option ℕ)) (old : List Link) (side v a b : ℕ) → board.kind ≡ Slither → IsBoard board → side < all_sides board.size
+pub hopeless_learned : (board : Board) (p : List (Option ℕ)) (old : List Link) (side v a b : ℕ) → board.kind ≡ Slither
+    → IsBoard board → side < all_sides board.size
     → get_or p side None ≡ Some v → (a, b) ≡ cells_by board.size side
-    → ((colour : ℕ → Bool) → Obeys old colour → AreTurned (eqb v 1) a b colour → ⊥) → AreColoured board p old → IsHopeless (question_of Slither board) p
+    → ((colour : ℕ → Bool) → Obeys old colour → AreTurned (eqb v 1) a b colour → ⊥) → AreColoured board p old
+    → IsHopeless (question_of Slither board) p
 hopeless_learned board p old side v a b kind is_board low is at contradicted known =
     hopeless_contradicted board p old (eqb v 1) a b contradicted
-    (λ f s. subst (λ (x : ℕ × ℕ). AreTurned (eqb v 1) x.0 x.1 (colour_of board.size f)) (sym at) (told_by_side board p f side v kind is_board low is s)) known
+    (λ f s. subst (λ (x : ℕ × ℕ). AreTurned (eqb v 1) x.0 x.1 (colour_of board.size f)) (sym at)
+    (told_by_side board p f side v kind is_board low is s)) known
 
 one_turned : (a b : Bool) (c : Bool) → turned a c ≡ turned b c → a ≡ b
 one_turned true true c e = refl
@@ -83,12 +96,16 @@ value_of n false small e = elim (cases_eq n 1) [
 ]
 
 -- what the colours of its cells tell, each solution has at the side
-pub side_by_colours : (board : Board) (p : List (Option ℕ)) (links : List Link) (f : List ℕ) (side : ℕ) (differs : Bool) → board.kind ≡ Slither → IsBoard board
-    → side < all_sides board.size → ((colour : ℕ → Bool) → Obeys links colour → AreTurned differs (cells_by board.size side).0 (cells_by board.size side).1 colour)
+pub side_by_colours : (board : Board) (p : List (Option ℕ)) (links : List Link) (f : List ℕ) (side : ℕ) (differs : Bool)
+    → board.kind ≡ Slither → IsBoard board
+    → side < all_sides board.size → ((colour : ℕ → Bool) → Obeys links colour
+    → AreTurned differs (cells_by board.size side).0 (cells_by board.size side).1 colour)
     → AreColoured board p links → Solves (question_of Slither board) p f → slice_index f side ≡ cond differs 1 0
 side_by_colours board p links f side differs kind is_board low told known s =
-    let line : turned (is_line f side) (colour_of board.size f (cells_by board.size side).1) ≡ turned differs (colour_of board.size f (cells_by board.size side).1) =
-    sym (crossing board f side kind (size_of_board board kind is_board) s.right low) ∙ told (colour_of board.size f) (known.obeyed f s) in
+    let line : turned (is_line f side) (colour_of board.size f (cells_by board.size side).1) ≡ turned differs
+    (colour_of board.size f (cells_by board.size side).1) =
+    sym (crossing board f side kind (size_of_board board kind is_board) s.right low)
+    ∙ told (colour_of board.size f) (known.obeyed f s) in
     value_of (slice_index f side) differs (s.filling.in_range side low)
     (one_turned (is_line f side) differs (colour_of board.size f (cells_by board.size side).1) line)
 
@@ -97,8 +114,10 @@ small_cond true = omega arith
 small_cond false = omega arith
 
 -- an open side whose value the colours tell
-pub forced_by_colours : (board : Board) (p : List (Option ℕ)) (links : List Link) (side a b value : ℕ) (differs : Bool) → board.kind ≡ Slither → IsBoard board
-    → side < all_sides board.size → IsOpen p side → (a, b) ≡ cells_by board.size side → ((colour : ℕ → Bool) → Obeys links colour → AreTurned differs a b colour)
+pub forced_by_colours : (board : Board) (p : List (Option ℕ)) (links : List Link) (side a b value : ℕ) (differs : Bool)
+    → board.kind ≡ Slither → IsBoard board
+    → side < all_sides board.size → IsOpen p side → (a, b) ≡ cells_by board.size side
+    → ((colour : ℕ → Bool) → Obeys links colour → AreTurned differs a b colour)
     → AreColoured board p links → value ≡ cond differs 1 0 → IsForced (question_of Slither board) p side value
 forced_by_colours board p links side a b value differs kind is_board low unset at told known is = record {
   unset = unset;

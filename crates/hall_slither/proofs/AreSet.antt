@@ -1,5 +1,6 @@
 -- Sides that are set one after another.
-use Rattle.std.proofs.Common.{◌≡◌, ◌≢◌, ℕ, ◌+◌, ◌<◌, ◌≤◌, ◌⊎◌, ◌∙◌, List, length, get_or, set, take, true, false, Option, Some, None, refl, sym, ap, subst, inl, inr, arith}
+use Rattle.std.proofs.Common.{◌≡◌, ◌≢◌, ℕ, ◌+◌, ◌<◌, ◌≤◌, ◌⊎◌, ◌∙◌, List, length, get_or, set, take, true, false}
+use Rattle.std.proofs.Common.{Option, Some, None, refl, sym, ap, subst, inl, inr, arith}
 use Rattle.std.specs.Prelude.{Contains, is_some, not, Bool}
 use Rattle.std.proofs.lemmas.List.{get_or_default, take_more, take_all}
 use Rattle.std.proofs.lemmas.List.Elements.{Contains-push_cases}
@@ -16,7 +17,8 @@ none_or_some (Some w) = inr (w, refl)
 pub AreSet-more : (sides p : List (Option ℕ)) (i : ℕ) → i < length sides → AreSet (take i sides) p
     → ((s : ℕ) → get_or sides i None ≡ Some s → get_or p s None ≢ None) → AreSet (take (i + 1) sides) p
 AreSet-more sides p i low all here s has =
-    elim (Contains-push_cases (take i sides) (get_or sides i None) (Some s) (subst (λ xs. Contains xs (Some s)) (take_more sides i None low) has)) [
+    elim (Contains-push_cases (take i sides) (get_or sides i None) (Some s)
+    (subst (λ xs. Contains xs (Some s)) (take_more sides i None low) has)) [
       | inl k ↦ all s k
       | inr e ↦ here s e
     ]
@@ -34,10 +36,12 @@ set_from None b e t = λ k. (let off : not b ≡ true = ap not t in cc)
 set_from (Some w) b e t = λ k. cc
 
 -- the work is no more after a side is set and its centres are put onto the stack
-pub work-set : (p : List (Option ℕ)) (s value : ℕ) (centres more : List Centre) (n : ℕ) → IsOpen p s → length more ≤ length centres + 4 → work p centres ≤ n
+pub work-set : (p : List (Option ℕ)) (s value : ℕ) (centres more : List Centre) (n : ℕ) → IsOpen p s
+    → length more ≤ length centres + 4 → work p centres ≤ n
     → work (set p s (Some value)) more ≤ n
 work-set p s value centres more n is_unset few le = let e = open-set p s value is_unset.0 is_unset.1 in omega arith
 
 -- the element at an index is among the list's
-pub at_index : (sides : List (Option ℕ)) (i s : ℕ) → i < length sides → get_or sides i None ≡ Some s → Contains sides (Some s)
+pub at_index : (sides : List (Option ℕ)) (i s : ℕ) → i < length sides → get_or sides i None ≡ Some s
+    → Contains sides (Some s)
 at_index sides i s low e = (i, low, get_or_default sides i (Some s) None low ∙ e)

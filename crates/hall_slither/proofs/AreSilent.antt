@@ -9,7 +9,8 @@ use Rattle.hall_solve.specs.declared.deduce.Pass.TheVariants.{Settled}
 use Rattle.hall_slither.specs.Count.{AreSilent}
 
 -- they still say nothing after a pass that set nothing
-pub silent_still : {E : Type 0} (q : Question) (board : Board) (old new : List (Option ℕ)) (r : Result Pass E) → AreSilent board old
+pub silent_still : {E : Type 0} (q : Question) (board : Board) (old new : List (Option ℕ)) (r : Result Pass E)
+    → AreSilent board old
     → IfOk r (IsDeduced q old new) → IfOk r (λ pass. pass ≡ Settled → AreSilent board new)
 silent_still q board old new (Ok pass) silent deduced =
     λ settled. subst (λ p. AreSilent board p) (sym (subst (λ (x : Pass). IsDeduced q old new x) settled deduced)) silent

@@ -1,10 +1,13 @@
 -- The degree of a dot is the count over its at most four sides.
-use Rattle.std.proofs.Common.{◌≡◌, ℕ, ◌+◌, ◌-◌, ◌*◌, ◌/◌, ◌%◌, ◌<◌, ◌≤◌, ◌⊎◌, Bool, true, false, cond, ltb, eqb, ◌&&◌, ◌||◌, List, Option, Some, None, refl, sym, ap, ◌∙◌, subst, inl, inr, arith}
+use Rattle.std.proofs.Common.{◌≡◌, ℕ, ◌+◌, ◌-◌, ◌*◌, ◌/◌, ◌%◌, ◌<◌, ◌≤◌, ◌⊎◌, Bool, true, false, cond, ltb, eqb, ◌&&◌}
+use Rattle.std.proofs.Common.{◌||◌, List, Option, Some, None, refl, sym, ap, ◌∙◌, subst, inl, inr, arith}
 use Rattle.std.specs.Prelude.{IfSome}
 use Rattle.std.proofs.lemmas.Nat.{div-add-mod', div_below, mod_below, same_from_place, mul-add-lt}
-use Rattle.std.proofs.lemmas.Bool.{cases_lt, cases_Bool, lt-ltb, le-ltb, ltb-true, eq-eqb, eqb-true, or_cases, or_left, or_right}
+use Rattle.std.proofs.lemmas.Bool.{cases_lt, cases_Bool, lt-ltb, le-ltb, ltb-true, eq-eqb, eqb-true, or_cases, or_left}
+use Rattle.std.proofs.lemmas.Bool.{or_right}
 use Rattle.hall_grid.specs.declared.board.Size.{Size}
-use Rattle.hall_grid.specs.Slither.{dot, dots, flat_sides, all_sides, flat_side, upright_side, ends_of_flat, ends_of_upright, is_end, is_line, degree}
+use Rattle.hall_grid.specs.Slither.{dot, dots, flat_sides, all_sides, flat_side, upright_side, ends_of_flat}
+use Rattle.hall_grid.specs.Slither.{ends_of_upright, is_end, is_line, degree}
 use Rattle.hall_slither.specs.Dot.{dot_row, dot_col, side_up, side_left, side_right, side_down, count_at}
 use Rattle.hall_slither.proofs.CountBelow.{count_below, hits, count_by-numbers, count_below-or, count_below-hits}
 
@@ -32,7 +35,8 @@ mul_pred r k n h = subst (λ r. k * n + n ≡ r * n) h (omega arith)
 -- A side that has the dot at row r and column c as an end is one of the four from there.
 module _ (size : Size) (r c s : ℕ) (some : 0 < size.cols) (within : c ≤ size.cols) where
   -- the left end of a horizontal side
-  pub right_from_end : s < flat_sides size → dot size (s / size.cols) (s % size.cols) ≡ dot size r c → Holds (side_right size r c) s
+  pub right_from_end : s < flat_sides size → dot size (s / size.cols) (s % size.cols) ≡ dot size r c
+      → Holds (side_right size r c) s
   right_from_end low e =
       let b = mod_below s size.cols some in
       let p = same_from_place (s / size.cols) (s % size.cols) r c (size.cols + 1) (omega arith) (omega arith) e in
@@ -41,7 +45,8 @@ module _ (size : Size) (r c s : ℕ) (some : 0 < size.cols) (within : c ≤ size
       let w = same_place size.cols (s / size.cols) (s % size.cols) r c p.0 p.1 in
       if_some c size.cols (flat_side size r c) s (omega arith) (omega arith)
 
-  end_from_right : s < flat_sides size → Holds (side_right size r c) s → dot size (s / size.cols) (s % size.cols) ≡ dot size r c
+  end_from_right : s < flat_sides size → Holds (side_right size r c) s → dot size (s / size.cols) (s % size.cols) ≡ dot
+      size r c
   end_from_right low h =
       let p = some_if c size.cols (flat_side size r c) s h in
       let b = mod_below s size.cols some in
@@ -51,7 +56,8 @@ module _ (size : Size) (r c s : ℕ) (some : 0 < size.cols) (within : c ≤ size
       same_place (size.cols + 1) (s / size.cols) (s % size.cols) r c q.0 q.1
 
   -- the right end of a horizontal side
-  pub left_from_end : s < flat_sides size → dot size (s / size.cols) (s % size.cols + 1) ≡ dot size r c → Holds (side_left size r c) s
+  pub left_from_end : s < flat_sides size → dot size (s / size.cols) (s % size.cols + 1) ≡ dot size r c
+      → Holds (side_left size r c) s
   left_from_end low e =
       let b = mod_below s size.cols some in
       let p = same_from_place (s / size.cols) (s % size.cols + 1) r c (size.cols + 1) (omega arith) (omega arith) e in
@@ -60,7 +66,8 @@ module _ (size : Size) (r c s : ℕ) (some : 0 < size.cols) (within : c ≤ size
       let w = same_place size.cols (s / size.cols) (s % size.cols + 1) r c p.0 p.1 in
       if_some 0 c (flat_side size r c - 1) s (omega arith) (omega arith)
 
-  end_from_left : s < flat_sides size → Holds (side_left size r c) s → dot size (s / size.cols) (s % size.cols + 1) ≡ dot size r c
+  end_from_left : s < flat_sides size → Holds (side_left size r c) s → dot size (s / size.cols) (s % size.cols + 1) ≡
+      dot size r c
   end_from_left low h =
       let p = some_if 0 c (flat_side size r c - 1) s h in
       let b = mod_below s size.cols some in
@@ -73,11 +80,13 @@ module _ (size : Size) (r c s : ℕ) (some : 0 < size.cols) (within : c ≤ size
 
   -- the upper end of an upright side
   pub down_from_end : flat_sides size ≤ s → s < all_sides size
-      → dot size ((s - flat_sides size) / (size.cols + 1)) ((s - flat_sides size) % (size.cols + 1)) ≡ dot size r c → Holds (side_down size r c) s
+      → dot size ((s - flat_sides size) / (size.cols + 1)) ((s - flat_sides size) % (size.cols + 1)) ≡ dot size r c
+      → Holds (side_down size r c) s
   down_from_end high low e =
       let b = mod_below (s - flat_sides size) (size.cols + 1) (omega arith) in
       let a = div_below (s - flat_sides size) (size.cols + 1) size.rows (omega arith) (omega arith) in
-      let p = same_from_place ((s - flat_sides size) / (size.cols + 1)) ((s - flat_sides size) % (size.cols + 1)) r c (size.cols + 1) b (omega arith) e in
+      let p = same_from_place ((s - flat_sides size) / (size.cols + 1)) ((s - flat_sides size) % (size.cols + 1)) r c
+      (size.cols + 1) b (omega arith) e in
       let q = p.0 in
       let z = div-add-mod' (s - flat_sides size) (size.cols + 1) in
       if_some r size.rows (upright_side size r c) s (omega arith) (omega arith)
@@ -92,10 +101,12 @@ module _ (size : Size) (r c s : ℕ) (some : 0 < size.cols) (within : c ≤ size
 
   -- the lower end of an upright side
   pub up_from_end : flat_sides size ≤ s → s < all_sides size
-      → dot size ((s - flat_sides size) / (size.cols + 1) + 1) ((s - flat_sides size) % (size.cols + 1)) ≡ dot size r c → Holds (side_up size r c) s
+      → dot size ((s - flat_sides size) / (size.cols + 1) + 1) ((s - flat_sides size) % (size.cols + 1)) ≡ dot size r c
+      → Holds (side_up size r c) s
   up_from_end high low e =
       let b = mod_below (s - flat_sides size) (size.cols + 1) (omega arith) in
-      let p = same_from_place ((s - flat_sides size) / (size.cols + 1) + 1) ((s - flat_sides size) % (size.cols + 1)) r c (size.cols + 1) b (omega arith) e in
+      let p = same_from_place ((s - flat_sides size) / (size.cols + 1) + 1) ((s - flat_sides size) % (size.cols + 1)) r
+      c (size.cols + 1) b (omega arith) e in
       let q = p.0 in
       let z = div-add-mod' (s - flat_sides size) (size.cols + 1) in
       let m = mul_pred r (r - 1) (size.cols + 1) (omega arith) in
@@ -136,7 +147,11 @@ or_of_four a b c d h =
     ]
 
 four_of_or : (a b c d : Bool) → ((a || b) || (c || d)) ≡ true → ((a ≡ true) ⊎ (b ≡ true)) ⊎ ((c ≡ true) ⊎ (d ≡ true))
-four_of_or a b c d e = elim (or_cases (a || b) (c || d) e) [ inl h ↦ inl (or_cases a b h) | inr h ↦ inr (or_cases c d h) ]
+four_of_or a b c d e = elim (or_cases (a || b) (c || d) e) [
+  | inl h ↦ inl (or_cases a b h)
+  | inr h ↦ inr
+      (or_cases c d h)
+]
 
 and_second : (p a : Bool) → (p && a) ≡ true → a ≡ true
 and_second true a e = e
@@ -184,7 +199,8 @@ module _ (size : Size) (r c : ℕ) (some : 0 < size.cols) (high : r ≤ size.row
 
   -- a side at the dot is one of the four
   pub end_cases : (s : ℕ) → s < all_sides size → is_end size (dot size r c) s ≡ true
-      → (Holds (side_up size r c) s ⊎ Holds (side_left size r c) s) ⊎ (Holds (side_right size r c) s ⊎ Holds (side_down size r c) s)
+      → (Holds (side_up size r c) s ⊎ Holds (side_left size r c) s)
+      ⊎ (Holds (side_right size r c) s ⊎ Holds (side_down size r c) s)
   end_cases s low e =
       elim (cases_lt s (flat_sides size)) [
         | inl k ↦
@@ -204,22 +220,26 @@ module _ (size : Size) (r c : ℕ) (some : 0 < size.cols) (high : r ≤ size.row
   pub end_from_up_side : (s : ℕ) → Holds (side_up size r c) s → is_end size (dot size r c) s ≡ true
   end_from_up_side s h =
       let k = (up_high s h).0 in
-      end_from size (dot size r c) s false (le-ltb s (flat_sides size) k) (or_right _ _ (eq-eqb _ _ (end_from_up size r c s some within k h)))
+      end_from size (dot size r c) s false (le-ltb s (flat_sides size) k)
+      (or_right _ _ (eq-eqb _ _ (end_from_up size r c s some within k h)))
 
   pub end_from_down_side : (s : ℕ) → Holds (side_down size r c) s → is_end size (dot size r c) s ≡ true
   end_from_down_side s h =
       let k = (down_high s h).0 in
-      end_from size (dot size r c) s false (le-ltb s (flat_sides size) k) (or_left _ _ (eq-eqb _ _ (end_from_down size r c s some within k h)))
+      end_from size (dot size r c) s false (le-ltb s (flat_sides size) k)
+      (or_left _ _ (eq-eqb _ _ (end_from_down size r c s some within k h)))
 
   pub end_from_left_side : (s : ℕ) → Holds (side_left size r c) s → is_end size (dot size r c) s ≡ true
   end_from_left_side s h =
       let k = left_low s h in
-      end_from size (dot size r c) s true (lt-ltb s (flat_sides size) k) (or_right _ _ (eq-eqb _ _ (end_from_left size r c s some within k h)))
+      end_from size (dot size r c) s true (lt-ltb s (flat_sides size) k)
+      (or_right _ _ (eq-eqb _ _ (end_from_left size r c s some within k h)))
 
   pub end_from_right_side : (s : ℕ) → Holds (side_right size r c) s → is_end size (dot size r c) s ≡ true
   end_from_right_side s h =
       let k = right_low s h in
-      end_from size (dot size r c) s true (lt-ltb s (flat_sides size) k) (or_left _ _ (eq-eqb _ _ (end_from_right size r c s some within k h)))
+      end_from size (dot size r c) s true (lt-ltb s (flat_sides size) k)
+      (or_left _ _ (eq-eqb _ _ (end_from_right size r c s some within k h)))
 
   -- no side is two of the four
   up_or_left : (s : ℕ) → Holds (side_up size r c) s → Holds (side_left size r c) s → ⊥
@@ -228,7 +248,8 @@ module _ (size : Size) (r c : ℕ) (some : 0 < size.cols) (high : r ≤ size.row
   right_or_down : (s : ℕ) → Holds (side_right size r c) s → Holds (side_down size r c) s → ⊥
   right_or_down s h k = let a = (down_high s k).0 in let b = right_low s h in omega arith
 
-  apart : (s : ℕ) → (Holds (side_up size r c) s ⊎ Holds (side_left size r c) s) → (Holds (side_right size r c) s ⊎ Holds (side_down size r c) s) → ⊥
+  apart : (s : ℕ) → (Holds (side_up size r c) s ⊎ Holds (side_left size r c) s)
+      → (Holds (side_right size r c) s ⊎ Holds (side_down size r c) s) → ⊥
   apart s h k =
       elim h [
         | inl u ↦ elim k [
@@ -249,26 +270,35 @@ module _ (size : Size) (r c : ℕ) (some : 0 < size.cols) (high : r ≤ size.row
       ]
 
   end_is : (s : ℕ) → s < all_sides size
-      → is_end size (dot size r c) s ≡ ((hits (side_up size r c) s || hits (side_left size r c) s) || (hits (side_right size r c) s || hits (side_down size r c) s))
+      → is_end size (dot size r c) s ≡ ((hits (side_up size r c) s || hits (side_left size r c) s) ||
+      (hits (side_right size r c) s || hits (side_down size r c) s))
   end_is s low =
-      same_bool _ _ (λ e. or_of_four (hits (side_up size r c) s) (hits (side_left size r c) s) (hits (side_right size r c) s) (hits (side_down size r c) s) (end_cases s low e))
-      (λ e. elim (four_of_or (hits (side_up size r c) s) (hits (side_left size r c) s) (hits (side_right size r c) s) (hits (side_down size r c) s) e) [
+      same_bool _ _ (λ e. or_of_four (hits (side_up size r c) s) (hits (side_left size r c) s)
+      (hits (side_right size r c) s) (hits (side_down size r c) s) (end_cases s low e))
+      (λ e. elim (four_of_or (hits (side_up size r c) s) (hits (side_left size r c) s) (hits (side_right size r c) s)
+      (hits (side_down size r c) s) e) [
         | inl h ↦ elim h [ inl u ↦ end_from_up_side s u | inr l ↦ end_from_left_side s l ]
         | inr h ↦ elim h [ inl k ↦ end_from_right_side s k | inr d ↦ end_from_down_side s d ]
       ])
 
   -- how many of the sides at the dot pass a test
   tally_ends : (p : ℕ → Bool) → count_below (λ s. p s && is_end size (dot size r c) s) (all_sides size)
-      ≡ (count_at p (side_up size r c) + count_at p (side_left size r c)) + (count_at p (side_right size r c) + count_at p (side_down size r c))
+      ≡ (count_at p (side_up size r c) + count_at p (side_left size r c)) +
+      (count_at p (side_right size r c) + count_at p (side_down size r c))
   tally_ends p =
       let n = all_sides size in
-      let up = side_up size r c in let left = side_left size r c in let right = side_right size r c in let down = side_down size r c in
-      let whole = count_below-or (λ s. p s && is_end size (dot size r c) s) (λ s. p s && (hits up s || hits left s)) (λ s. p s && (hits right s || hits down s)) n
+      let up = side_up size r c in let left = side_left size r c in let right = side_right size r c in let down =
+      side_down size r c in
+      let whole = count_below-or (λ s. p s && is_end size (dot size r c) s) (λ s. p s && (hits up s || hits left s))
+      (λ s. p s && (hits right s || hits down s)) n
       (λ s l. ap (λ b. p s && b) (end_is s l) ∙ and_or (p s) _ _)
-      (λ s l a b. apart s (or_cases (hits up s) (hits left s) (and_second (p s) _ a)) (or_cases (hits right s) (hits down s) (and_second (p s) _ b))) in
-      let first = count_below-or (λ s. p s && (hits up s || hits left s)) (λ s. p s && hits up s) (λ s. p s && hits left s) n
+      (λ s l a b. apart s (or_cases (hits up s) (hits left s) (and_second (p s) _ a))
+      (or_cases (hits right s) (hits down s) (and_second (p s) _ b))) in
+      let first = count_below-or (λ s. p s && (hits up s || hits left s)) (λ s. p s && hits up s)
+      (λ s. p s && hits left s) n
       (λ s l. and_or (p s) _ _) (λ s l a b. up_or_left s (and_second (p s) _ a) (and_second (p s) _ b)) in
-      let second = count_below-or (λ s. p s && (hits right s || hits down s)) (λ s. p s && hits right s) (λ s. p s && hits down s) n
+      let second = count_below-or (λ s. p s && (hits right s || hits down s)) (λ s. p s && hits right s)
+      (λ s. p s && hits down s) n
       (λ s l. and_or (p s) _ _) (λ s l a b. right_or_down s (and_second (p s) _ a) (and_second (p s) _ b)) in
       let u = count_below-hits p up n (all_held up (λ s. s < n) (λ s h. (up_high s h).1)) in
       let l = count_below-hits p left n (all_held left (λ s. s < n) (λ s h. let k = left_low s h in omega arith)) in
@@ -277,7 +307,8 @@ module _ (size : Size) (r c : ℕ) (some : 0 < size.cols) (high : r ≤ size.row
       omega arith
 
 -- the row and the column of a dot
-pub dot_within : (size : Size) (d : ℕ) → d < dots size → (d ≡ dot size (dot_row size d) (dot_col size d)) × (dot_row size d ≤ size.rows) × (dot_col size d ≤ size.cols)
+pub dot_within : (size : Size) (d : ℕ) → d < dots size → (d ≡ dot size (dot_row size d) (dot_col size d))
+    × (dot_row size d ≤ size.rows) × (dot_col size d ≤ size.cols)
 dot_within size d low =
     let a = div_below d (size.cols + 1) (size.rows + 1) (omega arith) low in
     let b = mod_below d (size.cols + 1) (omega arith) in
@@ -285,8 +316,10 @@ dot_within size d low =
 
 -- how many lines are at a dot
 pub degree_is : (size : Size) (f : List ℕ) (d : ℕ) → 0 < size.cols → d < dots size
-    → degree size f d ≡ (count_at (is_line f) (side_up size (dot_row size d) (dot_col size d)) + count_at (is_line f) (side_left size (dot_row size d) (dot_col size d)))
-    + (count_at (is_line f) (side_right size (dot_row size d) (dot_col size d)) + count_at (is_line f) (side_down size (dot_row size d) (dot_col size d)))
+    → degree size f d ≡ (count_at (is_line f) (side_up size (dot_row size d) (dot_col size d)) + count_at (is_line f)
+    (side_left size (dot_row size d) (dot_col size d)))
+    + (count_at (is_line f) (side_right size (dot_row size d) (dot_col size d)) + count_at (is_line f)
+    (side_down size (dot_row size d) (dot_col size d)))
 degree_is size f d some low =
     let w = dot_within size d low in
     count_by-numbers (λ side. is_line f side && is_end size d side) (all_sides size)
@@ -295,8 +328,10 @@ degree_is size f d some low =
 
 -- the sides at a dot are on the board
 pub sides_below : (size : Size) (d s : ℕ) → 0 < size.cols → d < dots size
-    → (Holds (side_up size (dot_row size d) (dot_col size d)) s ⊎ Holds (side_left size (dot_row size d) (dot_col size d)) s)
-    ⊎ (Holds (side_right size (dot_row size d) (dot_col size d)) s ⊎ Holds (side_down size (dot_row size d) (dot_col size d)) s)
+    → (Holds (side_up size (dot_row size d) (dot_col size d)) s
+    ⊎ Holds (side_left size (dot_row size d) (dot_col size d)) s)
+    ⊎ (Holds (side_right size (dot_row size d) (dot_col size d)) s
+    ⊎ Holds (side_down size (dot_row size d) (dot_col size d)) s)
     → s < all_sides size
 sides_below size d s some low h =
     let w = dot_within size d low in

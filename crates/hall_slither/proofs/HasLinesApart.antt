@@ -6,7 +6,8 @@ use Rattle.hall_grid.specs.Slither.{all_sides, IsLine, ShareDot, HasLinesApart}
 use Rattle.hall_grid.specs.Component.{IsLabelled, AreComponents, LabelsDiffer}
 use Rattle.hall_grid.proofs.AreComponents.{labelled_member, walk_from_label, label_from_walk}
 
-module _ (size : Size) (f : List ℕ) (labels : List (Option ℕ)) (are : AreComponents (all_sides size) (ShareDot size) (IsLine size f) labels) where
+module _ (size : Size) (f : List ℕ) (labels : List (Option ℕ))
+    (are : AreComponents (all_sides size) (ShareDot size) (IsLine size f) labels) where
   turn : (a b : ℕ) → ShareDot size a b → ShareDot size b a
   turn a b s = (s.0, s.2, s.1)
 

@@ -1,5 +1,6 @@
 -- The ends of chains, dot by dot.
-use Rattle.std.proofs.Common.{◌≡◌, ℕ, zero, suc, ◌+◌, ◌<◌, ◌≤◌, ◌∙◌, true, List, length, get_or, set, replicate, Option, Some, None, refl, sym, ap, subst, inl, inr, arith}
+use Rattle.std.proofs.Common.{◌≡◌, ℕ, zero, suc, ◌+◌, ◌<◌, ◌≤◌, ◌∙◌, true, List, length, get_or, set, replicate, Option}
+use Rattle.std.proofs.Common.{Some, None, refl, sym, ap, subst, inl, inr, arith}
 use Rattle.std.specs.Prelude.{IfSome}
 use Rattle.std.proofs.lemmas.Bool.{cases_eq}
 use Rattle.std.proofs.lemmas.List.{length-set, get_or-set_same, get_or-set_other, length-replicate}
@@ -44,7 +45,8 @@ none_yet zero label = refl
 none_yet (suc n) zero = refl
 none_yet (suc n) (suc label) = none_yet n label
 
-module _ (size : Size) (lines : List ℕ) (labels : List (Option ℕ)) (are : AreComponents (all_sides size) (ShareDot size) (IsLine size lines) labels) where
+module _ (size : Size) (lines : List ℕ) (labels : List (Option ℕ))
+    (are : AreComponents (all_sides size) (ShareDot size) (IsLine size lines) labels) where
   pub HaveEnds-none : (ends : List Ends) → ends ≡ replicate (length labels) Closed → HaveEnds size lines labels 0 ends
   HaveEnds-none ends e = subst (HaveEnds size lines labels 0) (sym e) record {
     exact = length-replicate (length labels) Closed;
@@ -57,12 +59,14 @@ module _ (size : Size) (lines : List ℕ) (labels : List (Option ℕ)) (are : Ar
   pub touched_once : (label d : ℕ) → Touches size labels label d → 1 ≤ degree size lines d
   touched_once label d t =
       let member = labelled_member (all_sides size) (ShareDot size) (IsLine size lines) labels are t.0 label t.1 in
-      let one = count_below-one (line_end size lines d) (all_sides size) t.0 member.0 (line_end_from size lines d t.0 member.1 t.2) in
+      let one = count_below-one (line_end size lines d) (all_sides size) t.0 member.0
+      (line_end_from size lines d t.0 member.1 t.2) in
       let e = count_by-numbers (line_end size lines d) (all_sides size) in
       omega arith
 
   -- the next dot is no loose end
-  pub HaveEnds-next : (n : ℕ) (ends : List Ends) → HaveEnds size lines labels n ends → ((label : ℕ) → Touches size labels label n → 2 ≤ degree size lines n)
+  pub HaveEnds-next : (n : ℕ) (ends : List Ends) → HaveEnds size lines labels n ends
+      → ((label : ℕ) → Touches size labels label n → 2 ≤ degree size lines n)
       → HaveEnds size lines labels (n + 1) ends
   HaveEnds-next n ends have here = record {
     exact = have.exact;
@@ -75,7 +79,8 @@ module _ (size : Size) (lines : List ℕ) (labels : List (Option ℕ)) (are : Ar
   }
 
   -- chains that touch at a dot are one
-  same_chain : (a b label other d : ℕ) → IsLabelled labels a label → IsLabelled labels b other → is_end size d a ≡ true → is_end size d b ≡ true → label ≡ other
+  same_chain : (a b label other d : ℕ) → IsLabelled labels a label → IsLabelled labels b other → is_end size d a ≡ true
+      → is_end size d b ≡ true → label ≡ other
   same_chain a b label other d la lb ea eb =
       let ma = labelled_member (all_sides size) (ShareDot size) (IsLine size lines) labels are a label la in
       let mb = labelled_member (all_sides size) (ShareDot size) (IsLine size lines) labels are b other lb in
@@ -83,8 +88,10 @@ module _ (size : Size) (lines : List ℕ) (labels : List (Option ℕ)) (are : Ar
       (cc)
 
   -- the next dot is an end of the chain of this line
-  pub HaveEnds-end : (n side label : ℕ) (ends : List Ends) → HaveEnds size lines labels n ends → IsLabelled labels side label → is_end size n side ≡ true
-      → label < length ends → HaveEnds size lines labels (n + 1) (set ends label (with_end (get_or ends label Closed) n))
+  pub HaveEnds-end : (n side label : ℕ) (ends : List Ends) → HaveEnds size lines labels n ends
+      → IsLabelled labels side label → is_end size n side ≡ true
+      → label < length ends → HaveEnds size lines labels (n + 1)
+      (set ends label (with_end (get_or ends label Closed) n))
   HaveEnds-end n side label ends have is at_n low =
       let new = set ends label (with_end (get_or ends label Closed) n) in
       let same = get_or-set_same ends label (with_end (get_or ends label Closed) n) Closed low in
@@ -93,30 +100,42 @@ module _ (size : Size) (lines : List ℕ) (labels : List (Option ℕ)) (are : Ar
         exact = length-set ends label (with_end (get_or ends label Closed) n) ∙ have.exact;
         loose = λ l d lim t. elim (cases_eq d n) [
           | inl e ↦
-              let sl : label ≡ l = same_chain side t.0 label l n is t.1 at_n (subst (λ d. is_end size d t.0 ≡ true) e t.2) in
-              inr (subst (λ l. IsEndOf (get_or new l Closed) d) sl (subst (λ x. IsEndOf x d) (sym same) (subst (λ d. IsEndOf (with_end (get_or ends label Closed) n) d) (sym e) (with_new (get_or ends label Closed) n))))
+              let sl : label ≡ l = same_chain side t.0 label l n is t.1 at_n
+              (subst (λ d. is_end size d t.0 ≡ true) e t.2) in
+              inr (subst (λ l. IsEndOf (get_or new l Closed) d) sl
+              (subst (λ x. IsEndOf x d) (sym same) (subst (λ d. IsEndOf (with_end (get_or ends label Closed) n) d)
+              (sym e) (with_new (get_or ends label Closed) n))))
           | inr ne ↦ elim (have.loose l d (omega arith) t) [
             | inl two ↦ inl two
             | inr end ↦ inr (elim (cases_eq l label) [
               | inl sl ↦ subst (λ l. IsEndOf (get_or new l Closed) d) (sym sl)
-                  (subst (λ x. IsEndOf x d) (sym same) (with_old (get_or ends label Closed) n d (subst (λ l. IsEndOf (get_or ends l Closed) d) sl end)))
-              | inr other ↦ subst (λ x. IsEndOf x d) (sym (get_or-set_other ends label l (with_end (get_or ends label Closed) n) Closed other)) end
+                  (subst (λ x. IsEndOf x d) (sym same) (with_old (get_or ends label Closed) n d
+                  (subst (λ l. IsEndOf (get_or ends l Closed) d) sl end)))
+              | inr other ↦ subst (λ x. IsEndOf x d) (sym (get_or-set_other ends label l
+                  (with_end (get_or ends label Closed) n) Closed other)) end
             ])
           ]
         ];
         first = λ l a e. elim (cases_eq l label) [
           | inl sl ↦
-              let here : with_end (get_or ends label Closed) n ≡ One a = sym same ∙ subst (λ l. get_or new l Closed ≡ One a) sl e in
+              let here : with_end (get_or ends label Closed) n ≡ One a = sym same
+              ∙ subst (λ l. get_or new l Closed ≡ One a) sl e in
               let na : n ≡ a = with_one (get_or ends label Closed) n a here in
               subst (λ l. Touches size labels l a) (sym sl) (subst (Touches size labels label) na touch)
-          | inr other ↦ have.first l a (sym (get_or-set_other ends label l (with_end (get_or ends label Closed) n) Closed other) ∙ e)
+          | inr other ↦ have.first l a (sym (get_or-set_other ends label l (with_end (get_or ends label Closed) n)
+              Closed other) ∙ e)
         ];
         both = λ l a b e. elim (cases_eq l label) [
           | inl sl ↦
-              let here : with_end (get_or ends label Closed) n ≡ Two a b = sym same ∙ subst (λ l. get_or new l Closed ≡ Two a b) sl e in
-              let w = with_two (get_or ends label Closed) n a b here in
-              (subst (λ l. Touches size labels l a) (sym sl) (have.first label a w.0), subst (λ l. Touches size labels l b) (sym sl) (subst (Touches size labels label) w.1 touch))
-          | inr other ↦ have.both l a b (sym (get_or-set_other ends label l (with_end (get_or ends label Closed) n) Closed other) ∙ e)
+              let here : with_end (get_or ends label Closed) n ≡ Two a b = sym same
+              ∙ subst (λ l. get_or new l Closed ≡ Two a b) sl e in
+              let w = with_two (get_or ends label Closed) n a b here in (
+                subst (λ l. Touches size labels l a) (sym sl) (have.first label a w.0),
+                subst
+                    (λ l. Touches size labels l b) (sym sl) (subst (Touches size labels label) w.1 touch),
+              )
+          | inr other ↦ have.both l a b (sym (get_or-set_other ends label l (with_end (get_or ends label Closed) n)
+              Closed other) ∙ e)
         ];
       }
 

@@ -17,23 +17,30 @@ pub IsFollowed-start : {E : Type 0} (board : Board) (b : Trailed) → IsFollowed
 IsFollowed-start board b = record { deduced = refl; err = tt; grows = Grows-itself b }
 
 -- what was found not dead has narrowed
-pub Narrows-deduced : (q : Question) (a b : List (Option ℕ)) (pass : Pass) → IsPartial q a → pass ≢ Dead → IsDeduced q a b pass → Narrows q a b
+pub Narrows-deduced : (q : Question) (a b : List (Option ℕ)) (pass : Pass) → IsPartial q a → pass ≢ Dead
+    → IsDeduced q a b pass → Narrows q a b
 Narrows-deduced q a b Settled partial alive h = subst (λ p. Narrows q a p) (sym h) (Narrows-itself q a partial)
 Narrows-deduced q a b Advanced partial alive h = h.0
 Narrows-deduced q a b Dead partial alive h = absurd (alive refl)
 
-pub Narrows-followed : {E : Type 0} (board : Board) (a b : Trailed) (pass : Pass) → IsPartial (question_of Slither board) a.places → pass ≢ Dead
+pub Narrows-followed : {E : Type 0} (board : Board) (a b : Trailed) (pass : Pass)
+    → IsPartial (question_of Slither board) a.places → pass ≢ Dead
     → IsFollowed {E = E} board a b (Ok pass) → Narrows (question_of Slither board) a.places b.places
-Narrows-followed board a b pass partial alive h = Narrows-deduced (question_of Slither board) a.places b.places pass partial alive h.deduced
+Narrows-followed board a b pass partial alive h = Narrows-deduced (question_of Slither board) a.places b.places pass
+    partial alive h.deduced
 
-deduced_still : (q : Question) (a b c : List (Option ℕ)) (pass : Pass) → pass ≢ Dead → IsDeduced q a b pass → c ≡ b → IsDeduced q a c pass
+deduced_still : (q : Question) (a b c : List (Option ℕ)) (pass : Pass) → pass ≢ Dead → IsDeduced q a b pass → c ≡ b
+    → IsDeduced q a c pass
 deduced_still q a b c pass alive h e = subst (λ p. IsDeduced q a p pass) (sym e) h
 
 -- nothing more was set
-pub IsFollowed-settled : {E : Type 0} (board : Board) (a b c : Trailed) (pass next : Pass) → next ≡ Settled → pass ≢ Dead
-    → IsFollowed {E = E} board a b (Ok pass) → IsFollowed {E = E} board b c (Ok next) → IsFollowed {E = E} board a c (Ok pass)
+pub IsFollowed-settled : {E : Type 0} (board : Board) (a b c : Trailed) (pass next : Pass) → next ≡ Settled
+    → pass ≢ Dead
+    → IsFollowed {E = E} board a b (Ok pass) → IsFollowed {E = E} board b c (Ok next)
+    → IsFollowed {E = E} board a c (Ok pass)
 IsFollowed-settled board a b c pass Settled is alive first second = record {
-  deduced = deduced_still (question_of Slither board) a.places b.places c.places pass alive first.deduced second.deduced;
+  deduced = deduced_still (question_of Slither board) a.places b.places c.places pass alive first.deduced
+      second.deduced;
   err = tt;
   grows = Grows-twice a b c first.grows second.grows;
 }
@@ -42,14 +49,19 @@ IsFollowed-settled board a b c pass Dead is alive first second = absurd (cc)
 
 -- more was set
 pub IsFollowed-advanced : {E : Type 0} (board : Board) (a b c : Trailed) (pass next : Pass) → next ≡ Advanced
-    → IsPartial (question_of Slither board) a.places → pass ≢ Dead → IsFollowed {E = E} board a b (Ok pass) → IsFollowed {E = E} board b c (Ok next)
+    → IsPartial (question_of Slither board) a.places → pass ≢ Dead → IsFollowed {E = E} board a b (Ok pass)
+    → IsFollowed {E = E} board b c (Ok next)
     → IsFollowed {E = E} board a c (Ok Advanced)
 IsFollowed-advanced board a b c pass Advanced is partial alive first second =
     let narrows = Narrows-followed board a b pass partial alive first in
     let le = open-narrows (question_of Slither board) a.places b.places partial narrows in
     let more = second.deduced in
     record {
-      deduced = (Narrows-twice (question_of Slither board) a.places b.places c.places narrows more.0, let fewer = more.1 in omega arith);
+      deduced = (
+        Narrows-twice (question_of Slither board) a.places b.places c.places narrows more.0,
+        let fewer =
+            more.1 in omega arith,
+      );
       err = tt;
       grows = Grows-twice a b c first.grows second.grows;
     }
@@ -57,10 +69,12 @@ IsFollowed-advanced board a b c pass Settled is partial alive first second = abs
 IsFollowed-advanced board a b c pass Dead is partial alive first second = absurd (cc)
 
 pub IsFollowed-dead : {E : Type 0} (board : Board) (a b c : Trailed) (pass next : Pass) → next ≡ Dead
-    → IsPartial (question_of Slither board) a.places → pass ≢ Dead → IsFollowed {E = E} board a b (Ok pass) → IsFollowed {E = E} board b c (Ok next)
+    → IsPartial (question_of Slither board) a.places → pass ≢ Dead → IsFollowed {E = E} board a b (Ok pass)
+    → IsFollowed {E = E} board b c (Ok next)
     → IsFollowed {E = E} board a c (Ok Dead)
 IsFollowed-dead board a b c pass Dead is partial alive first second = record {
-  deduced = hopeless_before (question_of Slither board) a.places b.places (Narrows-followed board a b pass partial alive first) second.deduced;
+  deduced = hopeless_before (question_of Slither board) a.places b.places
+      (Narrows-followed board a b pass partial alive first) second.deduced;
   err = tt;
   grows = Grows-twice a b c first.grows second.grows;
 }
@@ -74,15 +88,19 @@ IsFollowed-error board a b (Ok pass) failed narrows grows = absurd (cc)
 IsFollowed-error board a b (Err e) failed narrows grows = record { deduced = tt; err = narrows; grows = grows }
 
 -- memory was refused later
-pub IsFollowed-failed : {E : Type 0} (board : Board) (a b c : Trailed) (pass : Pass) (e : E) (r : Result Pass E) → IsErr r
-    → IsPartial (question_of Slither board) a.places → pass ≢ Dead → IsFollowed {E = E} board a b (Ok pass) → IsFollowed board b c (Err e) → IsFollowed board a c r
+pub IsFollowed-failed : {E : Type 0} (board : Board) (a b c : Trailed) (pass : Pass) (e : E) (r : Result Pass E)
+    → IsErr r
+    → IsPartial (question_of Slither board) a.places → pass ≢ Dead → IsFollowed {E = E} board a b (Ok pass)
+    → IsFollowed board b c (Err e) → IsFollowed board a c r
 IsFollowed-failed board a b c pass e r failed partial alive first second =
     IsFollowed-error board a c r failed
-    (Narrows-twice (question_of Slither board) a.places b.places c.places (Narrows-followed board a b pass partial alive first) second.err)
+    (Narrows-twice (question_of Slither board) a.places b.places c.places
+    (Narrows-followed board a b pass partial alive first) second.err)
     (Grows-twice a b c first.grows second.grows)
 
 -- the same of the same board
-pub IsFollowed-at : {E : Type 0} (board other : Board) (a b : Trailed) (r : Result Pass E) → other ≡ board → IsFollowed {E = E} other a b r → IsFollowed {E = E} board a b r
+pub IsFollowed-at : {E : Type 0} (board other : Board) (a b : Trailed) (r : Result Pass E) → other ≡ board
+    → IsFollowed {E = E} other a b r → IsFollowed {E = E} board a b r
 IsFollowed-at board other a b r e h = subst (λ x. IsFollowed x a b r) e h
 
 -- what was lent is what the borrower left there

@@ -1,8 +1,10 @@
 -- Partial fillings: what a place that is set changes.
-use Rattle.std.proofs.Common.{◌≡◌, ◌≢◌, ℕ, suc, ◌+◌, ◌<◌, ◌≤◌, List, [], ◌∷◌, Option, Some, None, length, get_or, set, cond, refl, sym, ◌∙◌, subst, arith, inl, inr}
+use Rattle.std.proofs.Common.{◌≡◌, ◌≢◌, ℕ, suc, ◌+◌, ◌<◌, ◌≤◌, List, [], ◌∷◌, Option, Some, None, length, get_or, set}
+use Rattle.std.proofs.Common.{cond, refl, sym, ◌∙◌, subst, arith, inl, inr}
 use Rattle.std.specs.Prelude.{is_none}
 use Rattle.std.proofs.lemmas.Bool.{cases_eq, cases_lt}
-use Rattle.std.proofs.lemmas.List.{get_or-set_same, get_or-set_other, get_or_past, length-set, same_lists, get_or_default}
+use Rattle.std.proofs.lemmas.List.{get_or-set_same, get_or-set_other, get_or_past, length-set, same_lists}
+use Rattle.std.proofs.lemmas.List.{get_or_default}
 use Rattle.std.proofs.lemmas.List.Sums.{sum_by-set, sum_by-cons}
 use Rattle.hall_solve.specs.Question.{Question, IsSameQuestion, IsQuestionFilling, IsPartial, Extends, Keeps, Solves}
 use Rattle.hall_solve.specs.Question.{Narrows, IsWhole, IsHopeless, IsOpen, open_places}
@@ -19,13 +21,15 @@ set_keeps p i v unset j w h =
       | inr ne ↦ rw get_or-set_other h
     ]
 
-pub open-set : (p : List (Option ℕ)) (i v : ℕ) → i < length p → get_or p i None ≡ None → open_places (set p i (Some v)) + 1 ≡ open_places p
+pub open-set : (p : List (Option ℕ)) (i v : ℕ) → i < length p → get_or p i None ≡ None
+    → open_places (set p i (Some v)) + 1 ≡ open_places p
 open-set p i v within unset =
     let e = (rw unset at (sum_by-set weight p i (Some v) None within)) in
     omega (arith, e)
 
 -- setting more leaves no more open
-pub open-keeps : (old new : List (Option ℕ)) → length old ≡ length new → Keeps old new → open_places new ≤ open_places old
+pub open-keeps : (old new : List (Option ℕ)) → length old ≡ length new → Keeps old new
+    → open_places new ≤ open_places old
 open-keeps [] [] e k = omega arith
 open-keeps [] (y ∷ ys) e k = absurd (omega arith)
 open-keeps (x ∷ xs) [] e k = absurd (omega arith)
@@ -41,17 +45,20 @@ open-keeps (x ∷ xs) (y ∷ ys) e k =
     heads (Some v) (Some w) h = omega arith
 
 -- what narrows leaves no more open
-pub open-narrows : (q : Question) (old new : List (Option ℕ)) → IsPartial q old → Narrows q old new → open_places new ≤ open_places old
+pub open-narrows : (q : Question) (old new : List (Option ℕ)) → IsPartial q old → Narrows q old new
+    → open_places new ≤ open_places old
 open-narrows q old new h n = open-keeps old new (h.size ∙ sym n.partial.size) n.keeps
 
 -- a solution solves the branch that has its value
-pub Solves-set : (q : Question) (p : List (Option ℕ)) (f : List ℕ) (i : ℕ) → Solves q p f → i < length p → Solves q (set p i (Some (get_or f i 0))) f
+pub Solves-set : (q : Question) (p : List (Option ℕ)) (f : List ℕ) (i : ℕ) → Solves q p f → i < length p
+    → Solves q (set p i (Some (get_or f i 0))) f
 Solves-set q p f i s within = record {
   filling = s.filling;
   extends = λ j w h.
       elim (cases_eq j i) [
         | inl e ↦ (let at : get_or (set p i (Some (get_or f i 0))) i None ≡ Some w = (rw e at h) in
-            let there : Some (get_or f i 0) ≡ Some w = sym (get_or-set_same p i (Some (get_or f i 0)) None within) ∙ at in
+            let there : Some (get_or f i 0) ≡ Some w = sym (get_or-set_same p i (Some (get_or f i 0)) None within)
+            ∙ at in
             let v : get_or f i 0 ≡ w = cc in rw e v)
         | inr ne ↦ s.extends j w (rw get_or-set_other at h)
       ];
@@ -59,20 +66,31 @@ Solves-set q p f i s within = record {
 }
 
 -- a solution of a branch solves, and has the branch's value
-pub Solves-unset : (q : Question) (p : List (Option ℕ)) (f : List ℕ) (i v : ℕ) → i < length p → get_or p i None ≡ None → Solves q (set p i (Some v)) f → Solves q p f × (get_or f i 0 ≡ v)
+pub Solves-unset : (q : Question) (p : List (Option ℕ)) (f : List ℕ) (i v : ℕ) → i < length p → get_or p i None ≡ None
+    → Solves q (set p i (Some v)) f → Solves q p f × (get_or f i 0 ≡ v)
 Solves-unset q p f i v within unset s = (
   record { filling = s.filling; extends = λ j w h. s.extends j w (set_keeps p i v unset j w h); right = s.right },
   s.extends i v (get_or-set_same p i (Some v) None within),
 )
 
 -- what keeps more has fewer solutions
-pub Solves-keeps : (q : Question) (old new : List (Option ℕ)) (f : List ℕ) → Keeps old new → Solves q new f → Solves q old f
-Solves-keeps q old new f k s = record { filling = s.filling; extends = λ i v h. s.extends i v (k i v h); right = s.right }
+pub Solves-keeps : (q : Question) (old new : List (Option ℕ)) (f : List ℕ) → Keeps old new → Solves q new f
+    → Solves q old f
+Solves-keeps q old new f k s = record {
+  filling = s.filling;
+  extends = λ i v h. s.extends i v (k i v h);
+  right =
+      s.right;
+}
 
 -- the same question has the same solutions
 pub Solves-same : (q r : Question) (p : List (Option ℕ)) (f : List ℕ) → IsSameQuestion q r → Solves q p f → Solves r p f
 Solves-same q r p f e s = record {
-  filling = record { size = s.filling.size ∙ sym e.cells; in_range = λ i h. rw e.values (s.filling.in_range i (omega (arith, e.cells))) };
+  filling = record {
+    size = s.filling.size ∙ sym e.cells;
+    in_range = λ i h. rw e.values
+        (s.filling.in_range i (omega (arith, e.cells)));
+  };
   extends = s.extends;
   right = (e.right f).1 s.right;
 }
@@ -94,7 +112,8 @@ same_twice q r s d e = record {
 pub IsPartial-same : (q r : Question) (p : List (Option ℕ)) → IsSameQuestion q r → IsPartial q p → IsPartial r p
 IsPartial-same q r p e h = record { size = h.size ∙ sym e.cells; in_range = λ i v at. rw e.values (h.in_range i v at) }
 
-pub IsPartial-set : (q : Question) (p : List (Option ℕ)) (i v : ℕ) → i < length p → v < q.values → IsPartial q p → IsPartial q (set p i (Some v))
+pub IsPartial-set : (q : Question) (p : List (Option ℕ)) (i v : ℕ) → i < length p → v < q.values → IsPartial q p
+    → IsPartial q (set p i (Some v))
 IsPartial-set q p i v within small h = record {
   size = length-set p i (Some v) ∙ h.size;
   in_range = λ j w hit.
@@ -111,9 +130,11 @@ value_of None ne = absurd (ne refl)
 value_of (Some v) ne = (v, refl)
 
 -- a whole board has one filling
-pub whole_filling : (p : List (Option ℕ)) (f g : List ℕ) → IsWhole p → length f ≡ length p → length g ≡ length p → Extends f p → Extends g p → f ≡ g
+pub whole_filling : (p : List (Option ℕ)) (f g : List ℕ) → IsWhole p → length f ≡ length p → length g ≡ length p
+    → Extends f p → Extends g p → f ≡ g
 whole_filling p f g whole lf lg ef eg =
-    same_lists f g (lf ∙ sym lg) (λ k d h. rw (get_or_default f k d 0 h, get_or_default g k d 0 (omega arith)) (at k (omega arith)))
+    same_lists f g (lf ∙ sym lg) (λ k d h. rw (get_or_default f k d 0 h, get_or_default g k d 0 (omega arith))
+    (at k (omega arith)))
   where
     at : (k : ℕ) → k < length p → get_or f k 0 ≡ get_or g k 0
     at k h = let there = value_of (get_or p k None) (whole k h) in ef k there.0 there.1 ∙ sym (eg k there.0 there.1)
@@ -127,7 +148,8 @@ set_within p i v h =
     ]
 
 -- each value of a whole board's filling is one of the board
-pub IsFilling-whole : (q : Question) (p : List (Option ℕ)) (f : List ℕ) → IsWhole p → IsPartial q p → length f ≡ length p → Extends f p → IsQuestionFilling q f
+pub IsFilling-whole : (q : Question) (p : List (Option ℕ)) (f : List ℕ) → IsWhole p → IsPartial q p
+    → length f ≡ length p → Extends f p → IsQuestionFilling q f
 IsFilling-whole q p f whole h e ext = record {
   size = e ∙ h.size;
   in_range = λ i lt.
@@ -147,7 +169,8 @@ Narrows-twice q a b c h k = record {
 }
 
 -- to set what is forced narrows
-pub Narrows-forced : (q : Question) (p : List (Option ℕ)) (place value : ℕ) → IsPartial q p → IsForced q p place value → Narrows q p (set p place (Some value))
+pub Narrows-forced : (q : Question) (p : List (Option ℕ)) (place value : ℕ) → IsPartial q p → IsForced q p place value
+    → Narrows q p (set p place (Some value))
 Narrows-forced q p place value h e = record {
   partial = IsPartial-set q p place value e.unset.0 e.in_range h;
   keeps = set_keeps p place value e.unset.1;
@@ -155,11 +178,14 @@ Narrows-forced q p place value h e = record {
 }
 
 -- what narrows to a hopeless one is hopeless
-pub hopeless_before : (q : Question) (old new : List (Option ℕ)) → Narrows q old new → IsHopeless q new → IsHopeless q old
+pub hopeless_before : (q : Question) (old new : List (Option ℕ)) → Narrows q old new → IsHopeless q new
+    → IsHopeless q old
 hopeless_before q old new n h = λ f s. h f (n.solutions f s)
 
 -- to set what is forced leaves fewer places open than at the start
-pub forced_after : (q : Question) (start p : List (Option ℕ)) (place value : ℕ) → IsPartial q start → Narrows q start p → IsForced q p place value → Narrows q start (set p place (Some value)) × (open_places (set p place (Some value)) < open_places start)
+pub forced_after : (q : Question) (start p : List (Option ℕ)) (place value : ℕ) → IsPartial q start → Narrows q start p
+    → IsForced q p place value → Narrows q start (set p place (Some value))
+    × (open_places (set p place (Some value)) < open_places start)
 forced_after q start p place value whole n e =
     let fewer : open_places p ≤ open_places start = open-keeps start p (whole.size ∙ sym n.partial.size) n.keeps in (
       Narrows-twice q start p (set p place (Some value)) n (Narrows-forced q p place value n.partial e),

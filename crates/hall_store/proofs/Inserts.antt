@@ -15,11 +15,17 @@ module _ {K : Type 0} {R : K → K → Ordering} (o : IsTotalOrder R) (same : Is
     | Greater ↦ λ e. inr (λ s. let no : Greater ≡ Equal = sym e ∙ subst (λ x. R a x ≡ Equal) s (tied_itself o a) in cc)
   ] refl
 
-module _ {K X : Type 0} {R : K → K → Ordering} (o : IsTotalOrder R) (same : IsAntisymmetric R) (m : FinMap R X) (k : K) (v : X) where
+module _ {K X : Type 0} {R : K → K → Ordering} (o : IsTotalOrder R) (same : IsAntisymmetric R) (m : FinMap R X) (k : K)
+    (v : X) where
   -- what is found is the row that was inserted, or stood there before under another key
-  pub found_after : (q : K) (w : X) → get (insert m k v) q ≡ Some w → ((q ≡ k) × (w ≡ v)) ⊎ ((q ≢ k) × (get m q ≡ Some w))
+  pub found_after : (q : K) (w : X) → get (insert m k v) q ≡ Some w → ((q ≡ k) × (w ≡ v))
+      ⊎ ((q ≢ k) × (get m q ≡ Some w))
   found_after q w found = elim (keys_apart o same q k) [
-    | inl own ↦ inl (own, let at : Some v ≡ Some w = sym (get-insert_same o m k v) ∙ ap (get (insert m k v)) (sym own) ∙ found in let e : v ≡ w = cc in sym e)
+    | inl own ↦ inl (
+      own,
+      let at : Some v ≡ Some w = sym (get-insert_same o m k v) ∙ ap (get (insert m k v)) (sym own)
+          ∙ found in let e : v ≡ w = cc in sym e,
+    )
     | inr other ↦ inr (other, sym (get-insert_other o same m k v q other) ∙ found)
   ]
 

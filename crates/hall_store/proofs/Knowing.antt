@@ -17,7 +17,8 @@ pub leads_same : (a : Content) → Leads a a
 leads_same a = record { honest = λ h. h; serves = λ h s. s; counts = omega arith; lasts = λ h s. inl s }
 
 -- a store that served serves after both, or more faults were counted
-pub lasts_then : (a b c : Content) → a.faults ≤ b.faults → b.faults ≤ c.faults → (a.serves → b.serves ⊎ MoreFaults a.faults b.faults)
+pub lasts_then : (a b c : Content) → a.faults ≤ b.faults → b.faults ≤ c.faults
+    → (a.serves → b.serves ⊎ MoreFaults a.faults b.faults)
     → (b.serves → c.serves ⊎ MoreFaults b.faults c.faults) → a.serves → c.serves ⊎ MoreFaults a.faults c.faults
 lasts_then a b c on more first second s = after (first s)
   where
@@ -43,9 +44,18 @@ pub kept_leads : (a b : Content) → Kept a b → Leads a b
 kept_leads a b kept = record { honest = kept.honest; serves = kept.serves; counts = kept.counts; lasts = kept.lasts }
 
 -- and one that leads on, makes no write and leaves the world keeps it
-pub leads_kept : (a b : Content) → Leads a b → b.writes ≤ a.writes → LeavesNoOther a b → (b.honest → b.serves → b.world ≡ a.world) → Kept a b
+pub leads_kept : (a b : Content) → Leads a b → b.writes ≤ a.writes → LeavesNoOther a b
+    → (b.honest → b.serves → b.world ≡ a.world) → Kept a b
 leads_kept a b leads writes stops world =
-    record { honest = leads.honest; serves = leads.serves; counts = leads.counts; lasts = leads.lasts; writes = writes; stops = stops; world = world }
+    record {
+      honest = leads.honest;
+      serves = leads.serves;
+      counts = leads.counts;
+      lasts = leads.lasts;
+      writes = writes;
+      stops = stops;
+      world = world;
+    }
 
 -- a call that changes nothing leaves the world
 pub kept_same : (a : Content) → Kept a a
@@ -54,47 +64,61 @@ kept_same a = leads_kept a a (leads_same a) (omega arith) (λ h left may. may) (
 -- two calls that leave the world, one after the other
 pub kept_then : (a b c : Content) → Kept a b → Kept b c → Kept a c
 kept_then a b c first second =
-    leads_kept a c (leads_then a b c (kept_leads a b first) (kept_leads b c second)) (omega (arith, first.writes, second.writes))
-    (λ h left may. first.stops (second.honest h) left (second.stops h left may)) (λ h s. second.world h s ∙ first.world (second.honest h) (second.serves h s))
+    leads_kept a c (leads_then a b c (kept_leads a b first) (kept_leads b c second))
+    (omega (arith, first.writes, second.writes))
+    (λ h left may. first.stops (second.honest h) left (second.stops h left may))
+    (λ h s. second.world h s ∙ first.world (second.honest h) (second.serves h s))
 
 -- what was true before a call that leaves the world is true after it
-pub carried : (P : World → Type 0) (a b : Content) → Kept a b → (a.honest → a.serves → P a.world) → b.honest → b.serves → P b.world
+pub carried : (P : World → Type 0) (a b : Content) → Kept a b → (a.honest → a.serves → P a.world) → b.honest → b.serves
+    → P b.world
 carried P a b kept before h s = subst P (sym (kept.world h s)) (before (kept.honest h) (kept.serves h s))
 
 -- what a later call tells, after a call that left the world and after which the store still served
-pub told_through : {R E : Type 0} (r : Result R E) (M N : World → R → Type 0) (a b c : Content) → Kept b c → (b.honest → a.serves → b.serves) →
+pub told_through : {R E : Type 0} (r : Result R E) (M N : World → R → Type 0) (a b c : Content) → Kept b c
+    → (b.honest → a.serves → b.serves) →
     ((x : R) → c.honest → c.serves → M c.world x → N c.world x) → Told b c r M → Told a c r N
-told_through (Ok x) M N a b c kept opened turn told = ((λ h s. told.0 h (opened (kept.honest h) s)), (λ h s. turn x h s (told.1 h s)))
+told_through (Ok x) M N a b c kept opened turn told = (
+  (λ h s. told.0 h (opened (kept.honest h) s)),
+  (λ h s. turn x h s (told.1 h s)),
+)
 told_through (Err e) M N a b c kept opened turn told = tt
 
 -- what a later call tells is served, where the store served before it
-pub served_through : {R E : Type 0} (r : Result R E) (M N : World → R → Type 0) (b c : Content) → Kept b c → (b.honest → b.serves) →
+pub served_through : {R E : Type 0} (r : Result R E) (M N : World → R → Type 0) (b c : Content) → Kept b c
+    → (b.honest → b.serves) →
     ((x : R) → c.honest → c.serves → M c.world x → N c.world x) → Told b c r M → Served c r N
-served_through (Ok x) M N b c kept opened turn told = λ h. let s : c.serves = told.0 h (opened (kept.honest h)) in (s, turn x h s (told.1 h s))
+served_through (Ok x) M N b c kept opened turn told = λ h. let s : c.serves = told.0 h (opened (kept.honest h)) in
+    (s, turn x h s (told.1 h s))
 served_through (Err e) M N b c kept opened turn told = tt
 
 -- what is served of one meaning is served of another that follows from it
-pub served_turn : {R E : Type 0} (r : Result R E) (M N : World → R → Type 0) (new : Content) → ((x : R) → M new.world x → N new.world x) → Served new r M → Served new r N
+pub served_turn : {R E : Type 0} (r : Result R E) (M N : World → R → Type 0) (new : Content)
+    → ((x : R) → M new.world x → N new.world x) → Served new r M → Served new r N
 served_turn (Ok x) M N new turn told = λ h. ((told h).0, turn x (told h).1)
 served_turn (Err e) M N new turn told = tt
 
 -- what a call that touches no store makes of what was found before it
-pub pure_told : {R E : Type 0} (r : Result R E) (M : R → Type 0) (N : World → R → Type 0) (a b : Content) → (b.honest → a.serves → b.serves) →
+pub pure_told : {R E : Type 0} (r : Result R E) (M : R → Type 0) (N : World → R → Type 0) (a b : Content)
+    → (b.honest → a.serves → b.serves) →
     ((x : R) → b.honest → b.serves → M x → N b.world x) → IfOk r M → Told a b r N
 pure_told (Ok x) M N a b opened turn made = (opened, λ h s. turn x h s made)
 pure_told (Err e) M N a b opened turn made = tt
 
 -- what is told of one meaning is told of another that follows from it
-pub told_turn : {R E : Type 0} (r : Result R E) (M N : World → R → Type 0) (a b : Content) → ((x : R) → b.honest → b.serves → M b.world x → N b.world x) → Told a b r M → Told a b r N
+pub told_turn : {R E : Type 0} (r : Result R E) (M N : World → R → Type 0) (a b : Content)
+    → ((x : R) → b.honest → b.serves → M b.world x → N b.world x) → Told a b r M → Told a b r N
 told_turn (Ok x) M N a b turn told = (told.0, λ h s. turn x h s (told.1 h s))
 told_turn (Err e) M N a b turn told = tt
 
 -- what is told over a store that is honest and serves
-pub plainly : {R E : Type 0} (r : Result R E) (M N : R → Type 0) (W : World → R → Type 0) (new : Content) → new.honest → new.serves → ((x : R) → W new.world x → N x) → Served new r W → IfOk r N
+pub plainly : {R E : Type 0} (r : Result R E) (M N : R → Type 0) (W : World → R → Type 0) (new : Content) → new.honest
+    → new.serves → ((x : R) → W new.world x → N x) → Served new r W → IfOk r N
 plainly (Ok x) M N W new h s turn served = turn x (served h).1
 plainly (Err e) M N W new h s turn served = tt
 
 -- what holds over a store, where another relation follows from it
-pub over_turn : (R Q : World → World → Type 0) (old new : Content) → ((before after : World) → R before after → Q before after) → Over R old new → Over Q old new
+pub over_turn : (R Q : World → World → Type 0) (old new : Content)
+    → ((before after : World) → R before after → Q before after) → Over R old new → Over Q old new
 over_turn R Q old new turn (inl (always, left)) = inl ((λ world. turn world world (always world)), left)
 over_turn R Q old new turn (inr (before, after, holds)) = inr (before, after, turn old.world new.world holds)

@@ -1,5 +1,6 @@
 -- The protests of the world, and those of a round that are open.
-use Rattle.std.proofs.Common.{◌≡◌, ◌↔◌, ◌⊎◌, inl, inr, ℕ, List, [], ◌∷◌, zero, suc, Contains, Some, refl, sym, ap, ◌∙◌, subst, slice_get}
+use Rattle.std.proofs.Common.{◌≡◌, ◌↔◌, ◌⊎◌, inl, inr, ℕ, List, [], ◌∷◌, zero, suc, Contains, Some, refl, sym, ap, ◌∙◌}
+use Rattle.std.proofs.Common.{subst, slice_get}
 use Rattle.std.specs.FinMap.{get}
 use Rattle.std.specs.Map.{keys_of, values_of, lookup}
 use Rattle.std.specs.BTreeMap.{is_at}
@@ -29,10 +30,12 @@ first_or_later x xs y among =
       | suc n ↦ λ e. inr (contained xs y n e)
     ] at.1
 
-pub open_first : (round : List ℕ) (row : ProtestRow) (rest : List ProtestRow) → IsOpenIn round row → HasOpen round (row ∷ rest)
+pub open_first : (round : List ℕ) (row : ProtestRow) (rest : List ProtestRow) → IsOpenIn round row
+    → HasOpen round (row ∷ rest)
 open_first round first rest is = (first, contained (first ∷ rest) first 0 refl, is)
 
-pub open_later : (round : List ℕ) (row : ProtestRow) (rest : List ProtestRow) → (IsOpenIn round row → ⊥) → HasOpen round (row ∷ rest) ↔ HasOpen round rest
+pub open_later : (round : List ℕ) (row : ProtestRow) (rest : List ProtestRow) → (IsOpenIn round row → ⊥)
+    → HasOpen round (row ∷ rest) ↔ HasOpen round rest
 open_later round row rest shut = (
   (λ h. elim (first_or_later row rest h.0 h.1) [
     | inl same ↦ absurd (shut (subst (IsOpenIn round) (sym same) h.2))
@@ -58,12 +61,14 @@ module _ (store : MapStore) (sorted : IsStrictlySortedBy protest_cmp (keys_of st
     (λ h.
         let entry = Contains-from_values_of es h.0 h.1 in
         let found : lookup (is_at (protest_cmp entry.0)) es ≡ Some h.0 =
-        lookup-from_Contains (eq_by_cmp_equiv protest_total) entry.0 h.0 es (IsDistinct-from_sorted protest_cmp (keys_of es) sorted) entry.1 in
+        lookup-from_Contains (eq_by_cmp_equiv protest_total) entry.0 h.0 es
+        (IsDistinct-from_sorted protest_cmp (keys_of es) sorted) entry.1 in
         let own = (store.protests_kept entry.0 h.0 found).own in
         (entry.0, h.0, sym (ap (λ (k : ProtestKey). k.round) own) ∙ h.2.0, get_protest entry.0 ∙ found, h.2.1)),
     (λ h.
         let found : lookup (is_at (protest_cmp h.0)) es ≡ Some h.1 = sym (get_protest h.0) ∙ h.3 in
-        let entry = Contains-from_lookup (λ x y e. same_protest_keys x y (equal_from_test (protest_cmp x y) e)) h.0 h.1 es found in
+        let entry = Contains-from_lookup (λ x y e. same_protest_keys x y (equal_from_test (protest_cmp x y) e)) h.0 h.1
+        es found in
         let own = (store.protests_kept h.0 h.1 found).own in
         (h.1, Contains-values_of es h.0 h.1 entry, (ap (λ (k : ProtestKey). k.round) own ∙ h.2, h.4))),
   )

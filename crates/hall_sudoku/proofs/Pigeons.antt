@@ -1,5 +1,6 @@
 -- As many different values as there are leave none out.
-use Rattle.std.proofs.Common.{◌≡◌, ◌≢◌, ℕ, zero, suc, ◌+◌, ◌<◌, ◌≤◌, true, false, eqb, List, ◌∷◌, length, get_or, map, sym, ◌∙◌, inl, inr, arith}
+use Rattle.std.proofs.Common.{◌≡◌, ◌≢◌, ℕ, zero, suc, ◌+◌, ◌<◌, ◌≤◌, true, false, eqb, List, ◌∷◌, length, get_or, map}
+use Rattle.std.proofs.Common.{sym, ◌∙◌, inl, inr, arith}
 use Rattle.std.specs.List.{range_with_len, list_any}
 use Rattle.std.proofs.lemmas.Bool.{eqb-true, ne_eqb, false≢true, or_cases}
 use Rattle.std.proofs.lemmas.List.FromFn.{length-map-range_with_len, get_or-map-range_with_len}
@@ -7,22 +8,26 @@ use Rattle.std.proofs.lemmas.Map.Keys.{IsDistinct-from_apart}
 use Rattle.std.proofs.lemmas.Map.Steps.{length-le_from_distinct_below}
 
 -- what is found among g a, .., g (a + m - 1) is below n, as they are
-below_of : (g : ℕ → ℕ) (n a m : ℕ) → ((k : ℕ) → a ≤ k → k < a + m → g k < n) → (q : ℕ) → list_any (eqb q) (map g (range_with_len a m)) ≡ true → q < n
+below_of : (g : ℕ → ℕ) (n a m : ℕ) → ((k : ℕ) → a ≤ k → k < a + m → g k < n) → (q : ℕ)
+    → list_any (eqb q) (map g (range_with_len a m)) ≡ true → q < n
 below_of g n a zero below q h = absurd (false≢true h)
 below_of g n a (suc m) below q h =
     elim (or_cases (eqb q (g a)) (list_any (eqb q) (map g (range_with_len (a + 1) m))) h) [
-      | inl e ↦ (let q_is : q ≡ g a = eqb-true q (g a) e in let small : g a < n = below a (omega arith) (omega arith) in omega arith)
+      | inl e ↦ (let q_is : q ≡ g a = eqb-true q (g a) e in let small : g a < n = below a (omega arith) (omega arith) in
+          omega arith)
       | inr rest ↦ below_of g n (a + 1) m (λ k low high. below k (omega arith) (omega arith)) q rest
     ]
 
-module _ (n : ℕ) (g : ℕ → ℕ) (below : (k : ℕ) → k < n → g k < n) (apart : (j k : ℕ) → j < k → k < n → g j ≢ g k) (v : ℕ) (small : v < n) (missing : (k : ℕ) → k < n → g k ≢ v) where
+module _ (n : ℕ) (g : ℕ → ℕ) (below : (k : ℕ) → k < n → g k < n) (apart : (j k : ℕ) → j < k → k < n → g j ≢ g k) (v : ℕ)
+    (small : v < n) (missing : (k : ℕ) → k < n → g k ≢ v) where
   held : List ℕ
   held = map g (range_with_len 0 n)
 
   at : (k d : ℕ) → k < n → get_or (map g (range_with_len 0 n)) k d ≡ g k
   at k d lt = get_or-map-range_with_len g 0 n k k d lt (omega arith)
 
-  differ : (i j d : ℕ) → i < j → j < length (v ∷ map g (range_with_len 0 n)) → eqb (get_or (v ∷ map g (range_with_len 0 n)) i d) (get_or (v ∷ map g (range_with_len 0 n)) j d) ≡ false
+  differ : (i j d : ℕ) → i < j → j < length (v ∷ map g (range_with_len 0 n))
+      → eqb (get_or (v ∷ map g (range_with_len 0 n)) i d) (get_or (v ∷ map g (range_with_len 0 n)) j d) ≡ false
   differ zero zero d lt within = absurd (omega arith)
   differ zero (suc j) d lt within =
       let in_range : j < n = omega (arith, length-map-range_with_len g 0 n) in
@@ -43,5 +48,7 @@ module _ (n : ℕ) (g : ℕ → ℕ) (below : (k : ℕ) → k < n → g k < n) (
   -- n different values below n, and a value below n that is none of them: there is no such value
   pub no_value_missing : ⊥
   no_value_missing =
-      let most : length (v ∷ map g (range_with_len 0 n)) ≤ n = length-le_from_distinct_below (v ∷ map g (range_with_len 0 n)) n (IsDistinct-from_apart eqb (v ∷ map g (range_with_len 0 n)) differ) small_all in
+      let most : length (v ∷ map g (range_with_len 0 n)) ≤ n = length-le_from_distinct_below
+      (v ∷ map g (range_with_len 0 n)) n (IsDistinct-from_apart eqb (v ∷ map g (range_with_len 0 n)) differ)
+      small_all in
       omega (arith, most, length-map-range_with_len g 0 n)

@@ -23,14 +23,64 @@ pub record IsSquare (size : Size) : Type 0 where
 pub square_of : (size : Size) → HasSize Sudoku size → IsSquare size
 square_of size h =
     elim h.1 [
-      | inl e ↦ record { square = sym h.0; some = omega arith; few = omega arith; room = (rw (sym h.0, e) (omega arith)); some_cols = rw e (omega arith); some_rows = rw e (omega arith); boxed = rw e refl }
+      | inl e ↦ record {
+        square = sym h.0;
+        some = omega arith;
+        few = omega arith;
+        room =
+            (rw (sym h.0, e) (omega arith));
+        some_cols = rw e (omega arith);
+        some_rows = rw e (omega arith);
+        boxed = rw e
+            refl;
+      }
       | inr k ↦ elim k [
-        | inl e ↦ record { square = sym h.0; some = omega arith; few = omega arith; room = (rw (sym h.0, e) (omega arith)); some_cols = rw e (omega arith); some_rows = rw e (omega arith); boxed = rw e refl }
+        | inl e ↦ record {
+          square = sym h.0;
+          some = omega arith;
+          few = omega arith;
+          room =
+              (rw (sym h.0, e) (omega arith));
+          some_cols = rw e (omega arith);
+          some_rows = rw e (omega arith);
+          boxed =
+              rw e refl;
+        }
         | inr m ↦ elim m [
-          | inl e ↦ record { square = sym h.0; some = omega arith; few = omega arith; room = (rw (sym h.0, e) (omega arith)); some_cols = rw e (omega arith); some_rows = rw e (omega arith); boxed = rw e refl }
+          | inl e ↦ record {
+            square = sym h.0;
+            some = omega arith;
+            few = omega arith;
+            room =
+                (rw (sym h.0, e) (omega arith));
+            some_cols = rw e (omega arith);
+            some_rows = rw e (omega arith);
+            boxed =
+                rw e refl;
+          }
           | inr o ↦ elim o [
-            | inl e ↦ record { square = sym h.0; some = omega arith; few = omega arith; room = (rw (sym h.0, e) (omega arith)); some_cols = rw e (omega arith); some_rows = rw e (omega arith); boxed = rw e refl }
-            | inr e ↦ record { square = sym h.0; some = omega arith; few = omega arith; room = (rw (sym h.0, e) (omega arith)); some_cols = rw e (omega arith); some_rows = rw e (omega arith); boxed = rw e refl }
+            | inl e ↦ record {
+              square = sym h.0;
+              some = omega arith;
+              few = omega arith;
+              room =
+                  (rw (sym h.0, e) (omega arith));
+              some_cols = rw e (omega arith);
+              some_rows = rw e (omega arith);
+              boxed =
+                  rw e refl;
+            }
+            | inr e ↦ record {
+              square = sym h.0;
+              some = omega arith;
+              few = omega arith;
+              room =
+                  (rw (sym h.0, e) (omega arith));
+              some_cols = rw e (omega arith);
+              some_rows = rw e (omega arith);
+              boxed =
+                  rw e refl;
+            }
           ]
         ]
       ]
@@ -61,7 +111,8 @@ module _ (size : Size) (s : IsSquare size) where
     within = λ u k hu hk. omega (arith, area, mul-add-lt k size.cols u size.cols hk hu);
     there = λ u k hu hk. mod-mul-add k size.cols u hu;
     apart = λ u j k hu lt hk e.
-        let same : j ≡ k = sym (div-mul-add j size.cols u hu) ∙ ap (λ x. x / size.cols) e ∙ div-mul-add k size.cols u hu in omega arith;
+        let same : j ≡ k = sym (div-mul-add j size.cols u hu) ∙ ap (λ x. x / size.cols) e
+        ∙ div-mul-add k size.cols u hu in omega arith;
   }
 
 -- h, w: the height and the width of a box. u: a box. k: a cell of it
@@ -73,7 +124,12 @@ module _ (h w n : ℕ) (some_h : 0 < h) (some_w : 0 < w) (boxed : h * w ≡ n) (
   over k = u % h * w + k % w
 
   pub over_small : (k : ℕ) → u % h * w + k % w < n
-  over_small k = omega (arith, mul-add-lt (u % h) w (k % w) h (mod_below u h some_h) (mod_below k w some_w), mul_comm h w)
+  over_small k = omega (
+    arith,
+    mul-add-lt (u % h) w (k % w) h (mod_below u h some_h) (mod_below k w some_w),
+    mul_comm h
+        w,
+  )
 
   pub down_small : (k : ℕ) → k < n → u / h * h + k / w < n
   down_small k hk =
@@ -93,7 +149,8 @@ module _ (h w n : ℕ) (some_h : 0 < h) (some_w : 0 < w) (boxed : h * w ≡ n) (
   pub over_is : (k : ℕ) → ((u / h * h + k / w) * n + (u % h * w + k % w)) % n ≡ u % h * w + k % w
   over_is k = mod-mul-add (u / h * h + k / w) n (u % h * w + k % w) (over_small k)
 
-  pub same_cell : (j k : ℕ) → (u / h * h + j / w) * n + (u % h * w + j % w) ≡ (u / h * h + k / w) * n + (u % h * w + k % w) → j ≡ k
+  pub same_cell : (j k : ℕ) → (u / h * h + j / w) * n + (u % h * w + j % w) ≡ (u / h * h + k / w) * n +
+      (u % h * w + k % w) → j ≡ k
   same_cell j k e =
       let downs : u / h * h + j / w ≡ u / h * h + k / w = sym (down_is j) ∙ ap (λ x. x / n) e ∙ down_is k in
       let overs : u % h * w + j % w ≡ u % h * w + k % w = sym (over_is j) ∙ ap (λ x. x % n) e ∙ over_is k in
@@ -103,7 +160,8 @@ module _ (h w n : ℕ) (some_h : 0 < h) (some_w : 0 < w) (boxed : h * w ≡ n) (
 
 -- the cell number k of a box
 abbrev pub box_cell : Size → ℕ → ℕ → ℕ
-box_cell size u k = (u / box_rows size * box_rows size + k / box_cols size) * size.cols + (u % box_rows size * box_cols size + k % box_cols size)
+box_cell size u k = (u / box_rows size * box_rows size + k / box_cols size) * size.cols +
+    (u % box_rows size * box_cols size + k % box_cols size)
 
 pub box_unit : (size : Size) → IsSquare size → IsUnit size (box size) (box_cell size)
 box_unit size s = record {
@@ -113,26 +171,46 @@ box_unit size s = record {
       let area : cells size ≡ size.cols * size.cols = ap (λ n. n * size.cols) s.square in
       let row_small : row size cell < size.cols = div_below cell size.cols size.cols s.some (omega (arith, area)) in
       let col_small : col size cell < size.cols = mod_below cell size.cols s.some in
-      let across : row size cell / h < w = div_below (row size cell) h w s.some_rows (omega (arith, s.boxed, mul_comm h w)) in
+      let across : row size cell / h < w = div_below (row size cell) h w s.some_rows
+      (omega (arith, s.boxed, mul_comm h w)) in
       let inside : col size cell / w < h = div_below (col size cell) w h s.some_cols (omega (arith, s.boxed)) in
-      omega (arith, mul-add-lt (row size cell / h) h (col size cell / w) w across inside, s.boxed, mul_comm h (row size cell / h));
+      omega (
+        arith,
+        mul-add-lt (row size cell / h) h (col size cell / w) w across inside,
+        s.boxed,
+        mul_comm h
+            (row size cell / h),
+      );
   within = λ u k hu hk.
       let area : cells size ≡ size.cols * size.cols = ap (λ n. n * size.cols) s.square in
       let r = down_small (box_rows size) (box_cols size) size.cols s.some_rows s.some_cols s.boxed u hu k hk in
       let c = over_small (box_rows size) (box_cols size) size.cols s.some_rows s.some_cols s.boxed u hu k in
-      omega (arith, area, mul-add-lt (u / box_rows size * box_rows size + k / box_cols size) size.cols (u % box_rows size * box_cols size + k % box_cols size) size.cols r c);
+      omega (
+        arith,
+        area,
+        mul-add-lt (u / box_rows size * box_rows size + k / box_cols size) size.cols
+            (u % box_rows size * box_cols size + k % box_cols size) size.cols r c,
+      );
   there = λ u k hu hk.
       let h = box_rows size in
       let w = box_cols size in
-      let down_e : row size (box_cell size u k) / h ≡ u / h = ap (λ x. x / h) (down_is h w size.cols s.some_rows s.some_cols s.boxed u hu k) ∙ down_part h w size.cols s.some_rows s.some_cols s.boxed u hu k hk in
-      let over_e : col size (box_cell size u k) / w ≡ u % h = ap (λ x. x / w) (over_is h w size.cols s.some_rows s.some_cols s.boxed u hu k) ∙ over_part h w size.cols s.some_rows s.some_cols s.boxed u hu k in
-      ap (λ x. h * x + col size (box_cell size u k) / w) down_e ∙ ap (λ x. h * (u / h) + x) over_e ∙ ap (λ x. x + u % h) (mul_comm h (u / h)) ∙ div-add-mod' u h;
+      let down_e : row size (box_cell size u k) / h ≡ u / h = ap (λ x. x / h)
+      (down_is h w size.cols s.some_rows s.some_cols s.boxed u hu k)
+      ∙ down_part h w size.cols s.some_rows s.some_cols s.boxed u hu k hk in
+      let over_e : col size (box_cell size u k) / w ≡ u % h = ap (λ x. x / w)
+      (over_is h w size.cols s.some_rows s.some_cols s.boxed u hu k)
+      ∙ over_part h w size.cols s.some_rows s.some_cols s.boxed u hu k in
+      ap (λ x. h * x + col size (box_cell size u k) / w) down_e ∙ ap (λ x. h * (u / h) + x) over_e
+      ∙ ap (λ x. x + u % h) (mul_comm h (u / h)) ∙ div-add-mod' u h;
   apart = λ u j k hu lt hk e.
-      let same : j ≡ k = same_cell (box_rows size) (box_cols size) size.cols s.some_rows s.some_cols s.boxed u hu j k e in
+      let same : j ≡ k = same_cell (box_rows size) (box_cols size) size.cols s.some_rows s.some_cols s.boxed u hu j k
+      e in
       omega arith;
 }
 
-pub unit_small : (unit : Unit) (size : Size) → HasSize Sudoku size → (cell : ℕ) → cell < cells size → unit_of unit size cell < 25
+pub unit_small : (unit : Unit) (size : Size) → HasSize Sudoku size → (cell : ℕ) → cell < cells size
+    → unit_of unit size cell < 25
 unit_small units.Row size h cell lt = let s = square_of size h in omega (arith, (row_unit size s).small cell lt, s.few)
-unit_small units.Column size h cell lt = let s = square_of size h in omega (arith, (column_unit size s).small cell lt, s.few)
+unit_small units.Column size h cell lt = let s = square_of size h in omega
+    (arith, (column_unit size s).small cell lt, s.few)
 unit_small units.Box size h cell lt = let s = square_of size h in omega (arith, (box_unit size s).small cell lt, s.few)

@@ -16,8 +16,7 @@ pub(crate) struct Parts<'a> {
     pub(crate) second: &'a [u8],
     pub(crate) ghost first_size: { length first.now ≡ cells units.now },
     pub(crate) ghost second_size: { length second.now ≡ cells units.now },
-    pub(crate) ghost first_small:
-        { (cell : ℕ) → cell < length first.now → slice_index first.now cell < units.now.cols },
+    pub(crate) ghost first_small: { (c : ℕ) → c < length first.now → slice_index first.now c < units.now.cols },
     pub(crate) ghost second_small: { (cell : ℕ) → cell < length second.now
         → slice_index second.now cell < units.now.cols },
 }

@@ -13,13 +13,14 @@ use Rattle.sqlite.specs.declared.error.ErrorCode.TheVariants as code
 use Rattle.hall_sql.specs.declared.open.OpenFault.{OpenFault}
 use Rattle.hall_sql.specs.declared.open.OpenFault.TheVariants as database
 use Rattle.hall_store.specs.declared.fault.StoreFault.TheVariants as store
-use Rattle.hall_tool.specs.Advice.{AreFaultsTold, IsErrorText, IsFaultText, code_lines, database_lines, fault_lines, list_lines, open_lines}
+use Rattle.hall_tool.specs.Advice.{AreFaultsTold, IsErrorText, IsFaultText, code_lines, database_lines, fault_lines}
+use Rattle.hall_tool.specs.Advice.{list_lines, open_lines}
 use Rattle.hall_tool.specs.declared.fault.CommandFault.{CommandFault}
 use Rattle.hall_tool.specs.declared.fault.CommandFault.TheVariants as command
 use Rattle.hall_tool.specs.declared.fault.ToolFault.TheVariants as tool
 use Rattle.hall_tool.specs.declared.advice.TheConstants.{NO_MEMORY, NO_DEVICE, NO_STORE, NO_LIST, NO_FILE, IN_USE}
-use Rattle.hall_tool.specs.declared.advice.TheConstants.{NO_DATABASE, OLD, OTHER_TABLES, FULL, UNREADABLE}
-use Rattle.hall_tool.specs.declared.advice.TheConstants.{NO_PORT, NO_CLIENT}
+use Rattle.hall_tool.specs.declared.advice.TheConstants.{NO_DATABASE, OLD, OTHER_TABLES, FULL, UNREADABLE, NO_PORT}
+use Rattle.hall_tool.specs.declared.advice.TheConstants.{NO_CLIENT}
 use Rattle.hall_tool.specs.declared.program.TheConstants.{NO_TEXT}
 
 -- the text after its first line, less the byte at its end
@@ -37,10 +38,16 @@ lacks c (b ∷ bs) e zero small same =
 lacks c (b ∷ bs) e (suc k) small same =
     lacks c bs (both (not (b == c)) (list_all (λ b. not (b == c)) bs) e).1 k (omega arith) same
 
-is_told : (text : List ℕ) → text ≡ codes "fault\n" ++ (line_in text ++ codes "\n") → (length (line_in text) == 0) ≡ false
+is_told : (text : List ℕ) → text ≡ codes "fault\n" ++ (line_in text ++ codes "\n")
+    → (length (line_in text) == 0) ≡ false
     → list_all (λ b. not (b == 10)) (line_in text) ≡ true → IsFaultText text
-is_told text whole some one =
-    (line_in text, whole, (λ none. true≢false (sym (ap (λ line. length line == 0) none) ∙ some)), lacks 10 (line_in text) one)
+is_told text whole some one = (
+  line_in text,
+  whole,
+  (λ none. true≢false (sym (ap (λ line. length line == 0) none) ∙ some)),
+  lacks 10
+      (line_in text) one,
+)
 
 no_text_told : IsErrorText NO_TEXT.now
 no_text_told =

@@ -1,6 +1,6 @@
 -- Lines that a check adds to a text, and a world that isn't broken.
-use Rattle.std.proofs.Common.{◌≡◌, ◌∙◌, refl, sym, ap, ◌+◌, ◌<◌, ℕ, Bool, true, false, true≢false, not}
-use Rattle.std.proofs.Common.{List, [], ◌∷◌, ◌++◌, length, take, get_or, flat_map, codes}
+use Rattle.std.proofs.Common.{◌≡◌, ◌∙◌, refl, sym, ap, ◌+◌, ◌<◌, ℕ, Bool, true, false, true≢false, not, List, [], ◌∷◌}
+use Rattle.std.proofs.Common.{◌++◌, length, take, get_or, flat_map, codes}
 use Rattle.std.specs.Prelude.{◌||◌, ◌↔◌, IsTrue, Option, Some, None, decimal}
 use Rattle.std.specs.List.{list_any}
 use Rattle.std.proofs.lemmas.Grind.{flat_map-append}
@@ -38,7 +38,8 @@ neither : (p q : Bool) → (p || q) ≡ false → (p ≡ false) × (q ≡ false)
 neither true q e = absurd (true≢false e)
 neither false q e = (refl, e)
 
-each_unbroken : (told : List Breaches) → list_any is_found told ≡ false → EveryRow (λ found. found.first.items ≡ []) told
+each_unbroken : (told : List Breaches) → list_any is_found told ≡ false
+    → EveryRow (λ found. found.first.items ≡ []) told
 each_unbroken told none found (k, few, at) = found_none found.first.items (go (is_found found) refl)
   where
     go : (test : Bool) → is_found found ≡ test → is_found found ≡ false

@@ -1,5 +1,6 @@
 -- What is written of a check, from what each step of it tells.
-use Rattle.std.proofs.Common.{◌≡◌, ◌⊎◌, ◌∙◌, ℕ, List, false, true, Option, Result, Ok, Err, IfOk, IsTrue, inl, inr, sym, ap, subst, arith}
+use Rattle.std.proofs.Common.{◌≡◌, ◌⊎◌, ◌∙◌, ℕ, List, false, true, Option, Result, Ok, Err, IfOk, IsTrue, inl, inr, sym}
+use Rattle.std.proofs.Common.{ap, subst, arith}
 use Rattle.std.specs.Prelude.{IfErr, IsErrOf, string_bytes}
 use Rattle.sqlite_trees.specs.declared.memory.MemStore.{MemStore}
 use Rattle.sqlite.specs.Effect.{Database}
@@ -55,7 +56,8 @@ found_written Text contents old new Why (Err e) ended text cause why shown fault
 -- the world of the tables of the version before, which served, stayed
 same_world : (old mid : State) → KeptTablesIn old_schema old mid → HasCleanDisk mid → IsTrue mid.is_open
     → (old_content_of mid).world ≡ (old_content_of old).world
-same_world old mid rested clean opens = ap (λ (d : Database). without_testers (world_of d.trees)) (rested.same clean opens)
+same_world old mid rested clean opens = ap (λ (d : Database). without_testers (world_of d.trees))
+    (rested.same clean opens)
 
 -- so that the copy's world is theirs
 pub old_text : (budget : Option ℕ) (old mid new : State) (text : List ℕ) (status : ℕ)
@@ -63,19 +65,22 @@ pub old_text : (budget : Option ℕ) (old mid new : State) (text : List ℕ) (st
     → (HasCleanDisk mid → AreAllRead old_schema old.now.trees)
     → CopyText budget mid new text status → OldText budget old new text status
 old_text budget old mid new text status first second serves whole (checked, told, line, ends) =
-    let before : HasCleanDisk new → HasCleanDisk mid = λ (clean : HasCleanDisk new). let was : HasCleanDisk mid = omega (arith, second.follows.lasts.clean, clean) in was in
+    let before : HasCleanDisk new → HasCleanDisk mid = λ (clean : HasCleanDisk new). let was : HasCleanDisk mid = omega
+    (arith, second.follows.lasts.clean, clean) in was in
     inr (
       λ clean. whole (before clean),
       (
         checked,
-        λ clean. subst (λ world. IsChecked world budget checked) (same_world old mid first (before clean) (serves (before clean))) (told clean),
+        λ clean. subst (λ world. IsChecked world budget checked)
+            (same_world old mid first (before clean) (serves (before clean))) (told clean),
         line,
         ends,
       ),
     )
 
 -- the world that was checked in memory is the one that was copied
-pub copy_text : (budget : Option ℕ) (source left : State) (empty filled last : Held MemStore) (count : ℕ) (text : List ℕ) (status : ℕ)
+pub copy_text : (budget : Option ℕ) (source left : State) (empty filled last : Held MemStore) (count : ℕ)
+    (text : List ℕ) (status : ℕ)
     → Migrates source left (state over_memory empty) (state over_memory filled) (Ok (Done count))
     → Kept (content_of (state over_memory filled)) (content_of (state over_memory last))
     → WorldText budget (content_of (state over_memory last)) text status → CopyText budget source left text status
@@ -92,9 +97,11 @@ copy_text budget source left empty filled last count text status migrates kept (
 -- ---- why nothing was found
 
 -- the store failed where that is what is told
-pub store_failed : {R : Type 0} (fault : StoreFault) (e : ToolFault) → ((fault ≡ store.Memory) × (e ≡ Memory)) ⊎ ((fault ≡ store.Failed) × (e ≡ Store))
+pub store_failed : {R : Type 0} (fault : StoreFault) (e : ToolFault) → ((fault ≡ store.Memory) × (e ≡ Memory))
+    ⊎ ((fault ≡ store.Failed) × (e ≡ Store))
     → IsErrOf {T = R} (Err e) Store → fault ≡ store.Failed
-store_failed fault e (inl memory) is = absurd (let same : e ≡ Store = cc in let no : Memory ≡ Store = sym memory.1 ∙ same in cc)
+store_failed fault e (inl memory) is = absurd (let same : e ≡ Store = cc in let no : Memory ≡ Store = sym memory.1
+    ∙ same in cc)
 store_failed fault e (inr failed) is = failed.0
 
 -- over memory the store is no cause
@@ -107,44 +114,55 @@ no_cause old new (inr shut) = let no : false ≡ true = sym shut ∙ (memory_ser
 keeps_none : (held : Held MemStore) → CanFail (state over_memory held) → KeepsNoWorld (state over_memory held).now.trees
 keeps_none held can = go (can (memory_serves held).0)
   where
-    go : HasReason (λ db. KeepsNoWorld db.trees) (state over_memory held) → KeepsNoWorld (state over_memory held).now.trees
+    go : HasReason (λ db. KeepsNoWorld db.trees) (state over_memory held)
+        → KeepsNoWorld (state over_memory held).now.trees
     go (inl counted) = absurd (omega (arith, counted))
     go (inr (inl shut)) = absurd (let no : false ≡ true = sym shut ∙ (memory_serves held).1 in cc)
     go (inr (inr none)) = none
 
 -- the tables that were to take the rows had none
-pub bare_like : (held : Held MemStore) → IsBareDatabase hall_schema (state over_memory held).now → IsBareLike hall_schema (state over_memory held).now
-bare_like held bare = record { is = subst (λ s. IsLike hall_schema s) (sym bare.is) (like_itself hall_schema); empty = bare.empty }
+pub bare_like : (held : Held MemStore) → IsBareDatabase hall_schema (state over_memory held).now
+    → IsBareLike hall_schema (state over_memory held).now
+bare_like held bare = record {
+  is = subst (λ s. IsLike hall_schema s) (sym bare.is) (like_itself hall_schema);
+  empty =
+      bare.empty;
+}
 
-module _ (source left : State) (empty : Held MemStore) (bare : IsBareDatabase hall_schema (state over_memory empty).now) where
-  -- the copy was not made
-  pub copy_refused : (after : Held MemStore) (fault : StoreFault)
-      → Migrates source left (state over_memory empty) (state over_memory after) (Err fault) → fault ≡ store.Failed → CopyFails source left
-  copy_refused after fault migrates failed clean = go (migrates.cause clean (memory_serves after).0 failed)
-    where
-      go : MigrateFails source left (state over_memory empty) (state over_memory after)
-          → TablesFail old_schema source left ⊎ (CannotCopy (old_content_of source).world ⊎ IsCopyUnread source)
-      go (inl unread) = inl unread
-      go (inr (rows, own, inl (inl cause))) = absurd (no_cause empty after cause)
-      go (inr (rows, own, inl (inr unread))) = absurd (unread (bare_read (state over_memory empty).now (bare_like empty bare)))
-      go (inr (rows, own, inr (like, cannot))) = inr (inl (rows, own, (state over_memory empty).now, like, cannot))
+module _ (source left : State) (empty : Held MemStore) (bare : IsBareDatabase hall_schema (state over_memory empty).now)
+  where
+    -- the copy was not made
+    pub copy_refused : (after : Held MemStore) (fault : StoreFault)
+        → Migrates source left (state over_memory empty) (state over_memory after) (Err fault) → fault ≡ store.Failed
+        → CopyFails source left
+    copy_refused after fault migrates failed clean = go (migrates.cause clean (memory_serves after).0 failed)
+      where
+        go : MigrateFails source left (state over_memory empty) (state over_memory after)
+            → TablesFail old_schema source left ⊎ (CannotCopy (old_content_of source).world ⊎ IsCopyUnread source)
+        go (inl unread) = inl unread
+        go (inr (rows, own, inl (inl cause))) = absurd (no_cause empty after cause)
+        go (inr (rows, own, inl (inr unread))) = absurd (unread
+            (bare_read (state over_memory empty).now (bare_like empty bare)))
+        go (inr (rows, own, inr (like, cannot))) = inr (inl (rows, own, (state over_memory empty).now, like, cannot))
 
-  -- it can't be held up by what the tables in memory held before, which was nothing
-  pub never_occupied : (after : Held MemStore) → (content_of (state over_memory empty)).world ≡ empty_world
-      → Migrates source left (state over_memory empty) (state over_memory after) (Ok Occupied) → CopyFails source left
-  never_occupied after none migrates clean = absurd ((migrates.taken clean (memory_serves after).0).some none)
+    -- it can't be held up by what the tables in memory held before, which was nothing
+    pub never_occupied : (after : Held MemStore) → (content_of (state over_memory empty)).world ≡ empty_world
+        → Migrates source left (state over_memory empty) (state over_memory after) (Ok Occupied) → CopyFails source left
+    never_occupied after none migrates clean = absurd ((migrates.taken clean (memory_serves after).0).some none)
 
-  -- or it was made, and was not read
-  pub copy_unread : (filled last : Held MemStore) (count : ℕ)
-      → Migrates source left (state over_memory empty) (state over_memory filled) (Ok (Done count))
-      → Kept (content_of (state over_memory filled)) (content_of (state over_memory last)) → CanFail (state over_memory last) → CopyFails source left
-  copy_unread filled last count migrates kept can clean =
-      let now = memory_serves last in
-      let before = memory_serves filled in
-      inr (inr (last, kept.world now.0 now.1 ∙ (migrates.taken clean before.0).held, keeps_none last can))
+    -- or it was made, and was not read
+    pub copy_unread : (filled last : Held MemStore) (count : ℕ)
+        → Migrates source left (state over_memory empty) (state over_memory filled) (Ok (Done count))
+        → Kept (content_of (state over_memory filled)) (content_of (state over_memory last))
+        → CanFail (state over_memory last) → CopyFails source left
+    copy_unread filled last count migrates kept can clean =
+        let now = memory_serves last in
+        let before = memory_serves filled in
+        inr (inr (last, kept.world now.0 now.1 ∙ (migrates.taken clean before.0).held, keeps_none last can))
 
 -- after each row was found to be a record
-pub old_fails : (old mid new : State) → KeptTablesIn old_schema old mid → KeptTablesIn old_schema mid new → (HasCleanDisk mid → IsTrue mid.is_open)
+pub old_fails : (old mid new : State) → KeptTablesIn old_schema old mid → KeptTablesIn old_schema mid new
+    → (HasCleanDisk mid → IsTrue mid.is_open)
     → (HasCleanDisk mid → AreAllRead old_schema old.now.trees) → CopyFails mid new → OldFails old new
 old_fails old mid new first second serves whole fails clean =
     let was : HasCleanDisk mid = omega (arith, second.follows.lasts.clean, clean) in
@@ -153,7 +171,8 @@ old_fails old mid new first second serves whole fails clean =
     elim (fails clean) [
       | inl unread ↦ inl (elim unread [
         | inl cause ↦ cause_over old mid new first.follows.lasts was second.follows.lasts cause
-        | inr some ↦ absurd (some (subst (λ (d : Database). AreAllRead old_schema d.trees) (sym (first.same was opens)) (whole was)))
+        | inr some ↦ absurd (some (subst (λ (d : Database). AreAllRead old_schema d.trees) (sym (first.same was opens))
+            (whole was)))
       ])
       | inr copy ↦ inr (elim copy [
         | inl cannot ↦ inl (subst CannotCopy world cannot)

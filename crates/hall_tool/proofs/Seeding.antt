@@ -27,7 +27,8 @@ denied_20 given rule (inl (count, added)) denied = absurd cc
 denied_20 given rule (inr is) denied = is
 
 -- what the desk answered came of the list
-pub seeded_is : (list : List ℕ) (old new : Content) (given : Reply) (seeded : Seeded) → IsToldBy given seeded → IsListAnswered list old new given
+pub seeded_is : (list : List ℕ) (old new : Content) (given : Reply) (seeded : Seeded) → IsToldBy given seeded
+    → IsListAnswered list old new given
     → IsSeedReply given → (given ≡ reply.Denied 20 → new.writes ≤ old.writes) → IsSeeded list old new seeded
 seeded_is list old new given (Refused refusal) is answered known quiet = absurd is
 seeded_is list old new given (Denied rule) is answered known quiet =

@@ -22,13 +22,16 @@ abbrev asked : List ℕ → Request
 asked round = record { key = None; action = Table round }
 
 -- what is planned changes nothing
-of_plan : (world : World) (round : List ℕ) (plan : Plan) → IsPlanFor world 0 (asked round) plan → IsTableReply world round (planned_reply plan)
+of_plan : (world : World) (round : List ℕ) (plan : Plan) → IsPlanFor world 0 (asked round) plan
+    → IsTableReply world round (planned_reply plan)
 of_plan world round plan is = (
   is.answered.0,
-  subst (λ change. IsAnswered world (record { moment = 0; request = asked round; found = is.answered.0 }) (planned_reply plan) (changed change world)) (is.quiet (inr tt)) is.answered.1,
+  subst (λ change. IsAnswered world (record { moment = 0; request = asked round; found = is.answered.0 })
+      (planned_reply plan) (changed change world)) (is.quiet (inr tt)) is.answered.1,
 )
 
-pub table_told : (new : Content) (round : List ℕ) (plan : Plan) (t : ℕ) → t ≡ 0 → Planned {E = StoreFault} new t (asked round) (Ok plan)
+pub table_told : (new : Content) (round : List ℕ) (plan : Plan) (t : ℕ) → t ≡ 0
+    → Planned {E = StoreFault} new t (asked round) (Ok plan)
     → IsTableOver new round (planned_reply plan)
 table_told new round plan t none planned =
     elim (subst (λ n. Planned {E = StoreFault} new n (asked round) (Ok plan)) none planned) [

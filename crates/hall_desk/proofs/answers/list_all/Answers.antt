@@ -8,7 +8,8 @@ use Rattle.hall_desk.proofs.answers.list_all.Goals as goal
 pub returns-clause-served : goal.returns-clause-served
 returns-clause-served g c = λ h.
     let it = c.in_ok-feed_answers.ensures in
-    let fed = fed_now IsLineAdded (λ world rows. IsListing world (is_in c.args.round.now) rows) (g.S.ReadStore.content c.args.store.now)
+    let fed = fed_now IsLineAdded (λ world rows. IsListing world (is_in c.args.round.now) rows)
+    (g.S.ReadStore.content c.args.store.now)
     (g.S.ReadStore.content c.feed_answers.new.self) _ _ it.kept it.fed h in
     let rows = fed.1.0 in (
       fed.0,

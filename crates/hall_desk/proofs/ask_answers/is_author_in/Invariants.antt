@@ -6,4 +6,5 @@ use Rattle.hall_desk.proofs.ask_answers.is_author_in.Given as goal
 
 -- none of the places so far is of a puzzle by the author, in the round
 abbrev pub invariant-loop-place : goal.invariant-loop-place
-invariant-loop-place l = (i : ℕ) (place : PlaceKey × Entry) → i < l.place-index → slice_get l.whole.places.items i ≡ Some place → ¬ (IsBy l.author l.round place)
+invariant-loop-place l = (i : ℕ) (place : PlaceKey × Entry) → i < l.place-index
+    → slice_get l.whole.places.items i ≡ Some place → ¬ (IsBy l.author l.round place)

@@ -10,4 +10,5 @@ returns-in-Some c = λ ordered.
     let name = c.args.name.now in
     let round = c.args.round.now in
     subst (λ b. IsTrue b ↔ MayTakePart (world_of_whole whole) name round) (sym c.is_free.ensures)
-    (takes_part whole ordered name round c.in-Some.person.now c.is_author_in.result c.is_tester.result (sym c.in-Some.ensures) c.is_author_in.ensures c.is_tester.ensures)
+    (takes_part whole ordered name round c.in-Some.person.now c.is_author_in.result c.is_tester.result
+    (sym c.in-Some.ensures) c.is_author_in.ensures c.is_tester.ensures)

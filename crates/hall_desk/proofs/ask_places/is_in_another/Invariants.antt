@@ -7,4 +7,5 @@ use Rattle.hall_desk.proofs.ask_places.is_in_another.Given as goal
 
 -- none of the places so far is of the same puzzle in another released round
 abbrev pub invariant-loop-other : goal.invariant-loop-other
-invariant-loop-other l = (i : ℕ) (other : PlaceKey × Entry) → i < l.other-index → slice_get l.whole.places.items i ≡ Some other → ¬ (IsElsewhere (world_of_whole l.whole) l.place other)
+invariant-loop-other l = (i : ℕ) (other : PlaceKey × Entry) → i < l.other-index
+    → slice_get l.whole.places.items i ≡ Some other → ¬ (IsElsewhere (world_of_whole l.whole) l.place other)

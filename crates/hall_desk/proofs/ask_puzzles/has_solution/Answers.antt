@@ -9,6 +9,7 @@ pub returns-in_ok-broken-in-One : goal.returns-in_ok-broken-in-One
 returns-in_ok-broken-in-One c =
     let puzzle = c.args.puzzle.now in
     let broken = c.in_ok-broken-in-One.broken in
-    let judged : Verdict puzzle c.in-One.text broken = subst (λ text. Verdict puzzle text broken) (c.as_bytes.ensures.value ∙ c.as_str.ensures.text) c.in_ok-broken-in-One.ensures in
+    let judged : Verdict puzzle c.in-One.text broken = subst (λ text. Verdict puzzle text broken)
+    (c.as_bytes.ensures.value ∙ c.as_str.ensures.text) c.in_ok-broken-in-One.ensures in
     subst (λ (state : PuzzleState). IsTrue c.is_empty.result ↔ HasSolution puzzle state) (sym c.in-One.is)
     (solution_told puzzle c.in-One.text broken c.is_empty.result judged c.is_empty.ensures)

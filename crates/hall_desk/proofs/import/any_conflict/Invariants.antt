@@ -12,5 +12,6 @@ invariant-loop-person g l =
     record {
       kept : Kept old new;
       opened : new.honest → old.serves → new.serves;
-      none : new.honest → new.serves → (i : ℕ) (person : Person) → i < l.person-index → slice_get l.people i ≡ Some person → ¬ (Conflicts new.world person);
+      none : new.honest → new.serves → (i : ℕ) (person : Person) → i < l.person-index
+          → slice_get l.people i ≡ Some person → ¬ (Conflicts new.world person);
     }

@@ -18,8 +18,10 @@ returns-in-Some-clause-served g c =
       (
           let holder = (read.served h).1 in
           let there : get world.people known.name ≡ Some known =
-          subst (λ (found : Option Person). IfSome found (λ p. get world.people p.name ≡ Some p)) c.in-Some.is holder.there in
-          let own = find-Contains (λ (p : Person). same_text p.key person.key) (values world.people) known (sym holder.found ∙ c.in-Some.is) in (
+          subst (λ (found : Option Person). IfSome found (λ p. get world.people p.name ≡ Some p)) c.in-Some.is
+          holder.there in
+          let own = find-Contains (λ (p : Person). same_text p.key person.key) (values world.people) known
+          (sym holder.found ∙ c.in-Some.is) in (
             (λ differs. (
               known.name,
               known,
@@ -28,9 +30,11 @@ returns-in-Some-clause-served g c =
               (text_decides known.key person.key).0 own.2,
             )),
             (λ other.
-                let both : Some known ≡ Some other.1 = sym c.in-Some.is ∙ holder.alone other.0 other.1 other.2 other.4 in
+                let both : Some known ≡ Some other.1 = sym c.in-Some.is
+                ∙ holder.alone other.0 other.1 other.2 other.4 in
                 let one : known ≡ other.1 = cc in
-                let named : known.name ≡ other.0 = ap (λ (p : Person). p.name) one ∙ holder.own other.0 other.1 other.2 other.4 in
+                let named : known.name ≡ other.0 = ap (λ (p : Person). p.name) one
+                ∙ holder.own other.0 other.1 other.2 other.4 in
                 ap not (not_true c.is_same.result (λ same. other.3 (sym named ∙ c.is_same.ensures.0 same)))),
           )),
     )

@@ -17,6 +17,7 @@ returns-in-Some-clause-served g c =
             (λ other.
                 let both : Some other.0 ≡ Some known = sym other.1 ∙ at in
                 let one : other.0 ≡ known = cc in
-                c.differs.ensures.1 (subst (λ (p : Person). (p.key ≢ person.key) ⊎ (p.roles ≢ person.roles)) one other.2)),
+                c.differs.ensures.1 (subst (λ (p : Person). (p.key ≢ person.key) ⊎ (p.roles ≢ person.roles)) one
+                other.2)),
           )),
     )

@@ -14,7 +14,11 @@ filter_all p passes (x ∷ xs) = rw (passes x) (ap (λ rest. x ∷ rest) (filter
 pub returns-then-get-clause-served : goal.returns-then-get-clause-served
 returns-then-get-clause-served g c =
     let person = c.args.person.now in
-    let director : person.roles.director ≡ true = sym (ap (λ (r : Roles). r.director) c.get.ensures.value) ∙ c.if-get.true in
-    served_turn c.all_puzzles.result (λ world rows. rows.items ≡ values world.puzzles) (λ world rows. rows.items ≡ filter (sees_puzzle person) (values world.puzzles)) (g.S.ReadStore.content c.all_puzzles.new.self)
-    (λ rows same. same ∙ sym (filter_all (sees_puzzle person) (λ row. rw director refl) (values (g.S.ReadStore.content c.all_puzzles.new.self).world.puzzles)))
+    let director : person.roles.director ≡ true = sym (ap (λ (r : Roles). r.director) c.get.ensures.value)
+    ∙ c.if-get.true in
+    served_turn c.all_puzzles.result (λ world rows. rows.items ≡ values world.puzzles)
+    (λ world rows. rows.items ≡ filter (sees_puzzle person) (values world.puzzles))
+    (g.S.ReadStore.content c.all_puzzles.new.self)
+    (λ rows same. same ∙ sym (filter_all (sees_puzzle person) (λ row. rw director refl)
+    (values (g.S.ReadStore.content c.all_puzzles.new.self).world.puzzles)))
     c.all_puzzles.ensures.served

@@ -5,4 +5,5 @@ use Rattle.hall_desk.proofs.planning.caller_rule.Goals as goal
 
 pub returns-in-Some-Deny-clause-some : goal.returns-in-Some-Deny-clause-some
 returns-in-Some-Deny-clause-some c =
-    subst (λ (decision : Decision). IsDecidedUpTo 3 c.args.facts.now c.args.action.now c.args.t decision) c.in-Some-Deny.field-0-is c.in-Some-Deny.ensures.some
+    subst (λ (decision : Decision). IsDecidedUpTo 3 c.args.facts.now c.args.action.now c.args.t decision)
+    c.in-Some-Deny.field-0-is c.in-Some-Deny.ensures.some

@@ -17,14 +17,17 @@ returns-clause-planned c = λ world.
     let facts = c.args.facts.now in
     let request = c.args.asked.now.request.now in
     subst (λ (plan : Plan). IsPlanFor world c.args.asked.now.t request plan) (sym c.of.ensures)
-    (planned facts world c.args.asked.now.t request (Deny c.in-Some.rule) (reply.Denied c.in-Some.rule) change.Nothing None
+    (planned facts world c.args.asked.now.t request (Deny c.in-Some.rule) (reply.Denied c.in-Some.rule) change.Nothing
+    None
     (record {
       found = c.requires.caller ∙ sym (ap (caller_of world) c.requires.key);
       there = subst (λ (who : Option Person). IsThere world who) (sym c.requires.caller) tt;
     })
-    (c.in-Some.ensures.some world (caller_told facts world request.action)) state.GaveUp (refl, refl) tt (λ _. refl) (λ allowed. absurd (cc)))
+    (c.in-Some.ensures.some world (caller_told facts world request.action)) state.GaveUp (refl, refl) tt (λ _. refl)
+    (λ allowed. absurd (cc)))
 
 pub unreachable-requires : goal.unreachable-requires
 unreachable-requires c =
-    let table = table_without_caller c.args.facts.now c.args.asked.now.request.now.action c.args.asked.now.t c.in-None.ensures.none c.requires.caller in
+    let table = table_without_caller c.args.facts.now c.args.asked.now.request.now.action c.args.asked.now.t
+    c.in-None.ensures.none c.requires.caller in
     c.requires.action table.0 table.1

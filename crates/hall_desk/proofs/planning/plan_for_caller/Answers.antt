@@ -16,6 +16,8 @@ returns-in-Some-clause-told g c =
     let world = (g.S.ReadStore.content c.args.store.now).world in (
       (λ h s. s),
       (λ h s. subst (λ (plan : Plan). IsPlanFor world c.args.asked.now.t request plan) (sym c.of.ensures)
-          (planned facts world c.args.asked.now.t request (Deny c.in-Some.rule) (reply.Denied c.in-Some.rule) change.Nothing None (c.requires.caller h s)
-          (c.in-Some.ensures.some world (caller_told facts world request.action)) state.GaveUp (refl, refl) tt (λ _. refl) (λ allowed. absurd (cc)))),
+          (planned facts world c.args.asked.now.t request (Deny c.in-Some.rule) (reply.Denied c.in-Some.rule)
+          change.Nothing None (c.requires.caller h s)
+          (c.in-Some.ensures.some world (caller_told facts world request.action)) state.GaveUp (refl, refl) tt
+          (λ _. refl) (λ allowed. absurd (cc)))),
     )

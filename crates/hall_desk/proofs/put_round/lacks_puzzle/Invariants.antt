@@ -12,5 +12,6 @@ invariant-loop-entry g l =
     record {
       kept : Kept old new;
       opened : new.honest → old.serves → new.serves;
-      none : new.honest → new.serves → (i : ℕ) (entry : Entry) → i < l.entry-index → slice_get l.entries i ≡ Some entry → ¬ (get new.world.puzzles entry.puzzle ≡ None);
+      none : new.honest → new.serves → (i : ℕ) (entry : Entry) → i < l.entry-index → slice_get l.entries i ≡ Some entry
+          → ¬ (get new.world.puzzles entry.puzzle ≡ None);
     }

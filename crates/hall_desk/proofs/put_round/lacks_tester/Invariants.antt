@@ -12,5 +12,6 @@ invariant-loop-name g l =
     record {
       kept : Kept old new;
       opened : new.honest → old.serves → new.serves;
-      able : new.honest → new.serves → (i : ℕ) (name : List ℕ) → i < l.name-index → slice_get l.names i ≡ Some name → may_test (get new.world.people name) ≡ true;
+      able : new.honest → new.serves → (i : ℕ) (name : List ℕ) → i < l.name-index → slice_get l.names i ≡ Some name
+          → may_test (get new.world.people name) ≡ true;
     }

@@ -4,7 +4,8 @@ use Rattle.hall_desk.proofs.ranges.read_answers.Goals as goal
 
 pub loop-row-preserved : goal.loop-row-preserved
 loop-row-preserved c =
-    each_step (IsAnswerRow) c.args.rows.now c.loop-row.row-index c.row-item.result c.loop-row.invariant c.row-item.is c.read_answer.ensures
+    each_step (IsAnswerRow) c.args.rows.now c.loop-row.row-index c.row-item.result c.loop-row.invariant c.row-item.is
+    c.read_answer.ensures
 
 pub returns : goal.returns
 returns c =

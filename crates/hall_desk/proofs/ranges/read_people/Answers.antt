@@ -4,7 +4,8 @@ use Rattle.hall_desk.proofs.ranges.read_people.Goals as goal
 
 pub loop-person-preserved : goal.loop-person-preserved
 loop-person-preserved c =
-    each_step (IsPerson) c.args.people.now c.loop-person.person-index c.person-item.result c.loop-person.invariant c.person-item.is c.in_range.ensures
+    each_step (IsPerson) c.args.people.now c.loop-person.person-index c.person-item.result c.loop-person.invariant
+    c.person-item.is c.in_range.ensures
 
 pub returns : goal.returns
 returns c =

@@ -5,4 +5,5 @@ use Rattle.hall_desk.proofs.ranges.read_people.Given as goal
 
 -- so far each lies in its range
 abbrev pub invariant-loop-person : goal.invariant-loop-person
-invariant-loop-person l = (i : ℕ) (person : Person) → i < l.person-index → slice_get l.people i ≡ Some person → IsPerson person
+invariant-loop-person l = (i : ℕ) (person : Person) → i < l.person-index → slice_get l.people i ≡ Some person
+    → IsPerson person

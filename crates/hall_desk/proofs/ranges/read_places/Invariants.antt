@@ -6,4 +6,5 @@ use Rattle.hall_desk.proofs.ranges.read_places.Given as goal
 
 -- so far each lies in its range
 abbrev pub invariant-loop-place : goal.invariant-loop-place
-invariant-loop-place l = (i : ℕ) (place : PlaceKey × Entry) → i < l.place-index → slice_get l.places i ≡ Some place → IsEntry place.1
+invariant-loop-place l = (i : ℕ) (place : PlaceKey × Entry) → i < l.place-index → slice_get l.places i ≡ Some place
+    → IsEntry place.1

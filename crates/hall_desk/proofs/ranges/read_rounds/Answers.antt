@@ -4,7 +4,8 @@ use Rattle.hall_desk.proofs.ranges.read_rounds.Goals as goal
 
 pub loop-round-preserved : goal.loop-round-preserved
 loop-round-preserved c =
-    each_step (IsRound) c.args.rounds.now c.loop-round.round-index c.round-item.result c.loop-round.invariant c.round-item.is c.read_round.ensures
+    each_step (IsRound) c.args.rounds.now c.loop-round.round-index c.round-item.result c.loop-round.invariant
+    c.round-item.is c.read_round.ensures
 
 pub returns : goal.returns
 returns c =

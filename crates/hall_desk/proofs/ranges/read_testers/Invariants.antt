@@ -5,4 +5,5 @@ use Rattle.hall_desk.proofs.ranges.read_testers.Given as goal
 
 -- so far each lies in its range
 abbrev pub invariant-loop-tester : goal.invariant-loop-tester
-invariant-loop-tester l = (i : ℕ) (tester : TesterKey × Unit {0}) → i < l.tester-index → slice_get l.testers i ≡ Some tester → IsName tester.0.name
+invariant-loop-tester l = (i : ℕ) (tester : TesterKey × Unit {0}) → i < l.tester-index
+    → slice_get l.testers i ≡ Some tester → IsName tester.0.name

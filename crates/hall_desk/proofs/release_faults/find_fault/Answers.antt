@@ -18,12 +18,16 @@ returns-in-Some-clause-told g c =
     let row = c.in-Some.row in
     let fault = c.args.fault in
     told_turn c.any_faulty.result
-    (λ world found. IsTrue found ↔ ((entry : Entry) × Contains c.as_slice.result.now entry × HasFault fault world id entry))
+    (λ world found. IsTrue found ↔ ((entry : Entry) × Contains c.as_slice.result.now entry
+    × HasFault fault world id entry))
     (λ world found. IsTrue found ↔ HasFaultyEntry fault world id) old new
     (λ found h s told.
-    let kept : IsRoundKept new.world id c.args.round.now = carried (λ w. IsRoundKept w id c.args.round.now) old new c.any_faulty.ensures.kept c.requires h s in
-    let at : IsRoundAt new.world id row = subst (λ (o : Option RoundRow). IsRoundFound new.world (Some id) o) c.in-Some.is kept.row in
-    through (subst (λ (entries : List Entry). IsTrue found ↔ ((entry : Entry) × Contains entries entry × HasFault fault new.world id entry)) c.as_slice.ensures.value told)
+    let kept : IsRoundKept new.world id c.args.round.now = carried (λ w. IsRoundKept w id c.args.round.now) old new
+    c.any_faulty.ensures.kept c.requires h s in
+    let at : IsRoundAt new.world id row = subst (λ (o : Option RoundRow). IsRoundFound new.world (Some id) o)
+    c.in-Some.is kept.row in
+    through (subst (λ (entries : List Entry). IsTrue found ↔
+    ((entry : Entry) × Contains entries entry × HasFault fault new.world id entry)) c.as_slice.ensures.value told)
     (faulty_listed fault new.world id row at))
     c.any_faulty.ensures.told
 

@@ -14,11 +14,13 @@ returns-clause-told g c =
     let key = c.args.key.now in
     let id = c.args.id.now in
     told_through c.any_released.result
-    (λ world found. IsTrue found ↔ ((other : List ℕ) × Contains c.as_slice.result.now other × IsReleasedRound world other))
+    (λ world found. IsTrue found ↔ ((other : List ℕ) × Contains c.as_slice.result.now other
+    × IsReleasedRound world other))
     (λ world found. IsTrue found ↔ ((other : List ℕ) × (other ≢ id) × StandsReleased world key other))
     (g.S.ReadStore.content c.args.store.now) asked new c.any_released.ensures.kept (λ h s. (read.served h).0)
     (λ found h s told.
     through told (others_using new.world key id c.in_ok-others.others.items c.as_slice.result.now
-    (carried (λ w. AreUsing w key c.in_ok-others.others.items) asked new c.any_released.ensures.kept (λ h0 s0. (read.served h0).1) h s)
+    (carried (λ w. AreUsing w key c.in_ok-others.others.items) asked new c.any_released.ensures.kept
+    (λ h0 s0. (read.served h0).1) h s)
     (c.as_slice.ensures.value ∙ c.leave_out.ensures)))
     c.any_released.ensures.told

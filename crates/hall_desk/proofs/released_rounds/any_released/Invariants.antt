@@ -11,5 +11,6 @@ invariant-loop-id g l =
     record {
       kept : Kept old new;
       opened : new.honest → old.serves → new.serves;
-      none : new.honest → new.serves → (i : ℕ) (id : List ℕ) → i < l.id-index → slice_get l.ids i ≡ Some id → ¬ (IsReleasedRound new.world id);
+      none : new.honest → new.serves → (i : ℕ) (id : List ℕ) → i < l.id-index → slice_get l.ids i ≡ Some id
+          → ¬ (IsReleasedRound new.world id);
     }

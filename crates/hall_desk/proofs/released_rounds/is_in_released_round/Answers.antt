@@ -19,5 +19,6 @@ returns-clause-told g c =
     (λ found h s told.
     through told (released_using new.world key c.as_slice.result.now
     (subst (AreUsing new.world key) (sym c.as_slice.ensures.value)
-    (carried (λ w. AreUsing w key c.in_ok-ids.ids.items) asked new c.any_released.ensures.kept (λ h0 s0. (read.served h0).1) h s))))
+    (carried (λ w. AreUsing w key c.in_ok-ids.ids.items) asked new c.any_released.ensures.kept
+    (λ h0 s0. (read.served h0).1) h s))))
     c.any_released.ensures.told

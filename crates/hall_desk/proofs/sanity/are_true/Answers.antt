@@ -5,7 +5,8 @@ use Rattle.hall_desk.proofs.sanity.are_true.Goals as goal
 
 pub loop-found-preserved : goal.loop-found-preserved
 loop-found-preserved c =
-    each_step (λ (found : Breaches). found.first.items ≡ []) c.args.told.now c.loop-found.found-index c.found-item.result c.loop-found.invariant c.found-item.is (c.is_unbroken.ensures.0 c.if-not-is_unbroken.false)
+    each_step (λ (found : Breaches). found.first.items ≡ []) c.args.told.now c.loop-found.found-index
+    c.found-item.result c.loop-found.invariant c.found-item.is (c.is_unbroken.ensures.0 c.if-not-is_unbroken.false)
 
 pub returns-then-not-is_unbroken : goal.returns-then-not-is_unbroken
 returns-then-not-is_unbroken c = (
@@ -18,6 +19,7 @@ returns-then-not-is_unbroken c = (
 
 pub returns : goal.returns
 returns c = (
-  (λ _. each_done (λ (found : Breaches). found.first.items ≡ []) c.args.told.now c.loop-found.found-index c.loop-found.invariant c.loop-found-test.false),
+  (λ _. each_done (λ (found : Breaches). found.first.items ≡ []) c.args.told.now c.loop-found.found-index
+      c.loop-found.invariant c.loop-found-test.false),
   (λ _. refl),
 )

@@ -4,4 +4,5 @@ use Rattle.hall_desk.proofs.sanity.are_true.Given as goal
 
 -- so far none was found false
 abbrev pub invariant-loop-found : goal.invariant-loop-found
-invariant-loop-found l = (i : ℕ) (found : Breaches) → i < l.found-index → slice_get l.told i ≡ Some found → found.first.items ≡ []
+invariant-loop-found l = (i : ℕ) (found : Breaches) → i < l.found-index → slice_get l.told i ≡ Some found
+    → found.first.items ≡ []

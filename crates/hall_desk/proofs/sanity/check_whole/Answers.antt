@@ -20,6 +20,8 @@ returns c = λ ordered.
       protests = c.len-5.ensures ∙ whole.protests.ok.0 ∙ ap length (sym ordered.protests);
       told = c.in_ok-told.ensures ordered;
       states = asked;
-      but_states = λ none true_states. sane whole c.in_ok-told.told.items (c.in_ok-told.ensures ordered) none true_states c.in_range.ensures;
-      sane = λ nothing. sane whole c.in_ok-told.told.items (c.in_ok-told.ensures ordered) nothing.0 (states_true c.args.budget (values world.puzzles) c.in_ok-states.states asked nothing.1) c.in_range.ensures;
+      but_states = λ none true_states. sane whole c.in_ok-told.told.items (c.in_ok-told.ensures ordered) none
+          true_states c.in_range.ensures;
+      sane = λ nothing. sane whole c.in_ok-told.told.items (c.in_ok-told.ensures ordered) nothing.0
+          (states_true c.args.budget (values world.puzzles) c.in_ok-states.states asked nothing.1) c.in_range.ensures;
     }

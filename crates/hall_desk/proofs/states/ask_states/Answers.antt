@@ -9,8 +9,11 @@ loop-row-preserved c =
     let rows = c.args.rows.now in
     let i = c.loop-row.row-index in
     let row = c.row-item.result in
-    let more : take (i + 1) rows ≡ take i rows ++ row ∷ [] = take_more rows i row c.loop-row-test.true ∙ ap (λ x. take i rows ++ x ∷ []) (sym c.row-item.is) in
+    let more : take (i + 1) rows ≡ take i rows ++ row ∷ [] = take_more rows i row c.loop-row-test.true
+    ∙ ap (λ x. take i rows ++ x ∷ []) (sym c.row-item.is) in
     record {
       few = omega (arith, c.in_ok-tell_state.ensures.few, c.loop-row.invariant.few);
-      told = subst (λ xs. AreStatesTold c.args.budget xs c.tell_state.new.states) (sym more) (told_one c.args.budget (take i rows) row c.loop-row.states c.tell_state.new.states c.in_ok-tell_state.ensures.told c.loop-row.invariant.told);
+      told = subst (λ xs. AreStatesTold c.args.budget xs c.tell_state.new.states) (sym more)
+          (told_one c.args.budget (take i rows) row c.loop-row.states c.tell_state.new.states
+          c.in_ok-tell_state.ensures.told c.loop-row.invariant.told);
     }

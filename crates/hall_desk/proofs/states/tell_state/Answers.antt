@@ -7,4 +7,9 @@ use Rattle.hall_desk.proofs.states.tell_state.Goals as goal
 pub returns-in-False-clause-told : goal.returns-in-False-clause-told
 returns-in-False-clause-told c =
     let row = c.args.row.now in
-    on_ok_weaker c.note.result (λ noted. inr (inl (subst (λ (judged : Judged). IsJudgedSo row.puzzle c.args.budget row.state judged) c.in-False.is c.in_ok-judge_state.ensures, refl, noted))) c.note.ensures
+    on_ok_weaker c.note.result (λ noted. inr (inl (
+      subst (λ (judged : Judged). IsJudgedSo row.puzzle c.args.budget
+          row.state judged) c.in-False.is c.in_ok-judge_state.ensures,
+      refl,
+      noted,
+    ))) c.note.ensures

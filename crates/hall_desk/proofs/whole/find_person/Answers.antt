@@ -12,5 +12,7 @@ pub returns : goal.returns
 returns c =
     let name = c.args.name.now in
     let scan : option_copied c.find.result ≡ find (λ (row : Person). same_text row.name name) c.args.people.now =
-    find_from_yields_List (λ (row : Person). same_text row.name name) _ _ c.find.result c.find.ensures.ran (YieldsList-from_slice c.args.people.now cc) (λ x b q k. search (rules, tests)) in
-    scan ∙ scan_get text_total same_texts (λ (row : Person). row.name) (λ (row : Person). same_text row.name name) name (λ row. text_decides row.name name) c.args.people.now
+    find_from_yields_List (λ (row : Person). same_text row.name name) _ _ c.find.result c.find.ensures.ran
+    (YieldsList-from_slice c.args.people.now cc) (λ x b q k. search (rules, tests)) in
+    scan ∙ scan_get text_total same_texts (λ (row : Person). row.name) (λ (row : Person). same_text row.name name) name
+    (λ row. text_decides row.name name) c.args.people.now

@@ -9,4 +9,6 @@ use Rattle.hall_desk.proofs.whole.find_place.Goals as goal
 
 pub returns : goal.returns
 returns c =
-    find_from_yields_List (λ (row : PlaceKey × Entry). same_text row.0.round c.args.round.now && (row.0.number == c.args.number)) _ _ c.find.result c.find.ensures.ran (YieldsList-from_slice c.args.places.now cc) (λ x b q k. search (rules, tests))
+    find_from_yields_List (λ (row : PlaceKey × Entry). same_text row.0.round c.args.round.now &&
+    (row.0.number == c.args.number)) _ _ c.find.result c.find.ensures.ran
+    (YieldsList-from_slice c.args.places.now cc) (λ x b q k. search (rules, tests))

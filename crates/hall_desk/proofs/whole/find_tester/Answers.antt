@@ -9,4 +9,6 @@ use Rattle.hall_desk.proofs.whole.find_tester.Goals as goal
 
 pub returns : goal.returns
 returns c =
-    find_from_yields_List (λ (row : TesterKey × Unit {0}). same_text row.0.round c.args.round.now && same_text row.0.name c.args.name.now) _ _ c.find.result c.find.ensures.ran (YieldsList-from_slice c.args.testers.now cc) (λ x b q k. search (rules, tests))
+    find_from_yields_List (λ (row : TesterKey × Unit {0}). same_text row.0.round c.args.round.now && same_text
+    row.0.name c.args.name.now) _ _ c.find.result c.find.ensures.ran (YieldsList-from_slice c.args.testers.now cc)
+    (λ x b q k. search (rules, tests))

@@ -10,5 +10,7 @@ pub returns : goal.returns
 returns c =
     let key : TesterKey = record { round = c.args.round.now; name = c.args.name.now } in
     let at = ap (option_map (λ (e : TesterKey × Unit {0}). e.1)) c.find_tester.ensures
-    ∙ scan_entries tester_total same_tester_keys (λ (e : TesterKey × Unit {0}). same_text e.0.round key.round && same_text e.0.name key.name) key (λ e. tester_decides e.0 key) c.args.testers.now in
-    some_copied (λ found. found.now) (λ (e : TesterKey × Unit {0}). e.1) c.find_tester.result c.is_some.result _ c.is_some.ensures at
+    ∙ scan_entries tester_total same_tester_keys (λ (e : TesterKey × Unit {0}). same_text e.0.round key.round &&
+    same_text e.0.name key.name) key (λ e. tester_decides e.0 key) c.args.testers.now in
+    some_copied (λ found. found.now) (λ (e : TesterKey × Unit {0}). e.1) c.find_tester.result c.is_some.result _
+    c.is_some.ensures at

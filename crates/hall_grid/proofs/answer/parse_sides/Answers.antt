@@ -3,7 +3,8 @@ use Rattle.std.proofs.lemmas.List.{take_all, length-drop}
 use Rattle.hall_grid.specs.Slither.{flat_sides, all_sides}
 use Rattle.hall_grid.proofs.Values.{sides_parts, sides_answer}
 use Rattle.hall_grid.proofs.answer.parse_sides.Goals as goal
-use Rattle.hall_grid.proofs.answer.parse_sides.Goals.{then-text-all_sides-via-then-text-all_sides, then-text-all_sides-via-else-text-all_sides+then-text-flat-ne47}
+use Rattle.hall_grid.proofs.answer.parse_sides.Goals.{then-text-all_sides-via-then-text-all_sides}
+use Rattle.hall_grid.proofs.answer.parse_sides.Goals.{then-text-all_sides-via-else-text-all_sides+then-text-flat-ne47}
 
 -- what is behind a place, as a slice to the end
 rest_of : (n : ℕ) (text : List ℕ) → take (length text - n) (drop n text) ≡ drop n text

@@ -2,7 +2,8 @@ use Rattle.std.proofs.Common.{◌≡◌, true, false, sym, subst, arith}
 use Rattle.hall_grid.specs.Component.{IsLabelled}
 use Rattle.hall_grid.proofs.Labelling.{Labels-one, Labels-none, if_none, if_some}
 use Rattle.hall_grid.proofs.graph.label_node.Goals as goal
-use Rattle.hall_grid.proofs.graph.label_node.Goals.{else-is_none-via-then-is_none+else-is_member, else-is_none-via-else-is_none}
+use Rattle.hall_grid.proofs.graph.label_node.Goals.{else-is_none-via-then-is_none+else-is_member}
+use Rattle.hall_grid.proofs.graph.label_node.Goals.{else-is_none-via-else-is_none}
 
 pub returns-in_ok-push : goal.returns-in_ok-push
 returns-in_ok-push g c =

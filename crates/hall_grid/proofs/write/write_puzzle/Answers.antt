@@ -58,13 +58,17 @@ pub returns-in_err-text-clause-only : goal.returns-in_err-text-clause-only
 returns-in_err-text-clause-only c = IfOk-from_err c.from_residual.result _ c.from_residual.ensures.0
 
 pub returns-in_err-push_body-clause-canonical : goal.returns-in_err-push_body-clause-canonical
-returns-in_err-push_body-clause-canonical c = IfOk-from_err c.from_residual-in_err-push_body.result _ c.from_residual-in_err-push_body.ensures.0
+returns-in_err-push_body-clause-canonical c = IfOk-from_err c.from_residual-in_err-push_body.result _
+    c.from_residual-in_err-push_body.ensures.0
 
 pub returns-in_err-push_body-clause-reads_back : goal.returns-in_err-push_body-clause-reads_back
-returns-in_err-push_body-clause-reads_back c = IfOk-from_err c.from_residual-in_err-push_body.result _ c.from_residual-in_err-push_body.ensures.0
+returns-in_err-push_body-clause-reads_back c = IfOk-from_err c.from_residual-in_err-push_body.result _
+    c.from_residual-in_err-push_body.ensures.0
 
 pub returns-in_err-push_body-clause-printable : goal.returns-in_err-push_body-clause-printable
-returns-in_err-push_body-clause-printable c = IfOk-from_err c.from_residual-in_err-push_body.result _ c.from_residual-in_err-push_body.ensures.0
+returns-in_err-push_body-clause-printable c = IfOk-from_err c.from_residual-in_err-push_body.result _
+    c.from_residual-in_err-push_body.ensures.0
 
 pub returns-in_err-push_body-clause-only : goal.returns-in_err-push_body-clause-only
-returns-in_err-push_body-clause-only c = IfOk-from_err c.from_residual-in_err-push_body.result _ c.from_residual-in_err-push_body.ensures.0
+returns-in_err-push_body-clause-only c = IfOk-from_err c.from_residual-in_err-push_body.result _
+    c.from_residual-in_err-push_body.ensures.0

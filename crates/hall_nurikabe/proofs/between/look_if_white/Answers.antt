@@ -13,8 +13,10 @@ use Rattle.hall_nurikabe.proofs.between.look_if_white.Goals as goal
 pub returns-clause-kept : goal.returns-clause-kept
 returns-clause-kept c =
     restored c.args.partial.now c.set.new.self c.undo_to.new.self c.mark-mark.result
-    (Grows-set c.args.partial.now c.set.new.self c.args.cell 0 c.requires.cell.1 c.set.ensures.places c.set.ensures.trail)
-    c.mark-mark.ensures.mark c.undo_to.ensures.undone c.mark-mark.ensures.trailed c.undo_to.ensures.before c.undo_to.ensures.trailed
+    (Grows-set c.args.partial.now c.set.new.self c.args.cell 0 c.requires.cell.1 c.set.ensures.places
+    c.set.ensures.trail)
+    c.mark-mark.ensures.mark c.undo_to.ensures.undone c.mark-mark.ensures.trailed c.undo_to.ensures.before
+    c.undo_to.ensures.trailed
 
 pub returns-clause-dead : goal.returns-clause-dead
 returns-clause-dead c =

@@ -5,7 +5,9 @@ pub owners-requires-clause-labels : goal.owners-requires-clause-labels
 owners-requires-clause-labels c = AreCells-from_regions _ c.args.position.now.puzzle.now.size _ _ c.requires.components
 
 pub count_exits-requires-clause-labels : goal.count_exits-requires-clause-labels
-count_exits-requires-clause-labels c = AreCells-from_regions _ c.args.position.now.puzzle.now.size _ _ c.requires.components
+count_exits-requires-clause-labels c = AreCells-from_regions _ c.args.position.now.puzzle.now.size _ _
+    c.requires.components
 
 pub most_known-requires-clause-labels : goal.most_known-requires-clause-labels
-most_known-requires-clause-labels c = AreCells-from_regions _ c.args.position.now.puzzle.now.size _ _ c.requires.components
+most_known-requires-clause-labels c = AreCells-from_regions _ c.args.position.now.puzzle.now.size _ _
+    c.requires.components

@@ -11,10 +11,13 @@ returns c = λ yes.
     let kept = c.keep_labels.new.labels in
     let whole : length kept ≡ labels.len = omega (arith, c.keep_labels.ensures.exact, c.deref_mut.ensures.len) in
     let back : c.deref-2.result.now ≡ kept =
-    c.deref-2.ensures.value ∙ take-append-le labels.len kept (drop (length kept) labels.items) (omega arith) ∙ take_all labels.len kept (omega arith) in
-    apart_hopeless c.args.position.now.puzzle.now c.args.position.now.kind c.args.position.now.partial.now.places c.args.position.now.fits
+    c.deref-2.ensures.value ∙ take-append-le labels.len kept (drop (length kept) labels.items) (omega arith)
+    ∙ take_all labels.len kept (omega arith) in
+    apart_hopeless c.args.position.now.puzzle.now c.args.position.now.kind c.args.position.now.partial.now.places
+    c.args.position.now.fits
     labels.items c.deref-2.result.now
-    (AreComponents-members _ _ _ _ _ c.in_ok-open.ensures.marked (rw (c.size.ensures.size, c.deref.ensures.value) at c.in_ok-labels.ensures))
+    (AreComponents-members _ _ _ _ _ c.in_ok-open.ensures.marked
+    (rw (c.size.ensures.size, c.deref.ensures.value) at c.in_ok-labels.ensures))
     (rw back (rw c.deref_mut.ensures.value at c.keep_labels.ensures)) (c.labels_differ.ensures.0 yes)
 
 pub returns-in_err-open : goal.returns-in_err-open

@@ -8,5 +8,6 @@ use Rattle.hall_nurikabe.proofs.exits.add_exit.Given as goal
 abbrev pub invariant-loop-place : goal.invariant-loop-place
 invariant-loop-place l = record {
   adds : AddsExit l.cell l.fn.exits l.exits;
-  beside : (other label : ℕ) → AmongFirst l.place-items l.place-index other → IsLabelled l.labels other label → Covers (get_or l.exits label Nowhere) l.cell;
+  beside : (other label : ℕ) → AmongFirst l.place-items l.place-index other → IsLabelled l.labels other label
+      → Covers (get_or l.exits label Nowhere) l.cell;
 }

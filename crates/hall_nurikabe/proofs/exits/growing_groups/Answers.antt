@@ -15,7 +15,8 @@ loop-label-preserved c =
         | inl k ↦ c.loop-label.invariant.marked label k
         | inr k ↦
             let same : c.loop-label.label ≡ label = let e = k.0 in omega arith in
-            subst (λ l. IsLabelled c.args.labels.now l l × NeedsMore c.args.puzzle.now (get_or c.args.owners.now l None) (get_or c.args.sizes.now l 0)) same
+            subst (λ l. IsLabelled c.args.labels.now l l × NeedsMore c.args.puzzle.now (get_or c.args.owners.now l None)
+            (get_or c.args.sizes.now l 0)) same
             (c.is_growing.ensures.label k.1, c.is_growing.ensures.more k.1)
       ];
     }

@@ -19,24 +19,31 @@ loop-step-preserved c =
     elim c.match-branch-2.branch [
       | in-Settled w ↦
           rw w.pass-is
-          (IsSoFar-settled q start before after c.requires.partial c.loop-step.pass c.loop-step.invariant c.follow_step.ensures.grows
-          (subst (λ (x : Pass). IsDeduced q before.places after.places x) w.in-Settled.is c.in_ok-follow_step.ensures.deduced))
+          (IsSoFar-settled q start before after c.requires.partial c.loop-step.pass c.loop-step.invariant
+          c.follow_step.ensures.grows
+          (subst (λ (x : Pass). IsDeduced q before.places after.places x) w.in-Settled.is
+          c.in_ok-follow_step.ensures.deduced))
       | in-Advanced w ↦
           rw w.pass-is
-          (IsSoFar-advanced q start before after c.requires.partial c.loop-step.pass c.loop-step.invariant c.follow_step.ensures.grows
-          (subst (λ (x : Pass). IsDeduced q before.places after.places x) w.in-Advanced.is c.in_ok-follow_step.ensures.deduced))
+          (IsSoFar-advanced q start before after c.requires.partial c.loop-step.pass c.loop-step.invariant
+          c.follow_step.ensures.grows
+          (subst (λ (x : Pass). IsDeduced q before.places after.places x) w.in-Advanced.is
+          c.in_ok-follow_step.ensures.deduced))
     ]
 
 pub returns-in_err-follow_step-clause-err : goal.returns-in_err-follow_step-clause-err
 returns-in_err-follow_step-clause-err c =
     on_err c.from_residual.result
-    (Narrows-twice (question_of Nurikabe c.args.puzzle.now) c.args.partial.now.places c.loop-step.partial.places c.follow_step.new.partial.places
+    (Narrows-twice (question_of Nurikabe c.args.puzzle.now) c.args.partial.now.places c.loop-step.partial.places
+    c.follow_step.new.partial.places
     c.loop-step.invariant.narrows c.in_err-follow_step.ensures.err)
 
 pub returns-in_err-follow_step-clause-grows : goal.returns-in_err-follow_step-clause-grows
 returns-in_err-follow_step-clause-grows c =
-    Grows-twice c.args.partial.now c.loop-step.partial c.follow_step.new.partial c.loop-step.invariant.grows c.follow_step.ensures.grows
+    Grows-twice c.args.partial.now c.loop-step.partial c.follow_step.new.partial c.loop-step.invariant.grows
+    c.follow_step.ensures.grows
 
 pub returns-in-Dead-clause-grows : goal.returns-in-Dead-clause-grows
 returns-in-Dead-clause-grows c =
-    Grows-twice c.args.partial.now c.loop-step.partial c.follow_step.new.partial c.loop-step.invariant.grows c.follow_step.ensures.grows
+    Grows-twice c.args.partial.now c.loop-step.partial c.follow_step.new.partial c.loop-step.invariant.grows
+    c.follow_step.ensures.grows

@@ -20,6 +20,7 @@ loop-side-preserved c =
           rw (w.partial-is, w.pass-is)
           (IsSoFar-set q start board w.set.new.self c.requires.partial c.loop-side.pass so_far
           w.in-Must.place w.in-Must.value
-          (rw c.look_at_exit.ensures.kept (subst (λ (x : Finding). IsSound q c.loop-side.partial.places x) w.in-Must.is c.in_ok-look_at_exit.ensures.sound))
+          (rw c.look_at_exit.ensures.kept (subst (λ (x : Finding). IsSound q c.loop-side.partial.places x) w.in-Must.is
+          c.in_ok-look_at_exit.ensures.sound))
           w.set.ensures.places w.set.ensures.trail)
     ]

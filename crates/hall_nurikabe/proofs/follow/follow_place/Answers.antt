@@ -15,7 +15,8 @@ loop-spot-preserved c =
       | in-Nothing w ↦ rw (w.partial-is, w.pass-is) c.loop-spot.invariant
       | in-Must w ↦
           rw (w.partial-is, w.pass-is)
-          (IsSoFar-set q c.args.partial.now board w.set.new.self c.requires.partial c.loop-spot.pass c.loop-spot.invariant
+          (IsSoFar-set q c.args.partial.now board w.set.new.self c.requires.partial c.loop-spot.pass
+          c.loop-spot.invariant
           w.in-Must.place w.in-Must.value
           (subst (λ (x : Finding). IsSound q board.places x) w.in-Must.is c.in_ok-look_round.ensures)
           w.set.ensures.places w.set.ensures.trail)

@@ -12,7 +12,8 @@ loop-cell-preserved c =
     elim c.if-is_number.branch [
       | then-is_number w ↦
           rw (w.partial-is, w.set.ensures.places)
-          (Begun-set c.args.puzzle.now c.loop-cell.partial.places c.loop-cell.cell c.clue.result c.clue.ensures (c.is_number.ensures.0 w.if-is_number.true)
+          (Begun-set c.args.puzzle.now c.loop-cell.partial.places c.loop-cell.cell c.clue.result c.clue.ensures
+          (c.is_number.ensures.0 w.if-is_number.true)
           (omega (arith, c.cells-cell-end.ensures.cells)) c.loop-cell.invariant)
       | else-is_number w ↦
           rw w.partial-is
@@ -32,8 +33,10 @@ returns-clause-givens c = is c
 
 pub returns-clause-partial : goal.returns-clause-partial
 returns-clause-partial c =
-    subst (IsPartial (question_of Nurikabe c.args.puzzle.now)) (sym (is c)) (IsPartial-start c.args.puzzle.now c.cells-cell-end.ensures.board.clues)
+    subst (IsPartial (question_of Nurikabe c.args.puzzle.now)) (sym (is c))
+    (IsPartial-start c.args.puzzle.now c.cells-cell-end.ensures.board.clues)
 
 pub returns-clause-solutions : goal.returns-clause-solutions
 returns-clause-solutions c =
-    subst (AllExtend Nurikabe c.args.puzzle.now) (sym (is c)) (AllExtend-start c.args.puzzle.now c.requires c.cells-cell-end.ensures.board.clues)
+    subst (AllExtend Nurikabe c.args.puzzle.now) (sym (is c))
+    (AllExtend-start c.args.puzzle.now c.requires c.cells-cell-end.ensures.board.clues)

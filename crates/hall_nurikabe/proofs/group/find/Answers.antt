@@ -15,10 +15,12 @@ loop-at-preserved c =
     let is : c.index-cell.result.now ≡ get_or c.loop-at.group.cells.items c.loop-at.at 0 =
     c.index-cell.ensures ∙ get_or_default c.loop-at.group.cells.items c.loop-at.at c.index-cell.result.now 0 low in
     Grouping-step c.args.position.now.puzzle.now.size c.args.position.now.partial.now.places c.args.value c.args.from
-    c.loop-at.group.places.items _ c.loop-at.group.cells.items _ c.loop-at.group.exits _ c.loop-at.at c.index-cell.result.now
+    c.loop-at.group.places.items _ c.loop-at.group.cells.items _ c.loop-at.group.exits _ c.loop-at.at
+    c.index-cell.result.now
     low is c.in_ok-see_round.ensures c.loop-at.invariant
 
 pub returns : goal.returns
 returns c =
     IsGroup-whole c.args.position.now.puzzle.now.size c.args.position.now.partial.now.places c.args.value c.args.from
-    c.loop-at.group.places.items c.loop-at.group.cells.items c.loop-at.group.exits c.loop-at.at (omega (arith, c.len.ensures)) c.loop-at.invariant
+    c.loop-at.group.places.items c.loop-at.group.cells.items c.loop-at.group.exits c.loop-at.at
+    (omega (arith, c.len.ensures)) c.loop-at.invariant

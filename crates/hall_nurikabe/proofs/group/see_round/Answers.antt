@@ -17,7 +17,8 @@ see-requires-clause-cell c =
 
 pub neighbours-place-items-requires-clause-board : goal.neighbours-place-items-requires-clause-board
 neighbours-place-items-requires-clause-board c =
-    subst (λ (s : Size). c.args.cell < cells s) (sym c.size.ensures.size) (c.requires.found.below c.args.cell c.requires.cell)
+    subst (λ (s : Size). c.args.cell < cells s) (sym c.size.ensures.size)
+    (c.requires.found.below c.args.cell c.requires.cell)
 
 pub see-requires-clause-near : goal.see-requires-clause-near
 see-requires-clause-near c =
@@ -53,5 +54,6 @@ returns c =
       adds = c.loop-place.invariant.adds;
       seen = λ x low t. c.loop-place.invariant.seen x low
           (subst (λ l. Contains l (Some x)) (sym all)
-          ((c.neighbours-place-items.ensures.touching x).1 (subst (λ (s : Size). (x < cells s) × Touch s c.args.cell x) (sym c.size.ensures.size) (low, t))));
+          ((c.neighbours-place-items.ensures.touching x).1 (subst (λ (s : Size). (x < cells s) × Touch s c.args.cell x)
+          (sym c.size.ensures.size) (low, t))));
     }

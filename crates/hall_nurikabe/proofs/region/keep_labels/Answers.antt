@@ -9,7 +9,11 @@ pub loop-place-preserved : goal.loop-place-preserved
 loop-place-preserved c =
     let p = c.args.partial.now.places in
     let place = c.loop-place.place in
-    let small : place < length c.loop-place.labels = omega (arith, c.loop-place-test.true, c.loop-place.invariant.exact) in
+    let small : place < length c.loop-place.labels = omega (
+      arith,
+      c.loop-place-test.true,
+      c.loop-place.invariant.exact,
+    ) in
     elim c.if-ne.branch [
       | then-ne w ↦
           rw w.labels-is

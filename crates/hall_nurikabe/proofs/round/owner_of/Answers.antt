@@ -6,12 +6,14 @@ use Rattle.std.proofs.lemmas.List.Elements.{Contains-get_or}
 use Rattle.hall_grid.specs.Nurikabe.{IsNumbered}
 use Rattle.hall_nurikabe.proofs.Marks.{numbered_clue}
 use Rattle.hall_nurikabe.proofs.round.owner_of.Goals as goal
-use Rattle.hall_nurikabe.proofs.round.owner_of.Goals.{then-is_number+in_default-2, then-is_number+in_default, else-is_number}
+use Rattle.hall_nurikabe.proofs.round.owner_of.Goals.{then-is_number+in_default-2, then-is_number+in_default}
+use Rattle.hall_nurikabe.proofs.round.owner_of.Goals.{else-is_number}
 
 pub clue-requires : goal.clue-requires
 clue-requires c =
     let list = c.args.members.now in
-    c.requires (get_or list c.loop-member.member-index 0) (Contains-get_or list c.loop-member.member-index 0 (omega arith))
+    c.requires (get_or list c.loop-member.member-index 0) (Contains-get_or list c.loop-member.member-index 0
+    (omega arith))
 
 pub returns-in-Some : goal.returns-in-Some
 returns-in-Some c =
@@ -41,7 +43,8 @@ loop-member-preserved c =
             owner = λ x e.
                 let both : Some cell ≡ Some x = e in
                 let same : cell ≡ x = cc in
-                subst (λ y. Contains list y × IsNumbered board y) same (listed, clue.0 (c.is_number.ensures.0 w.if-is_number.true));
+                subst (λ y. Contains list y × IsNumbered board y) same
+                (listed, clue.0 (c.is_number.ensures.0 w.if-is_number.true));
           })
       | then-is_number+in_default w ↦
           rw w.owner-is (record {
@@ -49,7 +52,8 @@ loop-member-preserved c =
             owner = λ x e.
                 let both : Some cell ≡ Some x = e in
                 let same : cell ≡ x = cc in
-                subst (λ y. Contains list y × IsNumbered board y) same (listed, clue.0 (c.is_number.ensures.0 w.if-is_number.true));
+                subst (λ y. Contains list y × IsNumbered board y) same
+                (listed, clue.0 (c.is_number.ensures.0 w.if-is_number.true));
           })
       | else-is_number w ↦
           rw w.owner-is (record {
@@ -70,7 +74,8 @@ returns-in-None c = λ cell h numbered.
     let list = c.args.members.now in
     let low = h.1 in
     let is : get_or list h.0 0 ≡ cell = get_or_default list h.0 0 cell low ∙ h.2 in
-    c.loop-member.invariant.nobody c.in-None.is h.0 (omega arith) (subst (λ y. IsNumbered c.args.puzzle.now y) (sym is) numbered)
+    c.loop-member.invariant.nobody c.in-None.is h.0 (omega arith)
+    (subst (λ y. IsNumbered c.args.puzzle.now y) (sym is) numbered)
 
 pub returns-in-Some-owner : goal.returns-in-Some-owner
 returns-in-Some-owner c = c.loop-member.invariant.owner c.in-Some-owner.cell c.in-Some-owner.is

@@ -7,5 +7,6 @@ use Rattle.hall_nurikabe.proofs.steps.raise_around.Given as goal
 abbrev pub invariant-loop-place : goal.invariant-loop-place
 invariant-loop-place l = record {
   raises : Raises l.reach l.fn.left l.left;
-  beside : (other : ℕ) → AmongFirst l.place-items l.place-index other → IsMarked l.marks other → l.reach ≤ get_or l.left other 0;
+  beside : (other : ℕ) → AmongFirst l.place-items l.place-index other → IsMarked l.marks other
+      → l.reach ≤ get_or l.left other 0;
 }

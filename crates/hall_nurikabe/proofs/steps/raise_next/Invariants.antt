@@ -9,5 +9,6 @@ invariant-loop-cell l = record {
   raises : Raises l.reach l.fn.left l.left;
   bound : l.most ≤ l.reach;
   none : (i : ℕ) → i < l.cell → get_or l.left i 0 ≤ l.reach → get_or l.left i 0 ≤ l.most;
-  done : (a b : ℕ) → a < l.cell → Touch l.size a b → IsMarked l.marks b → get_or l.left a 0 ≡ l.reach + 1 → l.reach ≤ get_or l.left b 0;
+  done : (a b : ℕ) → a < l.cell → Touch l.size a b → IsMarked l.marks b → get_or l.left a 0 ≡ l.reach + 1
+      → l.reach ≤ get_or l.left b 0;
 }

@@ -24,7 +24,8 @@ bounds c =
 pub most_cells-requires : goal.most_cells-requires
 most_cells-requires c =
     let has : get_or c.args.owners.now c.in-Some-labels.label None ≡ Some c.in-Some-owners.owner = search rules in
-    let low = labelled_below c.args.labels.now c.in-Some-owners.owner c.in-Some-labels.label (c.requires.owners.owner c.in-Some-labels.label c.in-Some-owners.owner has).1 in
+    let low = labelled_below c.args.labels.now c.in-Some-owners.owner c.in-Some-labels.label
+    (c.requires.owners.owner c.in-Some-labels.label c.in-Some-owners.owner has).1 in
     let whole = c.requires.exact in
     omega arith
 
@@ -34,9 +35,16 @@ returns-in-Some-owners c = λ left e.
     let label = c.in-Some-labels.label in
     let owner = c.in-Some-owners.owner in
     let touch : Touch c.size.result c.args.cell other =
-    ((c.neighbours-place-items.ensures.touching other).0 (place_in c.neighbours-place-items.result c.loop-place.place-index _ _ (omega arith) c.in-Some.is)).1 in
+    ((c.neighbours-place-items.ensures.touching other).0 (place_in c.neighbours-place-items.result
+    c.loop-place.place-index _ _ (omega arith) c.in-Some.is)).1 in
     let here = subst (λ (s : Size). Touch s c.args.cell other) c.size.ensures.size touch in
     let labelled : IsLabelled c.args.labels.now other label = search rules in
     let has : get_or c.args.owners.now label None ≡ Some owner = search rules in
-    let same : c.saturating_sub.result ≡ left = cc in
-    (label, owner, (other, here, labelled), has, λ n h. let enough = c.most_cells.ensures n h in let less = c.saturating_sub.ensures in omega arith)
+    let same : c.saturating_sub.result ≡ left = cc in (
+      label,
+      owner,
+      (other, here, labelled),
+      has,
+      λ n h. let enough = c.most_cells.ensures n h in let less =
+          c.saturating_sub.ensures in omega arith,
+    )

@@ -4,7 +4,8 @@ use Rattle.hall_nurikabe.proofs.steps.steps_left.Given as goal
 
 abbrev pub invariant-loop-reach : goal.invariant-loop-reach
 invariant-loop-reach l = record {
-  sources : AreSources l.position.puzzle.now l.position.partial.now.places l.labels l.sizes l.owners (IsMarked l.free.items) l.left.items;
+  sources : AreSources l.position.puzzle.now l.position.partial.now.places l.labels l.sizes l.owners
+      (IsMarked l.free.items) l.left.items;
   falls : FallsByOne l.position.puzzle.now.size (IsMarked l.free.items) l.left.items l.reach;
 }
 

@@ -9,7 +9,8 @@ use Rattle.hall_solve.specs.Trail.{Trailed, Grows}
 use Rattle.hall_solve.proofs.Trails.{Grows-set, Grows-twice}
 use Rattle.hall_nurikabe.proofs.trial.set_value.Goals as goal
 
-grown : (a s b : Trailed) (cell v : ℕ) → get_or a.places cell None ≡ None → s.places ≡ set a.places cell (Some v) → s.trail ≡ a.trail ++ cell ∷ []
+grown : (a s b : Trailed) (cell v : ℕ) → get_or a.places cell None ≡ None → s.places ≡ set a.places cell (Some v)
+    → s.trail ≡ a.trail ++ cell ∷ []
     → Grows s b → Grows a b
 grown a s b cell v unset places trail grows = Grows-twice a s b (Grows-set a s cell v unset places trail) grows
 
@@ -18,7 +19,8 @@ returns-in-Dead-clause-dead c = λ none.
     let q = question_of Nurikabe c.args.puzzle.now in
     let begun = c.set.new.self.places in
     let after = c.follow.new.partial.places in
-    let dead : IsDeduced q begun after Dead = subst (λ (x : Pass). IsDeduced q begun after x) c.in-Dead.is c.in_ok-follow.ensures.deduced in
+    let dead : IsDeduced q begun after Dead = subst (λ (x : Pass). IsDeduced q begun after x) c.in-Dead.is
+    c.in_ok-follow.ensures.deduced in
     subst (λ (p : List (Option ℕ)). IsHopeless q p) c.set.ensures.places dead
 
 pub returns-in-Dead-clause-grows : goal.returns-in-Dead-clause-grows

@@ -12,7 +12,8 @@ use Rattle.hall_nurikabe.proofs.Passes.{IsSoFar, IsSoFar-begin, IsSoFar-set, IsS
 use Rattle.hall_nurikabe.proofs.trial.settle_cell.Goals as goal
 use Rattle.hall_nurikabe.proofs.trial.settle_cell.Goals.{After-set}
 
-set_so_far : (c : After-set) → IsSoFar (question_of Nurikabe c.args.puzzle.now) c.args.partial.now c.set.new.self Advanced
+set_so_far : (c : After-set) → IsSoFar (question_of Nurikabe c.args.puzzle.now) c.args.partial.now c.set.new.self
+    Advanced
 set_so_far c =
     let q = question_of Nurikabe c.args.puzzle.now in
     let start = c.args.partial.now in
@@ -26,7 +27,8 @@ pub returns-in_err-follow_news-in-Must-clause-err : goal.returns-in_err-follow_n
 returns-in_err-follow_news-in-Must-clause-err c =
     let so_far = set_so_far (goal.at.returns-in_err-follow_news-in-Must-clause-err c).After-set in
     on_err c.from_residual-in_err-follow_news-in-Must.result
-    (Narrows-twice (question_of Nurikabe c.args.puzzle.now) c.args.partial.now.places c.set.new.self.places c.follow_news.new.partial.places
+    (Narrows-twice (question_of Nurikabe c.args.puzzle.now) c.args.partial.now.places c.set.new.self.places
+    c.follow_news.new.partial.places
     so_far.narrows c.in_err-follow_news-in-Must.ensures.err)
 
 pub returns-in_err-follow_news-in-Must-clause-grows : goal.returns-in_err-follow_news-in-Must-clause-grows

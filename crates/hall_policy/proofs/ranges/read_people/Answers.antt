@@ -9,5 +9,6 @@ loop-person-preserved c = λ k d less.
     let people = c.args.people.now in
     below_more (λ j. (e : Person) → IsPerson (slice_index_or people j e)) c.loop-person.person-index
     (λ j below e. c.loop-person.invariant j e below)
-    (at_read people IsPerson c.loop-person.person-index c.person-item.result (omega arith) c.person-item.is c.in_range.ensures)
+    (at_read people IsPerson c.loop-person.person-index c.person-item.result (omega arith) c.person-item.is
+    c.in_range.ensures)
     k less d

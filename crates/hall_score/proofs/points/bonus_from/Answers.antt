@@ -8,5 +8,6 @@ product_bound a b m n p q = omega (arith, unsigned_abs-mul a b, mul-le-mul p q)
 
 pub returns-clause-bound : goal.returns-clause-bound
 returns-clause-bound c =
-    let small = product_bound (to_z w64 c.get.result) (to_z w64 (of_z w64 c.minutes_left.result)) 1000 100000000 (omega (arith, ints)) (omega (arith, ints)) in
+    let small = product_bound (to_z w64 c.get.result) (to_z w64 (of_z w64 c.minutes_left.result)) 1000 100000000
+    (omega (arith, ints)) (omega (arith, ints)) in
     omega (arith, ints, small)

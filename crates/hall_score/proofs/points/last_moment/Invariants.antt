@@ -6,4 +6,5 @@ use Rattle.hall_score.proofs.points.last_moment.Given as goal
 -- the greatest moment of the answers so far that score
 abbrev pub invariant-loop-row : goal.invariant-loop-row
 invariant-loop-row l =
-    (l.last ≡ fold max 0 (map (λ row. row.moment) (filter (does_score l.round l.answers) (take l.row-index l.answers)))) × (l.last ≤ last_second)
+    (l.last ≡ fold max 0 (map (λ row. row.moment) (filter (does_score l.round l.answers) (take l.row-index l.answers))))
+    × (l.last ≤ last_second)

@@ -16,13 +16,17 @@ pub returns-in_err-rising-clause-sorted : goal.returns-in_err-rising-clause-sort
 returns-in_err-rising-clause-sorted c = IfOk-from_err c.from_residual.result _ c.from_residual.ensures.0
 
 pub returns-in_err-push-clause-moved : goal.returns-in_err-push-clause-moved
-returns-in_err-push-clause-moved c = IfOk-from_err c.from_residual-in_err-push.result _ c.from_residual-in_err-push.ensures.0
+returns-in_err-push-clause-moved c = IfOk-from_err c.from_residual-in_err-push.result _
+    c.from_residual-in_err-push.ensures.0
 
 pub returns-in_err-push-clause-sorted : goal.returns-in_err-push-clause-sorted
-returns-in_err-push-clause-sorted c = IfOk-from_err c.from_residual-in_err-push.result _ c.from_residual-in_err-push.ensures.0
+returns-in_err-push-clause-sorted c = IfOk-from_err c.from_residual-in_err-push.result _
+    c.from_residual-in_err-push.ensures.0
 
 pub returns-in_err-sort-clause-moved : goal.returns-in_err-sort-clause-moved
-returns-in_err-sort-clause-moved c = IfOk-from_err c.from_residual-in_err-sort.result _ c.from_residual-in_err-sort.ensures.0
+returns-in_err-sort-clause-moved c = IfOk-from_err c.from_residual-in_err-sort.result _
+    c.from_residual-in_err-sort.ensures.0
 
 pub returns-in_err-sort-clause-sorted : goal.returns-in_err-sort-clause-sorted
-returns-in_err-sort-clause-sorted c = IfOk-from_err c.from_residual-in_err-sort.result _ c.from_residual-in_err-sort.ensures.0
+returns-in_err-sort-clause-sorted c = IfOk-from_err c.from_residual-in_err-sort.result _
+    c.from_residual-in_err-sort.ensures.0

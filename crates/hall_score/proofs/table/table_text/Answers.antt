@@ -13,7 +13,9 @@ pub returns-in_err-standings : goal.returns-in_err-standings
 returns-in_err-standings c = IfOk-from_err c.from_residual.result _ c.from_residual.ensures.0
 
 pub returns-in_err-line_text : goal.returns-in_err-line_text
-returns-in_err-line_text c = IfOk-from_err c.from_residual-in_err-line_text.result _ c.from_residual-in_err-line_text.ensures.0
+returns-in_err-line_text c = IfOk-from_err c.from_residual-in_err-line_text.result _
+    c.from_residual-in_err-line_text.ensures.0
 
 pub returns-in_err-push_str : goal.returns-in_err-push_str
-returns-in_err-push_str c = IfOk-from_err c.from_residual-in_err-push_str.result _ c.from_residual-in_err-push_str.ensures.0
+returns-in_err-push_str c = IfOk-from_err c.from_residual-in_err-push_str.result _
+    c.from_residual-in_err-push_str.ensures.0

@@ -15,7 +15,8 @@ returns-in_err-roles-clause-value c =
 pub loop-word-preserved : goal.loop-word-preserved
 loop-word-preserved c =
     let h = c.in-Some.ensures.byte (omega arith) (λ w o f. f) in (
-      word_taken c.loop-word.roles c.in_ok-roles.roles c.loop-word.rest.now c.in-Some.word.now c.in-Some.more.now _ h.0 h.1 h.2
+      word_taken c.loop-word.roles c.in_ok-roles.roles c.loop-word.rest.now c.in-Some.word.now c.in-Some.more.now _ h.0
+          h.1 h.2
           (sym c.with_role.ensures.value ∙ c.in_ok-roles.was) c.loop-word.invariant.0,
       search rules,
     )

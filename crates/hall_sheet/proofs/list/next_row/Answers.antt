@@ -8,4 +8,5 @@ returns-in-Some-Ok-clause-ok c left h =
 
 pub returns-clause-ok : goal.returns-clause-ok
 returns-clause-ok c left h =
-    none_left c.args.rows.now c.next.new.self left h (rw c.in-None.is at ((c.next.ensures.steps h.turns h.trim).0 h.ready))
+    none_left c.args.rows.now c.next.new.self left h (rw c.in-None.is at
+    ((c.next.ensures.steps h.turns h.trim).0 h.ready))

@@ -9,7 +9,8 @@ use Rattle.hall_sheet.proofs.sheet.read_named_testers.Goals as goal
 abbrev texts_of : List (Bor (List ℕ)) → List (List ℕ)
 texts_of = map (λ t. t.now)
 
-few : (texts : List (Bor (List ℕ))) (n m : ℕ) → length texts ≡ n → m ≡ n → m ≤ most_testers → length (texts_of texts) ≤ most_testers
+few : (texts : List (Bor (List ℕ))) (n m : ℕ) → length texts ≡ n → m ≡ n → m ≤ most_testers
+    → length (texts_of texts) ≤ most_testers
 few texts n m long same most = omega (arith, length-map texts (λ t. t.now), long, same, most)
 
 pub returns-in-Some : goal.returns-in-Some

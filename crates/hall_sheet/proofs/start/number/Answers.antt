@@ -7,7 +7,12 @@ use Rattle.hall_sheet.proofs.start.number.Goals as goal
 pub overflow_mul-value : goal.overflow_mul-value
 overflow_mul-value c =
     let (value, digits) = c.loop-digit.invariant in
-    omega (arith, value, value_small c.args.digits.now c.loop-digit.digit-index digits c.loop-digit-test.true c.requires.few)
+    omega (
+      arith,
+      value,
+      value_small c.args.digits.now c.loop-digit.digit-index digits c.loop-digit-test.true
+          c.requires.few,
+    )
 
 pub overflow_add-value : goal.overflow_add-value
 overflow_add-value c =

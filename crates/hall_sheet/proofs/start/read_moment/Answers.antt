@@ -23,7 +23,8 @@ kept z = to_z w64 (of_z w64 z)
 pub returns : goal.returns
 returns c =
     let civil = c.in_ok-civil.civil in
-    let whole : c.to_second.result ≡ civil_seconds civil = c.to_second.ensures.value ∙ ap civil_seconds c.to_plain.ensures in
+    let whole : c.to_second.result ≡ civil_seconds civil = c.to_second.ensures.value
+    ∙ ap civil_seconds c.to_plain.ensures in
     let offset = c.in-Some-offset_seconds.offset in
     let seconds = kept (kept c.to_second.result -ℤ kept c.from.result) in
     let sum : seconds ≡ civil_seconds civil -ℤ offset = omega (arith, ints, whole, c.from.ensures) in

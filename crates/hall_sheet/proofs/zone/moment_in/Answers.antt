@@ -11,7 +11,8 @@ pub returns-in-Ok : goal.returns-in-Ok
 returns-in-Ok c =
     let fits : SFits w64 c.as_second.result = search rules in
     moment_is c.args.text.now (plain_zone c.in-Some.zone) c.args.civil c.in-Ok.instant.nanosecond _ c.in_range.result
-    c.requires.whole c.in-Some.ensures c.in-Ok.ensures.value (to_z-of_z w64 _ fits ∙ c.as_second.ensures) c.in_range.ensures
+    c.requires.whole c.in-Some.ensures c.in-Ok.ensures.value (to_z-of_z w64 _ fits ∙ c.as_second.ensures)
+    c.in_range.ensures
 
 pub returns-in-Err : goal.returns-in-Err
 returns-in-Err c =

@@ -18,13 +18,17 @@ loop-dot-preserved c =
       | in-Some w ↦
           let label = w.in-Some.label in
           let there = w.in-Some.ensures.some in
-          let room : label < length ends = (let exact = c.loop-dot.invariant.exact in let low = there.0 in omega arith) in
+          let room : label < length ends = (let exact = c.loop-dot.invariant.exact in let low = there.0 in omega
+          arith) in
           let e : w.with.result ≡ with_end (get_or ends label Closed) dot =
-          w.with.ensures ∙ ap (λ x. with_end x dot) (w.index.ensures ∙ get_or_default ends label w.index.result.now Closed room) in
+          w.with.ensures ∙ ap (λ x. with_end x dot) (w.index.ensures ∙ get_or_default ends label w.index.result.now
+          Closed room) in
           rw w.ends-is
           (subst (λ x. HaveEnds size lines labels (dot + 1) (set ends label x)) (sym e)
-          (HaveEnds-end size lines labels c.requires.labels dot there.1.0 label ends c.loop-dot.invariant there.1.1 there.1.2 room))
-      | in_default w ↦ rw w.ends-is (HaveEnds-next size lines labels c.requires.labels dot ends c.loop-dot.invariant w.in_default.ensures.none)
+          (HaveEnds-end size lines labels c.requires.labels dot there.1.0 label ends c.loop-dot.invariant there.1.1
+          there.1.2 room))
+      | in_default w ↦ rw w.ends-is (HaveEnds-next size lines labels c.requires.labels dot ends c.loop-dot.invariant
+          w.in_default.ensures.none)
     ]
 
 pub returns-in_err-ends : goal.returns-in_err-ends

@@ -18,11 +18,13 @@ returns-then-degree-ne1-clause-none c = λ label t.
 pub first_line-requires : goal.first_line-requires
 first_line-requires c =
     subst (λ n. AreBelow n c.sides_at.result) (sym c.requires.lines)
-    (subst (AreBelow (all_sides c.args.size)) (sym c.sides_at.ensures) (AreBelow-dot c.args.size c.args.dot c.requires.size.some_cols c.requires.board))
+    (subst (AreBelow (all_sides c.args.size)) (sym c.sides_at.ensures)
+    (AreBelow-dot c.args.size c.args.dot c.requires.size.some_cols c.requires.board))
 
 pub returns-in_default-clause-none : goal.returns-in_default-clause-none
 returns-in_default-clause-none c = λ label t.
-    let member = labelled_member (all_sides c.args.size) (ShareDot c.args.size) (IsLine c.args.size c.args.lines.now) c.args.labels.now c.requires.labels t.0 label t.1 in
+    let member = labelled_member (all_sides c.args.size) (ShareDot c.args.size) (IsLine c.args.size c.args.lines.now)
+    c.args.labels.now c.requires.labels t.0 label t.1 in
     let has : Contains c.sides_at.result (Some t.0) =
     subst (λ sides. Contains sides (Some t.0)) (sym c.sides_at.ensures)
     (contained_from_end c.args.size c.args.dot t.0 c.requires.size.some_cols c.requires.board member.0 t.2) in
@@ -31,7 +33,8 @@ returns-in_default-clause-none c = λ label t.
 pub returns-clause-some : goal.returns-clause-some
 returns-clause-some c =
     let has = subst (λ sides. Contains sides (Some c.in-Some.side)) c.sides_at.ensures c.in-Some.ensures.found.0 in
-    label_touches c.args.size c.args.lines.now c.args.labels.now c.requires.labels c.in-Some.side c.args.dot (get_or c.args.labels.now c.in-Some.side None) refl
+    label_touches c.args.size c.args.lines.now c.args.labels.now c.requires.labels c.in-Some.side c.args.dot
+    (get_or c.args.labels.now c.in-Some.side None) refl
     (end_of_contained c.args.size c.args.dot c.in-Some.side c.requires.size.some_cols c.requires.board has)
 
 pub returns-clause-none : goal.returns-clause-none

@@ -7,5 +7,6 @@ use Rattle.hall_slither.proofs.count.sides_round.Goals as goal
 
 pub returns-in-Dot-clause-below : goal.returns-in-Dot-clause-below
 returns-in-Dot-clause-below c =
-    let low : c.in-Dot.dot < dots c.args.size = subst (λ (centre : Centre). IsCentre c.args.size centre) c.in-Dot.is c.requires.centre in
+    let low : c.in-Dot.dot < dots c.args.size = subst (λ (centre : Centre). IsCentre c.args.size centre) c.in-Dot.is
+    c.requires.centre in
     rw c.sides_at.ensures (AreBelow-dot c.args.size c.in-Dot.dot c.requires.size.some_cols low)

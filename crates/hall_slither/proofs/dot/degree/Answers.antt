@@ -5,7 +5,8 @@ use Rattle.hall_slither.proofs.dot.degree.Goals as goal
 pub line_at-requires-4 : goal.line_at-requires-4
 line_at-requires-4 c =
     rw c.sides_at.ensures (all_held _ (λ s. s < length c.args.lines.now)
-    (λ s h. let k = sides_below c.args.size c.args.dot s c.requires.size.some_cols c.requires.board (inr (inr h)) in omega arith))
+    (λ s h. let k = sides_below c.args.size c.args.dot s c.requires.size.some_cols c.requires.board (inr (inr h)) in
+    omega arith))
 
 pub returns-clause-degree : goal.returns-clause-degree
 returns-clause-degree c =

@@ -14,7 +14,8 @@ invariant-loop-centre l =
       followed : IsFollowed {E = AllocError} board l.fn.position.partial.now l.position.partial.now (Ok l.pass);
       same : IsSamePosition l.fn.position l.position;
       alive : l.pass ≢ Dead;
-      silent : HasAll board.size l.fn.position.stack.now.items → l.pass ≡ Settled → (centre : Centre) → IsCentre board.size centre
+      silent : HasAll board.size l.fn.position.stack.now.items → l.pass ≡ Settled → (centre : Centre)
+          → IsCentre board.size centre
           → Contains l.position.stack.now.items centre ⊎ IsSilent board l.position.partial.now.places centre;
     }
 

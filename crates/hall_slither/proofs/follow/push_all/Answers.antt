@@ -11,7 +11,8 @@ use Rattle.hall_slither.specs.Count.{IsCentre}
 use Rattle.hall_slither.specs.Follow.{HasAll}
 use Rattle.hall_slither.proofs.follow.push_all.Goals as goal
 
-HasAll-from : (size : Size) (stack : List Centre) → ((d : ℕ) → d < dots size → Contains stack (Dot d)) → ((k : ℕ) → k < cells size → Contains stack (Cell k))
+HasAll-from : (size : Size) (stack : List Centre) → ((d : ℕ) → d < dots size → Contains stack (Dot d))
+    → ((k : ℕ) → k < cells size → Contains stack (Cell k))
     → HasAll size stack
 HasAll-from size stack at_dots at_cells (Dot d) low = at_dots d low
 HasAll-from size stack at_dots at_cells (Cell k) low = at_cells k low
@@ -22,16 +23,19 @@ pushed old new x y e has = subst (λ xs. Contains xs x) (sym e) (Contains-append
 now_in : (old new : List Centre) (y : Centre) → new ≡ old ++ y ∷ [] → Contains new y
 now_in old new y e = subst (λ xs. Contains xs y) (sym e) (Contains-push old y)
 
-all_pushed : (size : Size) (old new : List Centre) (y : Centre) → new ≡ old ++ y ∷ [] → All (IsCentre size) old → IsCentre size y → All (IsCentre size) new
+all_pushed : (size : Size) (old new : List Centre) (y : Centre) → new ≡ old ++ y ∷ [] → All (IsCentre size) old
+    → IsCentre size y → All (IsCentre size) new
 all_pushed size old new y e all is = subst (All (IsCentre size)) (sym e) (All-push (IsCentre size) old y all is)
 
 pub loop-dot-preserved : goal.loop-dot-preserved
 loop-dot-preserved c =
     let e = c.in_ok-push.ensures.items in
     record {
-      centres = all_pushed c.args.size c.loop-dot.stack.items c.push.new.self.items (Dot c.loop-dot.dot) e c.loop-dot.invariant.centres (omega arith);
+      centres = all_pushed c.args.size c.loop-dot.stack.items c.push.new.self.items (Dot c.loop-dot.dot) e
+          c.loop-dot.invariant.centres (omega arith);
       dots_in = below_more (λ d. Contains c.push.new.self.items (Dot d)) c.loop-dot.dot
-          (λ d low. pushed c.loop-dot.stack.items c.push.new.self.items (Dot d) (Dot c.loop-dot.dot) e (c.loop-dot.invariant.dots_in d low))
+          (λ d low. pushed c.loop-dot.stack.items c.push.new.self.items (Dot d) (Dot c.loop-dot.dot) e
+          (c.loop-dot.invariant.dots_in d low))
           (now_in c.loop-dot.stack.items c.push.new.self.items (Dot c.loop-dot.dot) e);
     }
 
@@ -50,10 +54,12 @@ loop-cell-preserved c =
 
 pub returns-clause-all : goal.returns-clause-all
 returns-clause-all c =
-    HasAll-from c.args.size c.loop-cell.stack.items c.loop-cell.invariant.dots_in (λ k low. c.loop-cell.invariant.cells_in k (omega arith))
+    HasAll-from c.args.size c.loop-cell.stack.items c.loop-cell.invariant.dots_in
+    (λ k low. c.loop-cell.invariant.cells_in k (omega arith))
 
 pub returns-in_err-push-clause-all : goal.returns-in_err-push-clause-all
 returns-in_err-push-clause-all c = IfOk-from_err c.from_residual.result _ c.from_residual.ensures.0
 
 pub returns-in_err-push-2-clause-all : goal.returns-in_err-push-2-clause-all
-returns-in_err-push-2-clause-all c = IfOk-from_err c.from_residual-in_err-push-2.result _ c.from_residual-in_err-push-2.ensures.0
+returns-in_err-push-2-clause-all c = IfOk-from_err c.from_residual-in_err-push-2.result _
+    c.from_residual-in_err-push-2.ensures.0

@@ -10,7 +10,9 @@ pub returns-in_err-push-clause-few : goal.returns-in_err-push-clause-few
 returns-in_err-push-clause-few c = IfOk-from_err c.from_residual.result _ c.from_residual.ensures.0
 
 pub returns-in_err-push-2-clause-few : goal.returns-in_err-push-2-clause-few
-returns-in_err-push-2-clause-few c = IfOk-from_err c.from_residual-in_err-push-2.result _ c.from_residual-in_err-push-2.ensures.0
+returns-in_err-push-2-clause-few c = IfOk-from_err c.from_residual-in_err-push-2.result _
+    c.from_residual-in_err-push-2.ensures.0
 
 pub returns-in_err-push_cell-clause-few : goal.returns-in_err-push_cell-clause-few
-returns-in_err-push_cell-clause-few c = IfOk-from_err c.from_residual-in_err-push_cell.result _ c.from_residual-in_err-push_cell.ensures.0
+returns-in_err-push_cell-clause-few c = IfOk-from_err c.from_residual-in_err-push_cell.result _
+    c.from_residual-in_err-push_cell.ensures.0

@@ -8,7 +8,8 @@ use Rattle.hall_slither.proofs.AreColoured.{AreColoured-keeps}
 use Rattle.hall_slither.proofs.follow.set_and_learn.Goals as goal
 use Rattle.hall_slither.proofs.follow.set_and_learn.Goals.{After-set}
 
-coloured_after : (c : After-set) → AreColoured c.args.position.now.puzzle.now c.set.new.self.places c.args.position.now.colours.now
+coloured_after : (c : After-set) → AreColoured c.args.position.now.puzzle.now c.set.new.self.places
+    c.args.position.now.colours.now
 coloured_after c =
     let now = c.args.position.now in
     let p = now.partial.now.places in
@@ -22,7 +23,8 @@ invariant_of-position c =
     record {
       kind = now.kind;
       fits = rw c.set.ensures.places
-          (IsPartial-set (question_of Slither now.puzzle.now) now.partial.now.places c.args.setting.side c.args.setting.value c.requires.side.0 c.requires.value now.fits);
+          (IsPartial-set (question_of Slither now.puzzle.now) now.partial.now.places c.args.setting.side
+          c.args.setting.value c.requires.side.0 c.requires.value now.fits);
       coloured = coloured_after (goal.at.invariant_of-position c).After-set;
       centres = rw c.size.ensures.size at c.push_beside.ensures.centres;
     }

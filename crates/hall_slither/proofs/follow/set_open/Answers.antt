@@ -6,15 +6,18 @@ use Rattle.hall_solve.specs.declared.deduce.Pass.{Pass}
 use Rattle.hall_solve.specs.declared.deduce.Pass.TheVariants.{Settled, Advanced, Dead}
 use Rattle.hall_slither.specs.Follow.{IsFollowed}
 use Rattle.hall_slither.proofs.AreSet.{AreSet-more, AreSet-all, set_from}
-use Rattle.hall_slither.proofs.IsFollowed.{IsFollowed-advanced, IsFollowed-dead, IsFollowed-failed, IsFollowed-start, IsFollowed-at}
+use Rattle.hall_slither.proofs.IsFollowed.{IsFollowed-advanced, IsFollowed-dead, IsFollowed-failed, IsFollowed-start}
+use Rattle.hall_slither.proofs.IsFollowed.{IsFollowed-at}
 use Rattle.hall_slither.proofs.follow.set_open.Goals as goal
-use Rattle.hall_slither.proofs.follow.set_open.Goals.{in-Some+then-is_none+in_ok-set_side+in-Settled, in-Some+else-is_none, in_default}
+use Rattle.hall_slither.proofs.follow.set_open.Goals.{in-Some+then-is_none+in_ok-set_side+in-Settled}
+use Rattle.hall_slither.proofs.follow.set_open.Goals.{in-Some+else-is_none, in_default}
 
 pub returns-in_err-set_side-clause-followed : goal.returns-in_err-set_side-clause-followed
 returns-in_err-set_side-clause-followed c =
     let now = c.args.position.now in
     let so_far = c.loop-side.invariant in
-    IsFollowed-failed now.puzzle.now now.partial.now c.loop-side.position.partial.now c.set_side.new.position.partial.now c.loop-side.pass
+    IsFollowed-failed now.puzzle.now now.partial.now c.loop-side.position.partial.now
+    c.set_side.new.position.partial.now c.loop-side.pass
     c.in_err-set_side.field-0.0 c.from_residual.result c.from_residual.ensures.0 now.fits so_far.alive so_far.followed
     (IsFollowed-at _ _ _ _ _ (ap (λ n. n.0) so_far.same) c.in_err-set_side.ensures.followed)
 
@@ -22,8 +25,10 @@ pub returns-in-Dead-clause-followed : goal.returns-in-Dead-clause-followed
 returns-in-Dead-clause-followed c =
     let now = c.args.position.now in
     let so_far = c.loop-side.invariant in
-    IsFollowed-dead now.puzzle.now now.partial.now c.loop-side.position.partial.now c.set_side.new.position.partial.now c.loop-side.pass
-    c.in_ok-set_side.field-0 c.in-Dead.is now.fits so_far.alive so_far.followed (IsFollowed-at _ _ _ _ _ (ap (λ n. n.0) so_far.same) c.in_ok-set_side.ensures.followed)
+    IsFollowed-dead now.puzzle.now now.partial.now c.loop-side.position.partial.now c.set_side.new.position.partial.now
+    c.loop-side.pass
+    c.in_ok-set_side.field-0 c.in-Dead.is now.fits so_far.alive so_far.followed
+    (IsFollowed-at _ _ _ _ _ (ap (λ n. n.0) so_far.same) c.in_ok-set_side.ensures.followed)
 
 pub loop-side-preserved : goal.loop-side-preserved
 loop-side-preserved c =
@@ -32,10 +37,13 @@ loop-side-preserved c =
     let i = c.loop-side.side-index in
     elim c.match-side.branch [
       | in-Some+then-is_none+in_ok-set_side+in-Settled w ↦
-          let more : w.in_ok-set_side.field-0 ≡ Advanced = elim w.in-Settled.is [ inl e ↦ absurd (w.in_ok-set_side.ensures.advanced e) | inr e ↦ e ] in
+          let more : w.in_ok-set_side.field-0 ≡ Advanced = elim w.in-Settled.is
+          [ inl e ↦ absurd (w.in_ok-set_side.ensures.advanced e) | inr e ↦ e ] in
           rw (w.position-is, w.pass-is) record {
-            followed = IsFollowed-advanced now.puzzle.now now.partial.now c.loop-side.position.partial.now w.set_side.new.position.partial.now c.loop-side.pass
-                w.in_ok-set_side.field-0 more now.fits so_far.alive so_far.followed (IsFollowed-at _ _ _ _ _ (ap (λ n. n.0) so_far.same) w.in_ok-set_side.ensures.followed);
+            followed = IsFollowed-advanced now.puzzle.now now.partial.now c.loop-side.position.partial.now
+                w.set_side.new.position.partial.now c.loop-side.pass
+                w.in_ok-set_side.field-0 more now.fits so_far.alive so_far.followed
+                (IsFollowed-at _ _ _ _ _ (ap (λ n. n.0) so_far.same) w.in_ok-set_side.ensures.followed);
             same = w.set_side.ensures.same ∙ so_far.same;
             alive = λ (e : Advanced ≡ Dead). cc;
             set = λ (e : Advanced ≡ Settled). absurd (cc);
@@ -48,8 +56,10 @@ loop-side-preserved c =
             followed = so_far.followed;
             same = so_far.same;
             alive = so_far.alive;
-            set = λ e. AreSet-more c.args.sides.now c.loop-side.position.partial.now.places i (omega arith) (so_far.set e)
-                (λ s f. let same : w.in-Some.side ≡ s = let k = w.in-Some.is in cc in subst (λ s. get_or c.loop-side.position.partial.now.places s None ≢ None) same is_set);
+            set = λ e. AreSet-more c.args.sides.now c.loop-side.position.partial.now.places i (omega arith)
+                (so_far.set e)
+                (λ s f. let same : w.in-Some.side ≡ s = let k = w.in-Some.is in cc in subst
+                (λ s. get_or c.loop-side.position.partial.now.places s None ≢ None) same is_set);
             work = so_far.work;
           }
       | in_default w ↦
@@ -57,7 +67,8 @@ loop-side-preserved c =
             followed = so_far.followed;
             same = so_far.same;
             alive = so_far.alive;
-            set = λ e. AreSet-more c.args.sides.now c.loop-side.position.partial.now.places i (omega arith) (so_far.set e) (λ s f. absurd (let k = w.in_default.is in cc));
+            set = λ e. AreSet-more c.args.sides.now c.loop-side.position.partial.now.places i (omega arith)
+                (so_far.set e) (λ s f. absurd (let k = w.in_default.is in cc));
             work = so_far.work;
           }
     ]
@@ -65,8 +76,10 @@ loop-side-preserved c =
 pub returns-clause-advanced : goal.returns-clause-advanced
 returns-clause-advanced c = λ e.
     let now = c.args.position.now in
-    let all = AreSet-all c.args.sides.now c.loop-side.position.partial.now.places c.loop-side.side-index (omega arith) (c.loop-side.invariant.set e) in
-    let same = subst (λ (x : Pass). IsFollowed {E = AllocError} now.puzzle.now now.partial.now c.loop-side.position.partial.now (Ok x)) e c.loop-side.invariant.followed in
+    let all = AreSet-all c.args.sides.now c.loop-side.position.partial.now.places c.loop-side.side-index (omega arith)
+    (c.loop-side.invariant.set e) in
+    let same = subst (λ (x : Pass). IsFollowed {E = AllocError} now.puzzle.now now.partial.now
+    c.loop-side.position.partial.now (Ok x)) e c.loop-side.invariant.followed in
     let told = c.requires.told.1 in
     all told.0 told.1 (subst (λ p. get_or p told.0 None ≡ None) (sym same.deduced) told.2.1)
 

@@ -7,9 +7,11 @@ use Rattle.hall_slither.proofs.follow.set_open.Given as goal
 
 abbrev pub invariant-loop-side : goal.invariant-loop-side
 invariant-loop-side l = record {
-  followed : IsFollowed {E = AllocError} l.fn.position.puzzle.now l.fn.position.partial.now l.position.partial.now (Ok l.pass);
+  followed : IsFollowed {E = AllocError} l.fn.position.puzzle.now l.fn.position.partial.now l.position.partial.now
+      (Ok l.pass);
   same : IsSamePosition l.fn.position l.position;
   alive : l.pass ≢ Dead;
   set : l.pass ≡ Settled → AreSet (take l.side-index l.sides) l.position.partial.now.places;
-  work : work l.position.partial.now.places l.position.stack.now.items ≤ work l.fn.position.partial.now.places l.fn.position.stack.now.items;
+  work : work l.position.partial.now.places l.position.stack.now.items ≤ work l.fn.position.partial.now.places
+      l.fn.position.stack.now.items;
 }

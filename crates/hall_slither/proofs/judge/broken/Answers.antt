@@ -6,7 +6,8 @@ use Rattle.hall_slither.proofs.judge.broken.Goals as goal
 
 pub returns : goal.returns
 returns c =
-    broken_are Slither c.args.puzzle.now c.args.filling.now _ _ c.requires.kind c.new-broken.ensures.empty c.new-broken.ensures.set (
+    broken_are Slither c.args.puzzle.now c.args.filling.now _ _ c.requires.kind c.new-broken.ensures.empty
+    c.new-broken.ensures.set (
       _,
       _,
       c.insert_if.ensures,
@@ -26,7 +27,14 @@ returns c =
             _,
             c.insert_if-4.ensures,
             (rw c.as_slice-lines.ensures at c.has_other_count.ensures),
-            (_, _, c.insert_if-5.ensures, (rw (c.size-size.ensures.size, c.as_slice-lines.ensures) at c.in_ok-has_lines_apart.ensures), refl),
+            (
+              _,
+              _,
+              c.insert_if-5.ensures,
+              (rw (c.size-size.ensures.size, c.as_slice-lines.ensures) at
+                  c.in_ok-has_lines_apart.ensures),
+              refl,
+            ),
           ),
         ),
       ),

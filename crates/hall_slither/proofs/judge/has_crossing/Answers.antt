@@ -5,10 +5,14 @@ use Rattle.hall_slither.proofs.judge.has_crossing.Goals as goal
 
 pub loop-dot-preserved : goal.loop-dot-preserved
 loop-dot-preserved c =
-    let here : degree c.args.size c.args.lines.now c.loop-dot.dot ≤ 2 = let e = c.degree.ensures.degree in omega arith in
+    let here : degree c.args.size c.args.lines.now c.loop-dot.dot ≤ 2 = let e = c.degree.ensures.degree in omega
+    arith in
     below_more (λ d. degree c.args.size c.args.lines.now d ≤ 2) _ c.loop-dot.invariant here
 
 pub returns : goal.returns
 returns c =
-    let low : (d : ℕ) → d < dots c.args.size → d < c.loop-dot.dot = λ d h. omega arith in
-    (λ t. absurd (false≢true t), λ h. absurd (let k = c.loop-dot.invariant h.0 (low h.0 h.1) in elim h.2 [ inl e ↦ omega arith | inr e ↦ omega arith ]))
+    let low : (d : ℕ) → d < dots c.args.size → d < c.loop-dot.dot = λ d h. omega arith in (
+      λ t. absurd (false≢true t),
+      λ h. absurd (let k = c.loop-dot.invariant h.0 (low h.0 h.1) in elim h.2
+          [ inl e ↦ omega arith | inr e ↦ omega arith ]),
+    )

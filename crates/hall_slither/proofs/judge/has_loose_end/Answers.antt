@@ -5,7 +5,8 @@ use Rattle.hall_slither.proofs.judge.has_loose_end.Goals as goal
 
 pub loop-dot-preserved : goal.loop-dot-preserved
 loop-dot-preserved c =
-    let here : degree c.args.size c.args.lines.now c.loop-dot.dot ≡ 1 → ⊥ = λ e. (let d = c.degree.ensures.degree in omega arith) in
+    let here : degree c.args.size c.args.lines.now c.loop-dot.dot ≡ 1
+    → ⊥ = λ e. (let d = c.degree.ensures.degree in omega arith) in
     below_more (λ d. degree c.args.size c.args.lines.now d ≡ 1 → ⊥) _ c.loop-dot.invariant here
 
 pub returns : goal.returns

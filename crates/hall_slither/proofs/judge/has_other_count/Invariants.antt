@@ -6,4 +6,5 @@ use Rattle.hall_slither.specs.Close.{with_line}
 use Rattle.hall_slither.proofs.judge.has_other_count.Given as goal
 
 abbrev pub invariant-loop-cell : goal.invariant-loop-cell
-invariant-loop-cell l = (cell given : ℕ) → cell < l.cell → slice_get l.puzzle.clues cell ≡ Some (Number given) → count_by (is_line (with_line l.lines l.more)) (sides_of l.puzzle.size cell) ≡ given
+invariant-loop-cell l = (cell given : ℕ) → cell < l.cell → slice_get l.puzzle.clues cell ≡ Some (Number given)
+    → count_by (is_line (with_line l.lines l.more)) (sides_of l.puzzle.size cell) ≡ given

@@ -7,7 +7,8 @@ use Rattle.hall_slither.proofs.trial.clear_early.Given as goal
 
 abbrev pub invariant-loop : goal.invariant-loop
 invariant-loop l = record {
-  followed : IsFollowed {E = AllocError} l.fn.position.puzzle.now l.fn.position.partial.now l.position.partial.now (Ok l.pass);
+  followed : IsFollowed {E = AllocError} l.fn.position.puzzle.now l.fn.position.partial.now l.position.partial.now
+      (Ok l.pass);
   same : IsSamePosition l.fn.position l.position;
   alive : l.pass ≢ Dead;
 }

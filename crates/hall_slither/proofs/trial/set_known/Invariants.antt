@@ -7,7 +7,8 @@ use Rattle.hall_slither.proofs.trial.set_known.Given as goal
 
 abbrev pub invariant-loop-setting : goal.invariant-loop-setting
 invariant-loop-setting l = record {
-  followed : IsFollowed {E = AllocError} l.fn.position.puzzle.now l.fn.position.partial.now l.position.partial.now (Ok l.pass);
+  followed : IsFollowed {E = AllocError} l.fn.position.puzzle.now l.fn.position.partial.now l.position.partial.now
+      (Ok l.pass);
   same : IsSamePosition l.fn.position l.position;
   alive : l.pass ≢ Dead;
 }

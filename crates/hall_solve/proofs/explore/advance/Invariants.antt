@@ -9,8 +9,10 @@ invariant-popping l = record {
   made : AreMade l.board l.stack.items;
   size : length l.board.places ≡ length l.fn.board.places;
   keeps : Keeps l.board.places l.fn.board.places;
-  waiting : (f : List ℕ) → InRange (length l.fn.board.places) l.values f → (AwaitsTurn l.fn.board l.fn.stack.items f ↔ AwaitsTurn l.board l.stack.items f);
-  paid : visits_left (length l.fn.board.places) l.values l.stack.items ≤ visits_left (length l.fn.board.places) l.values l.fn.stack.items;
+  waiting : (f : List ℕ) → InRange (length l.fn.board.places) l.values f
+      → (AwaitsTurn l.fn.board l.fn.stack.items f ↔ AwaitsTurn l.board l.stack.items f);
+  paid : visits_left (length l.fn.board.places) l.values l.stack.items ≤ visits_left (length l.fn.board.places) l.values
+      l.fn.stack.items;
 }
 
 abbrev pub decreases-popping : goal.decreases-popping

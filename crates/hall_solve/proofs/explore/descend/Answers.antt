@@ -11,8 +11,11 @@ returns-clause-ahead c =
     let t = c.args.board.now.trail in
     let i = c.args.place in
     let choice : Choice = record { mark = c.mark-mark.result; place = i; value = 0 } in
-    let after : c.set.new.self ≡ record { places = set p i (Some 0); trail = t ++ i ∷ [] } = board_is c.set.new.self (set p i (Some 0)) (t ++ i ∷ []) c.set.ensures.places c.set.ensures.trail in
-    λ f. rw (after, c.in_ok-push.ensures.items) (choose-ahead p t i c.args.stack.now.items choice c.mark-mark.ensures.trailed c.requires.unset.0 c.requires.unset.1 c.requires.made c.mark-mark.ensures.mark refl refl f)
+    let after : c.set.new.self ≡ record { places = set p i (Some 0); trail = t ++ i ∷ [] } = board_is c.set.new.self
+    (set p i (Some 0)) (t ++ i ∷ []) c.set.ensures.places c.set.ensures.trail in
+    λ f. rw (after, c.in_ok-push.ensures.items) (choose-ahead p t i c.args.stack.now.items choice
+    c.mark-mark.ensures.trailed c.requires.unset.0 c.requires.unset.1 c.requires.made c.mark-mark.ensures.mark refl
+    refl f)
 
 pub returns-clause-paid : goal.returns-clause-paid
 returns-clause-paid c =
@@ -20,15 +23,19 @@ returns-clause-paid c =
     let t = c.args.board.now.trail in
     let i = c.args.place in
     let choice : Choice = record { mark = c.mark-mark.result; place = i; value = 0 } in
-    let after : c.set.new.self ≡ record { places = set p i (Some 0); trail = t ++ i ∷ [] } = board_is c.set.new.self (set p i (Some 0)) (t ++ i ∷ []) c.set.ensures.places c.set.ensures.trail in
-    λ k pos. rw (after, c.in_ok-push.ensures.items) (choose-paid p t i c.args.stack.now.items choice c.mark-mark.ensures.trailed c.requires.unset.0 c.requires.unset.1 c.requires.made c.mark-mark.ensures.mark refl refl k pos)
+    let after : c.set.new.self ≡ record { places = set p i (Some 0); trail = t ++ i ∷ [] } = board_is c.set.new.self
+    (set p i (Some 0)) (t ++ i ∷ []) c.set.ensures.places c.set.ensures.trail in
+    λ k pos. rw (after, c.in_ok-push.ensures.items) (choose-paid p t i c.args.stack.now.items choice
+    c.mark-mark.ensures.trailed c.requires.unset.0 c.requires.unset.1 c.requires.made c.mark-mark.ensures.mark refl
+    refl k pos)
 
 pub returns-clause-trailed : goal.returns-clause-trailed
 returns-clause-trailed c =
     let p = c.args.board.now.places in
     let t = c.args.board.now.trail in
     let i = c.args.place in
-    let after : c.set.new.self ≡ record { places = set p i (Some 0); trail = t ++ i ∷ [] } = board_is c.set.new.self (set p i (Some 0)) (t ++ i ∷ []) c.set.ensures.places c.set.ensures.trail in
+    let after : c.set.new.self ≡ record { places = set p i (Some 0); trail = t ++ i ∷ [] } = board_is c.set.new.self
+    (set p i (Some 0)) (t ++ i ∷ []) c.set.ensures.places c.set.ensures.trail in
     rw after (IsTrailed-set p t i 0 c.mark-mark.ensures.trailed c.requires.unset.0 c.requires.unset.1)
 
 pub returns-in_err-push-clause-made : goal.returns-in_err-push-clause-made

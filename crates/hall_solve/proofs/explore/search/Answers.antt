@@ -11,5 +11,6 @@ returns-in-Paused-clause-outcome g c =
     let start = c.args.start.now.places in
     let visits = g.R.Rules.visits c.go_on.new.rules in
     let walk = c.in-Paused._walk in
-    let paused : IsProgress q start c.args.budget visits (Paused walk) = subst (λ (x : Progress). IsProgress q start c.args.budget visits x) c.in-Paused.is c.in_ok-outcome.ensures.progress in
+    let paused : IsProgress q start c.args.budget visits (Paused walk) = subst
+    (λ (x : Progress). IsProgress q start c.args.budget visits x) c.in-Paused.is c.in_ok-outcome.ensures.progress in
     given_up q start walk.board walk.stack.items walk.found visits c.args.budget paused.1 paused.0

@@ -11,9 +11,12 @@ invariant-turning g l =
       partial : IsPartial q l.board.places;
       made : AreMade l.board l.stack.items;
       size : length l.board.places ≡ length l.fn.board.places;
-      waited : (f : List ℕ) → IsQuestionFilling q f → AwaitsTurn l.board l.stack.items f → AwaitsTurn l.fn.board l.fn.stack.items f;
-      waits : (f : List ℕ) → IsQuestionFilling q f → q.right f → AwaitsTurn l.fn.board l.fn.stack.items f → AwaitsTurn l.board l.stack.items f;
-      paid : visits_left (length l.fn.board.places) q.values l.stack.items ≤ visits_left (length l.fn.board.places) q.values l.fn.stack.items;
+      waited : (f : List ℕ) → IsQuestionFilling q f → AwaitsTurn l.board l.stack.items f
+          → AwaitsTurn l.fn.board l.fn.stack.items f;
+      waits : (f : List ℕ) → IsQuestionFilling q f → q.right f → AwaitsTurn l.fn.board l.fn.stack.items f
+          → AwaitsTurn l.board l.stack.items f;
+      paid : visits_left (length l.fn.board.places) q.values l.stack.items ≤ visits_left (length l.fn.board.places)
+          q.values l.fn.stack.items;
     }
 
 abbrev pub decreases-turning : goal.decreases-turning

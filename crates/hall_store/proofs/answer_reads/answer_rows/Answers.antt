@@ -16,9 +16,12 @@ ended rows e = sym (e ∙ append-nil rows)
 pub loop-slot-init : goal.loop-slot-init
 loop-slot-init c =
     let test : AnswerSlot × AnswerRow → Bool = λ e. agree c.args.part e.0 c.args.first.now in
-    answers_ahead c.args.first.now c.args.part c.requires.first c.args.answers.now.entries c.range-slot-items.ensures.ordered c.requires.kept
-    c.into_iter-slot-iterator.result (c.into_iter-slot-iterator.ensures.into_iter_gives ∙ c.range-slot-items.ensures.between tt)
-    ∙ ap (λ (rows : List AnswerRow). rows ++ values_of (take_while test c.into_iter-slot-iterator.result)) (sym c.new-rows.ensures.items)
+    answers_ahead c.args.first.now c.args.part c.requires.first c.args.answers.now.entries
+    c.range-slot-items.ensures.ordered c.requires.kept
+    c.into_iter-slot-iterator.result (c.into_iter-slot-iterator.ensures.into_iter_gives
+    ∙ c.range-slot-items.ensures.between tt)
+    ∙ ap (λ (rows : List AnswerRow). rows ++ values_of (take_while test c.into_iter-slot-iterator.result))
+    (sym c.new-rows.ensures.items)
 
 pub loop-slot-preserved : goal.loop-slot-preserved
 loop-slot-preserved c =
@@ -29,18 +32,23 @@ loop-slot-preserved c =
     let cloned : c.in_ok-clone.field-0 ≡ row = search rules in
     let passes : test (c.in-Some.slot.now, row) ≡ true = search rules in
     c.loop-slot.invariant
-    ∙ ap (λ (es : List (AnswerSlot × AnswerRow)). old ++ values_of es) (ap (take_while test) c.in-Some.ensures.steps ∙ taken test (c.in-Some.slot.now, row) rest passes)
+    ∙ ap (λ (es : List (AnswerSlot × AnswerRow)). old ++ values_of es)
+    (ap (take_while test) c.in-Some.ensures.steps ∙ taken test (c.in-Some.slot.now, row) rest passes)
     ∙ sym (append_assoc old (row ∷ []) (values_of (take_while test rest)))
-    ∙ ap (λ (rows : List AnswerRow). rows ++ values_of (take_while test rest)) (ap (λ (r : AnswerRow). old ++ r ∷ []) (sym cloned) ∙ sym c.in_ok-push.ensures)
+    ∙ ap (λ (rows : List AnswerRow). rows ++ values_of (take_while test rest))
+    (ap (λ (r : AnswerRow). old ++ r ∷ []) (sym cloned) ∙ sym c.in_ok-push.ensures)
 
 pub returns-clause-rows : goal.returns-clause-rows
 returns-clause-rows c =
     let test : AnswerSlot × AnswerRow → Bool = λ e. agree c.args.part e.0 c.args.first.now in
     let old : List AnswerRow = c.loop-slot.rows.items in
     elim c.match-next.branch [
-      | in-None w ↦ ended old (c.loop-slot.invariant ∙ ap (λ (es : List (AnswerSlot × AnswerRow)). old ++ values_of (take_while test es)) w.in-None.ensures.steps.0)
+      | in-None w ↦ ended old (c.loop-slot.invariant ∙ ap (λ (es : List (AnswerSlot × AnswerRow)). old
+          ++ values_of (take_while test es)) w.in-None.ensures.steps.0)
       | in-Some+then-not-agree w ↦
           let fails : test (w.in-Some.slot.now, w.in-Some.row.now) ≡ false = search rules in
           ended old (c.loop-slot.invariant
-          ∙ ap (λ (es : List (AnswerSlot × AnswerRow)). old ++ values_of es) (ap (take_while test) w.in-Some.ensures.steps ∙ left test (w.in-Some.slot.now, w.in-Some.row.now) c.next.new.self fails))
+          ∙ ap (λ (es : List (AnswerSlot × AnswerRow)). old ++ values_of es)
+          (ap (take_while test) w.in-Some.ensures.steps ∙ left test (w.in-Some.slot.now, w.in-Some.row.now)
+          c.next.new.self fails))
     ]

@@ -13,8 +13,10 @@ use Rattle.hall_store.proofs.answer_reads.answer_with.Goals as goal
 pub loop-slot-init : goal.loop-slot-init
 loop-slot-init c =
     let one : List AnswerRow → Option AnswerRow = find (λ row. same_text row.key.token c.args.token.now) in
-    ap one (answers_ahead c.args.first.now Puzzle c.requires.first c.args.answers.now.entries c.range-slot-items.ensures.ordered c.requires.kept
-    c.into_iter-slot-iterator.result (c.into_iter-slot-iterator.ensures.into_iter_gives ∙ c.range-slot-items.ensures.between tt))
+    ap one (answers_ahead c.args.first.now Puzzle c.requires.first c.args.answers.now.entries
+    c.range-slot-items.ensures.ordered c.requires.kept
+    c.into_iter-slot-iterator.result (c.into_iter-slot-iterator.ensures.into_iter_gives
+    ∙ c.range-slot-items.ensures.between tt))
 
 pub loop-slot-preserved : goal.loop-slot-preserved
 loop-slot-preserved c =
@@ -25,7 +27,8 @@ loop-slot-preserved c =
     let passes : test entry ≡ true = search rules in
     let other : same_text entry.1.key.token c.args.token.now ≡ false = search rules in
     c.loop-slot.invariant
-    ∙ ap (λ (es : List (AnswerSlot × AnswerRow)). one (values_of es)) (ap (take_while test) c.in-Some.ensures.steps ∙ taken test entry rest passes)
+    ∙ ap (λ (es : List (AnswerSlot × AnswerRow)). one (values_of es))
+    (ap (take_while test) c.in-Some.ensures.steps ∙ taken test entry rest passes)
     ∙ ap (λ b. cond b (Some entry.1) (one (values_of (take_while test rest)))) other
 
 pub returns-then-eq : goal.returns-then-eq
@@ -39,5 +42,6 @@ returns-then-eq c =
     let cloned : c.in_ok-clone.field-0 ≡ entry.1 = search rules in
     ap Some cloned
     ∙ sym (c.loop-slot.invariant
-    ∙ ap (λ (es : List (AnswerSlot × AnswerRow)). one (values_of es)) (ap (take_while test) c.in-Some.ensures.steps ∙ taken test entry rest passes)
+    ∙ ap (λ (es : List (AnswerSlot × AnswerRow)). one (values_of es))
+    (ap (take_while test) c.in-Some.ensures.steps ∙ taken test entry rest passes)
     ∙ ap (λ b. cond b (Some entry.1) (one (values_of (take_while test rest)))) same)

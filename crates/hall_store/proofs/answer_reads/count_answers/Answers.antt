@@ -19,7 +19,8 @@ loop-slot-init c =
     record {
       all =
           sym (length-filter ours (values_of c.args.answers.now.entries))
-          ∙ ap length (answers_ahead c.args.first.now Puzzle c.requires.first c.args.answers.now.entries c.range-slot-items.ensures.ordered c.requires.kept c.into_iter-slot-iterator.result from)
+          ∙ ap length (answers_ahead c.args.first.now Puzzle c.requires.first c.args.answers.now.entries
+          c.range-slot-items.ensures.ordered c.requires.kept c.into_iter-slot-iterator.result from)
           ∙ length-values (take_while test c.into_iter-slot-iterator.result)
           ∙ sym (zero-add (length (take_while test c.into_iter-slot-iterator.result)));
       fits = search rules;
@@ -31,14 +32,20 @@ loop-slot-preserved c =
     let entry : AnswerSlot × AnswerRow = (c.in-Some.slot.now, c.in-Some.field-0-1.now) in
     let rest : List (AnswerSlot × AnswerRow) = c.next.new.self in
     let passes : test entry ≡ true = search rules in
-    let more : length (take_while test c.loop-slot.slot-iterator) ≡ length (entry ∷ take_while test rest) = ap length (ap (take_while test) c.in-Some.ensures.steps ∙ taken test entry rest passes) in
+    let more : length (take_while test c.loop-slot.slot-iterator) ≡ length (entry ∷ take_while test rest) = ap length
+    (ap (take_while test) c.in-Some.ensures.steps ∙ taken test entry rest passes) in
     let steps : length c.loop-slot.slot-iterator ≡ length (entry ∷ rest) = ap length c.in-Some.ensures.steps in
-    record { all = c.loop-slot.invariant.all ∙ omega (arith, more); fits = omega (arith, steps, c.loop-slot.invariant.fits) }
+    record {
+      all = c.loop-slot.invariant.all ∙ omega (arith, more);
+      fits = omega
+          (arith, steps, c.loop-slot.invariant.fits);
+    }
 
 pub returns-in-None-clause-count : goal.returns-in-None-clause-count
 returns-in-None-clause-count c =
     let test : AnswerSlot × AnswerRow → Bool = λ e. agree Puzzle e.0 c.args.first.now in
-    let none : length (take_while test c.loop-slot.slot-iterator) ≡ 0 = ap (λ (es : List (AnswerSlot × AnswerRow)). length (take_while test es)) c.in-None.ensures.steps.0 in
+    let none : length (take_while test c.loop-slot.slot-iterator) ≡ 0 = ap
+    (λ (es : List (AnswerSlot × AnswerRow)). length (take_while test es)) c.in-None.ensures.steps.0 in
     omega (arith, none, c.loop-slot.invariant.all)
 
 pub returns-then-not-agree-clause-count : goal.returns-then-not-agree-clause-count
@@ -46,5 +53,6 @@ returns-then-not-agree-clause-count c =
     let test : AnswerSlot × AnswerRow → Bool = λ e. agree Puzzle e.0 c.args.first.now in
     let entry : AnswerSlot × AnswerRow = (c.in-Some.slot.now, c.in-Some.field-0-1.now) in
     let fails : test entry ≡ false = search rules in
-    let none : length (take_while test c.loop-slot.slot-iterator) ≡ 0 = ap length (ap (take_while test) c.in-Some.ensures.steps ∙ left test entry c.next.new.self fails) in
+    let none : length (take_while test c.loop-slot.slot-iterator) ≡ 0 = ap length
+    (ap (take_while test) c.in-Some.ensures.steps ∙ left test entry c.next.new.self fails) in
     omega (arith, none, c.loop-slot.invariant.all)

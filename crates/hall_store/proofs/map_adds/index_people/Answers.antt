@@ -17,18 +17,24 @@ loop-person-preserved c =
     let written = c.in_ok-index_person.ensures.ok in
     let before = c.loop-person.keys.entries in
     let after = c.index_person.new.keys.entries in
-    let here : slice_get list at ≡ Some item = slice_get-get_or list at item (omega (arith, c.loop-person-test.true)) ∙ ap Some (sym c.person-item.is) in
+    let here : slice_get list at ≡ Some item = slice_get-get_or list at item (omega (arith, c.loop-person-test.true))
+    ∙ ap Some (sym c.person-item.is) in
     record {
-      stay = λ key name agrees found. write_keeps before after item written.0 key name (agrees item (contained list item at here)) (c.loop-person.invariant.stay key name agrees found);
-      led = λ k person below found. elim (cases_eq k at) as (λ _. lookup (is_at (text_cmp person.key)) after ≡ Some person.name) [
-        | inl same ↦
-            let is : item ≡ person = c.person-item.is ∙ get_or_from_slice_get list at person item (subst (λ i. slice_get list i ≡ Some person) same found) in
-            subst (λ (p : Person). lookup (is_at (text_cmp p.key)) after ≡ Some p.name) is written.1
-        | inr differ ↦ write_keeps before after item written.0 person.key person.name
-            (λ same_key. absurd (c.requires k at item (omega (arith, below, differ)) (omega (arith, c.loop-person-test.true))
-            (inr (ap (λ (p : Person). p.key) (get_or_from_slice_get list k person item found) ∙ sym same_key ∙ ap (λ (p : Person). p.key) c.person-item.is))))
-            (c.loop-person.invariant.led k person (omega (arith, below, differ)) found)
-      ];
+      stay = λ key name agrees found. write_keeps before after item written.0 key name
+          (agrees item (contained list item at here)) (c.loop-person.invariant.stay key name agrees found);
+      led = λ k person below found. elim (cases_eq k at) as (λ _. lookup (is_at (text_cmp person.key)) after ≡ Some
+          person.name) [
+            | inl same ↦
+                let is : item ≡ person = c.person-item.is ∙ get_or_from_slice_get list at person item
+                (subst (λ i. slice_get list i ≡ Some person) same found) in
+                subst (λ (p : Person). lookup (is_at (text_cmp p.key)) after ≡ Some p.name) is written.1
+            | inr differ ↦ write_keeps before after item written.0 person.key person.name
+                (λ same_key. absurd (c.requires k at item (omega (arith, below, differ))
+                (omega (arith, c.loop-person-test.true))
+                (inr (ap (λ (p : Person). p.key) (get_or_from_slice_get list k person item found) ∙ sym same_key
+                ∙ ap (λ (p : Person). p.key) c.person-item.is))))
+                (c.loop-person.invariant.led k person (omega (arith, below, differ)) found)
+          ];
     }
 
 pub returns-clause-led : goal.returns-clause-led

@@ -10,5 +10,6 @@ use Rattle.hall_store.proofs.map_adds.index_people.Given as goal
 abbrev pub invariant-loop-person : goal.invariant-loop-person
 invariant-loop-person l = record {
   stay : AgreedStay l.list l.fn.keys.entries l.keys.entries;
-  led : (k : ℕ) (person : Person) → k < l.person-index → slice_get l.list k ≡ Some person → lookup (is_at (text_cmp person.key)) l.keys.entries ≡ Some person.name;
+  led : (k : ℕ) (person : Person) → k < l.person-index → slice_get l.list k ≡ Some person
+      → lookup (is_at (text_cmp person.key)) l.keys.entries ≡ Some person.name;
 }

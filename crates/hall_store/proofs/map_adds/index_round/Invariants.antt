@@ -10,5 +10,6 @@ abbrev pub invariant-loop-entry : goal.invariant-loop-entry
 invariant-loop-entry l = record {
   kept : Each use_cmp l.uses.entries IsUseKept;
   stay : UsesStay l.fn.uses.entries l.uses.entries;
-  led : (k : ℕ) (entry : Entry) → k < l.entry-index → slice_get l.row.puzzles k ≡ Some entry → lookup (is_at (use_cmp (use_of entry.puzzle l.row.round.id))) l.uses.entries ≡ Some tt;
+  led : (k : ℕ) (entry : Entry) → k < l.entry-index → slice_get l.row.puzzles k ≡ Some entry
+      → lookup (is_at (use_cmp (use_of entry.puzzle l.row.round.id))) l.uses.entries ≡ Some tt;
 }

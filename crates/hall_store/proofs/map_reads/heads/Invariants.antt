@@ -4,4 +4,5 @@ use Rattle.hall_store.proofs.map_reads.heads.Given as goal
 
 -- the heads so far, and those of the rest, are all
 abbrev pub invariant-loop-row : goal.invariant-loop-row
-invariant-loop-row l = map (λ row. row.round) (tree.values l.rounds) ≡ l.heads.items ++ map (λ row. row.round) l.row-iterator
+invariant-loop-row l = map (λ row. row.round) (tree.values l.rounds) ≡ l.heads.items
+    ++ map (λ row. row.round) l.row-iterator

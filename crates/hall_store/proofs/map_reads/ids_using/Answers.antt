@@ -20,12 +20,16 @@ ids_of rounds key uses = map (λ (u : UseKey × Unit {0}). u.0.round) (filter (i
 abbrev ahead : List (List ℕ × RoundRow) → PuzzleKey → List (UseKey × Unit {0}) → List (List ℕ)
 ahead rounds key uses = ids_of rounds key (take_while (λ u. is_use_of key u.0) uses)
 
-one_more : (rounds : List (List ℕ × RoundRow)) (key : PuzzleKey) (used : UseKey × Unit {0}) (uses : List (UseKey × Unit {0})) → is_use_of key used.0 ≡ true →
+one_more : (rounds : List (List ℕ × RoundRow)) (key : PuzzleKey) (used : UseKey × Unit {0})
+    (uses : List (UseKey × Unit {0})) → is_use_of key used.0 ≡ true →
     ahead rounds key (used ∷ uses) ≡ cond (is_use_true rounds key used) (used.0.round ∷ []) [] ++ ahead rounds key uses
 one_more rounds key used uses here =
     ap (ids_of rounds key) (taken (λ (u : UseKey × Unit {0}). is_use_of key u.0) used uses here)
-    ∙ elim (is_use_true rounds key used) as (λ t. map (λ (u : UseKey × Unit {0}). u.0.round) (cond t (used ∷ filter (is_use_true rounds key) (take_while (λ u. is_use_of key u.0) uses)) (filter (is_use_true rounds key) (take_while (λ u. is_use_of key u.0) uses)))
-    ≡ cond t (used.0.round ∷ []) [] ++ ahead rounds key uses) [ true ↦ (λ i. used.0.round ∷ ahead rounds key uses) | false ↦ (λ i. ahead rounds key uses) ]
+    ∙ elim (is_use_true rounds key used) as (λ t. map (λ (u : UseKey × Unit {0}). u.0.round)
+    (cond t (used ∷ filter (is_use_true rounds key) (take_while (λ u. is_use_of key u.0) uses))
+    (filter (is_use_true rounds key) (take_while (λ u. is_use_of key u.0) uses)))
+    ≡ cond t (used.0.round ∷ []) [] ++ ahead rounds key uses)
+    [ true ↦ (λ i. used.0.round ∷ ahead rounds key uses) | false ↦ (λ i. ahead rounds key uses) ]
 
 ended : {all : List (List ℕ)} (ids : List (List ℕ)) → all ≡ ids ++ [] → ids ≡ all
 ended ids e = sym (e ∙ append-nil ids)
@@ -36,7 +40,8 @@ loop-used-init c =
     let uses : List (UseKey × Unit {0}) = c.args.uses.now.entries in
     let key : PuzzleKey = c.args.key.now in
     let iterator : List (UseKey × Unit {0}) = c.into_iter-used-iterator.result in
-    let given : iterator ≡ entries_between use_cmp (Included c.args.first.now) Unbounded uses = c.into_iter-used-iterator.ensures.into_iter_gives ∙ c.range-used-items.ensures.between tt in
+    let given : iterator ≡ entries_between use_cmp (Included c.args.first.now) Unbounded uses =
+    c.into_iter-used-iterator.ensures.into_iter_gives ∙ c.range-used-items.ensures.between tt in
     let from = given ∙ ap (λ (k : UseKey). entries_between use_cmp (Included k) Unbounded uses) c.requires.first in
     ap (ids_of rounds key) (uses_together key uses c.range-used-items.ensures.ordered c.requires.kept)
     ∙ ap (ahead rounds key) (sym from)
@@ -50,7 +55,8 @@ loop-used-preserved c =
     let used : UseKey × Unit {0} = (c.in-Some.used.now, c.in-Some.field-0-1.now) in
     let rest : List (List ℕ) = ahead rounds key c.next.new.self in
     let here : is_use_of key used.0 ≡ true = search rules in
-    c.loop-used.invariant ∙ ap (λ (ids : List (List ℕ)). old ++ ids) (ap (ahead rounds key) c.in-Some.ensures.steps ∙ one_more rounds key used c.next.new.self here)
+    c.loop-used.invariant ∙ ap (λ (ids : List (List ℕ)). old ++ ids)
+    (ap (ahead rounds key) c.in-Some.ensures.steps ∙ one_more rounds key used c.next.new.self here)
     ∙ sym (append_assoc old (cond (is_use_true rounds key used) (used.0.round ∷ []) []) rest)
     ∙ ap (λ (ids : List (List ℕ)). ids ++ rest) (sym c.in_ok-push_user.ensures)
 
@@ -60,10 +66,13 @@ returns-clause-ids c =
     let key : PuzzleKey = c.args.key.now in
     let old : List (List ℕ) = c.loop-used.ids.items in
     elim c.match-next.branch [
-      | in-None w ↦ ended old (c.loop-used.invariant ∙ ap (λ (es : List (UseKey × Unit {0})). old ++ ahead rounds key es) w.in-None.ensures.steps.0)
+      | in-None w ↦ ended old (c.loop-used.invariant ∙ ap (λ (es : List (UseKey × Unit {0})). old
+          ++ ahead rounds key es) w.in-None.ensures.steps.0)
       | in-Some+then-not-is_use_of w ↦
           let used : UseKey × Unit {0} = (w.in-Some.used.now, w.in-Some.field-0-1.now) in
           let fails : is_use_of key used.0 ≡ false = search rules in
           ended old (c.loop-used.invariant
-          ∙ ap (λ (es : List (UseKey × Unit {0})). old ++ ids_of rounds key es) (ap (take_while (λ (u : UseKey × Unit {0}). is_use_of key u.0)) w.in-Some.ensures.steps ∙ left (λ (u : UseKey × Unit {0}). is_use_of key u.0) used c.next.new.self fails))
+          ∙ ap (λ (es : List (UseKey × Unit {0})). old ++ ids_of rounds key es)
+          (ap (take_while (λ (u : UseKey × Unit {0}). is_use_of key u.0)) w.in-Some.ensures.steps
+          ∙ left (λ (u : UseKey × Unit {0}). is_use_of key u.0) used c.next.new.self fails))
     ]

@@ -8,4 +8,5 @@ use Rattle.hall_store.proofs.map_reads.ids_using.Given as goal
 abbrev pub invariant-loop-used : goal.invariant-loop-used
 invariant-loop-used l =
     ids_using l.rounds.entries l.key l.uses.entries
-    ≡ l.ids.items ++ map (λ (u : UseKey × Unit {0}). u.0.round) (filter (is_use_true l.rounds.entries l.key) (take_while (λ u. is_use_of l.key u.0) l.used-iterator))
+    ≡ l.ids.items ++ map (λ (u : UseKey × Unit {0}). u.0.round)
+    (filter (is_use_true l.rounds.entries l.key) (take_while (λ u. is_use_of l.key u.0) l.used-iterator))

@@ -9,6 +9,7 @@ use Rattle.hall_store.proofs.protest_reads.count_protests.Given as goal
 -- the count fits
 abbrev pub invariant-loop-key : goal.invariant-loop-key
 invariant-loop-key l = record {
-  all : count_by (is_protest_of l.first.entrant l.first.round) (values_of l.protests.entries) ≡ l.count + length (take_while (λ e. is_beside l.first e.0) l.key-iterator);
+  all : count_by (is_protest_of l.first.entrant l.first.round) (values_of l.protests.entries) ≡ l.count + length
+      (take_while (λ e. is_beside l.first e.0) l.key-iterator);
   fits : l.count + length l.key-iterator < 2 ^ 63;
 }

@@ -14,8 +14,10 @@ loop-row-preserved-in-Continue-1 g c =
     let row : ProtestRow = c.in-Some.row.now in
     let rest : List ProtestRow = c.next.new.self in
     let passes : test row ≡ true = search rules in
-    feeding_on c.args.sink.now c.loop-row.sink c.take.new.self (filter test (tree.values c.args.protests.now)) (filter test c.loop-row.row-iterator) (filter test rest) row
-    (ap (filter test) c.in-Some.ensures.steps ∙ kept_first test row rest passes) c.loop-row.invariant c.in_ok-take.ensures.took
+    feeding_on c.args.sink.now c.loop-row.sink c.take.new.self (filter test (tree.values c.args.protests.now))
+    (filter test c.loop-row.row-iterator) (filter test rest) row
+    (ap (filter test) c.in-Some.ensures.steps ∙ kept_first test row rest passes) c.loop-row.invariant
+    c.in_ok-take.ensures.took
 
 pub returns-in_err-take-clause-fed : goal.returns-in_err-take-clause-fed
 returns-in_err-take-clause-fed g c = IfOk-from_err c.from_residual.result _ c.from_residual.ensures.0

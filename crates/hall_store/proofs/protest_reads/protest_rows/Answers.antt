@@ -15,9 +15,12 @@ ended rows e = sym (e ∙ append-nil rows)
 pub loop-key-init : goal.loop-key-init
 loop-key-init c =
     let test : ProtestKey × ProtestRow → Bool = λ e. is_beside c.args.first.now e.0 in
-    protests_together c.args.first.now c.requires.first c.args.protests.now.entries c.range-key-items.ensures.ordered c.requires.kept
-    ∙ ap (λ (es : List (ProtestKey × ProtestRow)). values_of (take_while test es)) (sym (c.into_iter-key-iterator.ensures.into_iter_gives ∙ c.range-key-items.ensures.between tt))
-    ∙ ap (λ (rows : List ProtestRow). rows ++ values_of (take_while test c.into_iter-key-iterator.result)) (sym c.new-rows.ensures.items)
+    protests_together c.args.first.now c.requires.first c.args.protests.now.entries c.range-key-items.ensures.ordered
+    c.requires.kept
+    ∙ ap (λ (es : List (ProtestKey × ProtestRow)). values_of (take_while test es))
+    (sym (c.into_iter-key-iterator.ensures.into_iter_gives ∙ c.range-key-items.ensures.between tt))
+    ∙ ap (λ (rows : List ProtestRow). rows ++ values_of (take_while test c.into_iter-key-iterator.result))
+    (sym c.new-rows.ensures.items)
 
 pub loop-key-preserved : goal.loop-key-preserved
 loop-key-preserved c =
@@ -28,18 +31,23 @@ loop-key-preserved c =
     let cloned : c.in_ok-clone.field-0 ≡ row = search rules in
     let passes : test (c.in-Some.key.now, row) ≡ true = search rules in
     c.loop-key.invariant
-    ∙ ap (λ (es : List (ProtestKey × ProtestRow)). old ++ values_of es) (ap (take_while test) c.in-Some.ensures.steps ∙ taken test (c.in-Some.key.now, row) rest passes)
+    ∙ ap (λ (es : List (ProtestKey × ProtestRow)). old ++ values_of es)
+    (ap (take_while test) c.in-Some.ensures.steps ∙ taken test (c.in-Some.key.now, row) rest passes)
     ∙ sym (append_assoc old (row ∷ []) (values_of (take_while test rest)))
-    ∙ ap (λ (rows : List ProtestRow). rows ++ values_of (take_while test rest)) (ap (λ (r : ProtestRow). old ++ r ∷ []) (sym cloned) ∙ sym c.in_ok-push.ensures)
+    ∙ ap (λ (rows : List ProtestRow). rows ++ values_of (take_while test rest))
+    (ap (λ (r : ProtestRow). old ++ r ∷ []) (sym cloned) ∙ sym c.in_ok-push.ensures)
 
 pub returns-clause-rows : goal.returns-clause-rows
 returns-clause-rows c =
     let test : ProtestKey × ProtestRow → Bool = λ e. is_beside c.args.first.now e.0 in
     let old : List ProtestRow = c.loop-key.rows.items in
     elim c.match-next.branch [
-      | in-None w ↦ ended old (c.loop-key.invariant ∙ ap (λ (es : List (ProtestKey × ProtestRow)). old ++ values_of (take_while test es)) w.in-None.ensures.steps.0)
+      | in-None w ↦ ended old (c.loop-key.invariant ∙ ap (λ (es : List (ProtestKey × ProtestRow)). old
+          ++ values_of (take_while test es)) w.in-None.ensures.steps.0)
       | in-Some+then-not-is_beside w ↦
           let fails : test (w.in-Some.key.now, w.in-Some.row.now) ≡ false = search rules in
           ended old (c.loop-key.invariant
-          ∙ ap (λ (es : List (ProtestKey × ProtestRow)). old ++ values_of es) (ap (take_while test) w.in-Some.ensures.steps ∙ left test (w.in-Some.key.now, w.in-Some.row.now) c.next.new.self fails))
+          ∙ ap (λ (es : List (ProtestKey × ProtestRow)). old ++ values_of es)
+          (ap (take_while test) w.in-Some.ensures.steps ∙ left test (w.in-Some.key.now, w.in-Some.row.now)
+          c.next.new.self fails))
     ]

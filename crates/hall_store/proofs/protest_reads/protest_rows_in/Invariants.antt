@@ -6,4 +6,5 @@ use Rattle.hall_store.proofs.protest_reads.protest_rows_in.Given as goal
 
 -- the rows so far, and those of the rest, are all of the round's
 abbrev pub invariant-loop-row : goal.invariant-loop-row
-invariant-loop-row l = filter (is_protest_in l.round) (tree.values l.protests) ≡ l.rows.items ++ filter (is_protest_in l.round) l.row-iterator
+invariant-loop-row l = filter (is_protest_in l.round) (tree.values l.protests) ≡ l.rows.items
+    ++ filter (is_protest_in l.round) l.row-iterator

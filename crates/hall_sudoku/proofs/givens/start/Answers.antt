@@ -15,28 +15,37 @@ loop-cell-preserved c =
     let board = c.args.puzzle.now in
     elim c.match-clue.branch [
       | in-Number w ↦ (
-          let at_n : slice_get board.clues c.loop-cell.cell ≡ Some (Number w.in-Number.given) = c.clue.ensures ∙ ap Some w.in-Number.is in
-          let within : c.loop-cell.cell < length c.loop-cell.partial.places = omega (arith, c.loop-cell-test.true, c.cells-cell-end.ensures.cells, c.loop-cell.invariant.size) in
+          let at_n : slice_get board.clues c.loop-cell.cell ≡ Some (Number w.in-Number.given) = c.clue.ensures
+          ∙ ap Some w.in-Number.is in
+          let within : c.loop-cell.cell < length c.loop-cell.partial.places = omega
+          (arith, c.loop-cell-test.true, c.cells-cell-end.ensures.cells, c.loop-cell.invariant.size) in
           rw w.partial-is (rw w.set.ensures.places (record {
             size = length-set _ _ _ ∙ c.loop-cell.invariant.size;
-            later = λ k h. let ne : k ≢ c.loop-cell.cell = omega arith in get_or-set_other c.loop-cell.partial.places c.loop-cell.cell k (Some (w.in-Number.given - 1)) None ne ∙ c.loop-cell.invariant.later k (omega arith);
-            begin = begin_more board c.loop-cell.cell w.in-Number.given c.loop-cell.partial.places c.loop-cell.invariant.begin within at_n;
+            later = λ k h. let ne : k ≢ c.loop-cell.cell = omega arith in get_or-set_other c.loop-cell.partial.places
+                c.loop-cell.cell k (Some (w.in-Number.given - 1)) None ne ∙ c.loop-cell.invariant.later k (omega arith);
+            begin = begin_more board c.loop-cell.cell w.in-Number.given c.loop-cell.partial.places
+                c.loop-cell.invariant.begin within at_n;
           })))
       | in_default w ↦ rw w.partial-is (record {
         size = c.loop-cell.invariant.size;
         later = λ k h. c.loop-cell.invariant.later k (omega arith);
-        begin = begin_skip board c.loop-cell.cell c.loop-cell.partial.places c.clue.result c.loop-cell.invariant.begin (c.loop-cell.invariant.later c.loop-cell.cell (omega arith)) c.clue.ensures w.in_default.not-Number;
+        begin = begin_skip board c.loop-cell.cell c.loop-cell.partial.places c.clue.result c.loop-cell.invariant.begin
+            (c.loop-cell.invariant.later c.loop-cell.cell (omega arith)) c.clue.ensures w.in_default.not-Number;
       })
     ]
 
 pub returns : goal.returns
 returns c =
     let board = c.args.puzzle.now in
-    let is_start : c.loop-cell.partial.places ≡ start_of Sudoku board = begins board c.loop-cell.partial.places c.loop-cell.cell c.cells.ensures.board c.loop-cell.invariant.size (omega (arith, c.loop-cell-test.false, c.cells-cell-end.ensures.cells)) c.loop-cell.invariant.begin in
+    let is_start : c.loop-cell.partial.places ≡ start_of Sudoku board = begins board c.loop-cell.partial.places
+    c.loop-cell.cell c.cells.ensures.board c.loop-cell.invariant.size
+    (omega (arith, c.loop-cell-test.false, c.cells-cell-end.ensures.cells)) c.loop-cell.invariant.begin in
     record {
       givens = is_start;
-      partial = subst (λ p. IsPartial (question_of Sudoku board) p) (sym is_start) (start_partial board c.requires c.cells.ensures.board);
-      solutions = λ f filling right. subst (λ p. Extends f p) (sym is_start) (start_extends board f c.requires c.cells.ensures.board right);
+      partial = subst (λ p. IsPartial (question_of Sudoku board) p) (sym is_start)
+          (start_partial board c.requires c.cells.ensures.board);
+      solutions = λ f filling right. subst (λ p. Extends f p) (sym is_start)
+          (start_extends board f c.requires c.cells.ensures.board right);
     }
 
 pub returns-in_err-partial-clause-givens : goal.returns-in_err-partial-clause-givens

@@ -9,8 +9,16 @@ loop-cell-init c = record {
   seen_size = refl;
   shared_size = refl;
   thrice_size = refl;
-  are_seen = record { all = λ a v lt h. absurd (omega (arith, lt)); alone = λ at v h. absurd (none_in 25 c.none-seen.result c.none-seen.ensures at v h) };
-  are_shared = record { all = λ a b v ab lt. absurd (omega (arith, lt)); alone = λ at v h. absurd (none_in 25 c.none-shared.result c.none-shared.ensures at v h) };
+  are_seen = record {
+    all = λ a v lt h. absurd (omega (arith, lt));
+    alone = λ at v h. absurd
+        (none_in 25 c.none-seen.result c.none-seen.ensures at v h);
+  };
+  are_shared = record {
+    all = λ a b v ab lt. absurd (omega (arith, lt));
+    alone = λ at v h. absurd
+        (none_in 25 c.none-shared.result c.none-shared.ensures at v h);
+  };
   have_thrice = λ a b k v ab bk lt. absurd (omega (arith, lt));
 }
 
@@ -20,23 +28,39 @@ loop-cell-preserved c =
     let n = c.loop-cell.cell in
     let at : ℕ = get_or c.args.units.now c.loop-cell.cell 0 in
     let in_units = c.requires.units c.loop-cell.cell c.loop-cell-test.true in
-    let seen_small : get_or c.args.units.now c.loop-cell.cell 0 < length c.loop-cell.seen = omega (arith, in_units, c.loop-cell.invariant.seen_size) in
-    let shared_small : get_or c.args.units.now c.loop-cell.cell 0 < length c.loop-cell.shared = omega (arith, in_units, c.loop-cell.invariant.shared_size) in
-    let thrice_small : get_or c.args.units.now c.loop-cell.cell 0 < length c.loop-cell.thrice = omega (arith, in_units, c.loop-cell.invariant.thrice_size) in
-    let cell_small : c.loop-cell.cell < length c.args.candidates.now = omega (arith, c.loop-cell-test.true, c.requires.cells) in
+    let seen_small : get_or c.args.units.now c.loop-cell.cell 0 < length c.loop-cell.seen = omega
+    (arith, in_units, c.loop-cell.invariant.seen_size) in
+    let shared_small : get_or c.args.units.now c.loop-cell.cell 0 < length c.loop-cell.shared = omega
+    (arith, in_units, c.loop-cell.invariant.shared_size) in
+    let thrice_small : get_or c.args.units.now c.loop-cell.cell 0 < length c.loop-cell.thrice = omega
+    (arith, in_units, c.loop-cell.invariant.thrice_size) in
+    let cell_small : c.loop-cell.cell < length c.args.candidates.now = omega
+    (arith, c.loop-cell-test.true, c.requires.cells) in
     record {
       seen_size = length-set _ _ _ ∙ c.loop-cell.invariant.seen_size;
       shared_size = length-set _ _ _ ∙ c.loop-cell.invariant.shared_size;
       thrice_size = length-set _ _ _ ∙ c.loop-cell.invariant.thrice_size;
-      are_seen = seen_more unit n c.or-in-loop-cell-2.result c.args.candidates.now c.loop-cell.seen c.loop-cell.invariant.are_seen seen_small
-          (or_read c.loop-cell.seen c.args.candidates.now at c.loop-cell.cell c.index-seen-unit-in-loop-cell.result c.index-candidates-cell.result c.or-in-loop-cell-2.result seen_small cell_small c.index-candidates-cell.is c.or-in-loop-cell-2.ensures);
-      are_shared = shared_more unit n c.or-in-loop-cell.result c.args.candidates.now c.loop-cell.seen c.loop-cell.shared c.loop-cell.invariant.are_shared c.loop-cell.invariant.are_seen shared_small
-          (or_and_read c.loop-cell.shared at c.index-shared-unit-in-loop-cell.result c.and-in-loop-cell.result c.or-in-loop-cell.result shared_small c.or-in-loop-cell.ensures
-          (and_read c.loop-cell.seen c.args.candidates.now at c.loop-cell.cell c.index-seen-unit.result c.index-candidates-cell.result c.and-in-loop-cell.result seen_small cell_small c.index-candidates-cell.is c.and-in-loop-cell.ensures));
-      have_thrice = thrice_more unit n c.or.result c.args.candidates.now c.loop-cell.shared c.loop-cell.thrice c.loop-cell.invariant.have_thrice c.loop-cell.invariant.are_shared thrice_small
-          (or_and_read c.loop-cell.thrice at c.index-thrice-unit.result c.and.result c.or.result thrice_small c.or.ensures
-          (and_read c.loop-cell.shared c.args.candidates.now at c.loop-cell.cell c.index-shared-unit.result c.index-candidates-cell.result c.and.result shared_small cell_small c.index-candidates-cell.is c.and.ensures));
+      are_seen = seen_more unit n c.or-in-loop-cell-2.result c.args.candidates.now c.loop-cell.seen
+          c.loop-cell.invariant.are_seen seen_small
+          (or_read c.loop-cell.seen c.args.candidates.now at c.loop-cell.cell c.index-seen-unit-in-loop-cell.result
+          c.index-candidates-cell.result c.or-in-loop-cell-2.result seen_small cell_small c.index-candidates-cell.is
+          c.or-in-loop-cell-2.ensures);
+      are_shared = shared_more unit n c.or-in-loop-cell.result c.args.candidates.now c.loop-cell.seen c.loop-cell.shared
+          c.loop-cell.invariant.are_shared c.loop-cell.invariant.are_seen shared_small
+          (or_and_read c.loop-cell.shared at c.index-shared-unit-in-loop-cell.result c.and-in-loop-cell.result
+          c.or-in-loop-cell.result shared_small c.or-in-loop-cell.ensures
+          (and_read c.loop-cell.seen c.args.candidates.now at c.loop-cell.cell c.index-seen-unit.result
+          c.index-candidates-cell.result c.and-in-loop-cell.result seen_small cell_small c.index-candidates-cell.is
+          c.and-in-loop-cell.ensures));
+      have_thrice = thrice_more unit n c.or.result c.args.candidates.now c.loop-cell.shared c.loop-cell.thrice
+          c.loop-cell.invariant.have_thrice c.loop-cell.invariant.are_shared thrice_small
+          (or_and_read c.loop-cell.thrice at c.index-thrice-unit.result c.and.result c.or.result thrice_small
+          c.or.ensures
+          (and_read c.loop-cell.shared c.args.candidates.now at c.loop-cell.cell c.index-shared-unit.result
+          c.index-candidates-cell.result c.and.result shared_small cell_small c.index-candidates-cell.is
+          c.and.ensures));
     }
 
 pub returns-clause-thrice : goal.returns-clause-thrice
-returns-clause-thrice c = λ a b k v ab bk lt. c.loop-cell.invariant.have_thrice a b k v ab bk (omega (arith, lt, c.loop-cell-test.false))
+returns-clause-thrice c = λ a b k v ab bk lt. c.loop-cell.invariant.have_thrice a b k v ab bk
+    (omega (arith, lt, c.loop-cell-test.false))

@@ -6,4 +6,5 @@ returns-in_default-clause-grows g c = Grows-itself c.args.partial.now
 
 pub returns-then-narrow-clause-grows : goal.returns-then-narrow-clause-grows
 returns-then-narrow-clause-grows g c =
-    Grows-twice c.args.partial.now c.soles.new.partial c.narrowed_soles.new.partial c.soles.ensures.grows c.narrowed_soles.ensures.grows
+    Grows-twice c.args.partial.now c.soles.new.partial c.narrowed_soles.new.partial c.soles.ensures.grows
+    c.narrowed_soles.ensures.grows

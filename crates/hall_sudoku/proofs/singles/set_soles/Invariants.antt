@@ -13,5 +13,6 @@ invariant-loop-cell l = record {
   deduced : IsDeduced (units_question l.units) l.fn.partial.places l.partial.places l.pass;
   grows : Grows l.fn.partial l.partial;
   alive : l.pass ≢ Dead;
-  settled : l.pass ≡ Settled → (c : ℕ) → c < l.cell → get_or l.fn.partial.places c None ≡ None → HasNoSole l.units l.candidates l.shared c;
+  settled : l.pass ≡ Settled → (c : ℕ) → c < l.cell → get_or l.fn.partial.places c None ≡ None
+      → HasNoSole l.units l.candidates l.shared c;
 }

@@ -12,8 +12,10 @@ returns-in-Ok-Present g c = inl (
   rw c.in-Ok-Present.field-0-is at c.in-Ok-Present.ensures.opened,
   rw c.in-Ok-Present.field-0-is at c.in-Ok-Present.ensures.starts,
   rw c.into_connection.ensures.same at c.give_back.ensures,
-  found_written _ g.W.Write.contents _ _ _ c.present_ending-found.result c.write_found.result c.present_ending-found.ensures.text
-      c.present_ending-found.ensures.cause c.present_ending-found.ensures.fault c.write_found.ensures.shown c.write_found.ensures.fault,
+  found_written _ g.W.Write.contents _ _ _ c.present_ending-found.result c.write_found.result
+      c.present_ending-found.ensures.text
+      c.present_ending-found.ensures.cause c.present_ending-found.ensures.fault c.write_found.ensures.shown
+      c.write_found.ensures.fault,
   c.command_end.ensures,
 )
 
@@ -26,7 +28,9 @@ returns-in-Ok-Old g c = inl (
   rw c.in-Ok-Old.field-0-is at c.in-Ok-Old.ensures.opened,
   rw c.in-Ok-Old.field-0-is at c.in-Ok-Old.ensures.starts,
   rw c.into_connection-in-Ok-Old.ensures.same at c.give_back-in-Ok-Old.ensures,
-  found_written _ g.W.Write.contents _ _ _ c.old_ending-found.result c.write_found-in-Ok-Old.result c.old_ending-found.ensures.text
-      c.old_ending-found.ensures.cause c.old_ending-found.ensures.fault c.write_found-in-Ok-Old.ensures.shown c.write_found-in-Ok-Old.ensures.fault,
+  found_written _ g.W.Write.contents _ _ _ c.old_ending-found.result c.write_found-in-Ok-Old.result
+      c.old_ending-found.ensures.text
+      c.old_ending-found.ensures.cause c.old_ending-found.ensures.fault c.write_found-in-Ok-Old.ensures.shown
+      c.write_found-in-Ok-Old.ensures.fault,
   c.command_end-in-Ok-Old.ensures,
 )

@@ -17,7 +17,8 @@ returns-in-Ok-Some g c = (
       | inl it ↦ it.8.rested
       | inr it ↦
           let end = state g.S.Store c.migrate_into-ended.new.source in
-          subst (λ s. KeptTablesIn old_schema (state g.S.Store s) end) it.2 (rests_itself end (rw c.into_connection.ensures.same at c.into_connection.ensures.old))
+          subst (λ s. KeptTablesIn old_schema (state g.S.Store s) end) it.2
+          (rests_itself end (rw c.into_connection.ensures.same at c.into_connection.ensures.old))
     ],
     rw c.in-Ok-Some.field-0-is at c.in-Ok-Some.ensures.starts,
     c.migrate_into-ended.ensures,

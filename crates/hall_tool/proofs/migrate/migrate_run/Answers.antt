@@ -60,5 +60,6 @@ returns-in-Err g c = record {
   part = search rules;
   memory = search rules;
   store = search rules;
-  cause = λ is clean late. c.in-Err.ensures.cause clean late (store_failed c.in-Err.fault c.told.result c.told.ensures is);
+  cause = λ is clean late. c.in-Err.ensures.cause clean late
+      (store_failed c.in-Err.fault c.told.result c.told.ensures is);
 }

@@ -42,7 +42,8 @@ returns-in-Ok-eq0-clause-run g c =
 
 pub returns-in-Ok-eq0-clause-sane : goal.returns-in-Ok-eq0-clause-sane
 returns-in-Ok-eq0-clause-sane g c =
-    then_sane Sane (g.S.ReadStore.content (kept_by c.args.desk.now)) (g.S.ReadStore.content (kept_by c.seed_run.new.desk))
+    then_sane Sane (g.S.ReadStore.content (kept_by c.args.desk.now))
+    (g.S.ReadStore.content (kept_by c.seed_run.new.desk))
     (g.S.ReadStore.content (kept_by c.replay.new.desk)) c.replay.ensures.replayed.leads c.seed_run.ensures.sane
     c.replay.ensures.sane
 

@@ -29,4 +29,5 @@ pub returns-in_err-ending-clause-left : goal.returns-in_err-ending-clause-left
 returns-in_err-ending-clause-left g c =
     let seeded = c.in_ok-seeded.seeded in
     on_err c.from_residual-in_err-ending.result _
-    (nobody_leaves _ _ _ seeded c.in_ok-seeded.ensures.leads c.in_ok-seeded.ensures.seeded c.in_err-ending.ensures.memory)
+    (nobody_leaves _ _ _ seeded c.in_ok-seeded.ensures.leads c.in_ok-seeded.ensures.seeded
+    c.in_err-ending.ensures.memory)

@@ -10,7 +10,8 @@ pub returns-in-Ok-clause-told : goal.returns-in-Ok-clause-told
 returns-in-Ok-clause-told g c =
     let new = g.S.ReadStore.content (kept_by c.plan-planned.new.self) in
     let told = table_told new c.args.round c.in-Ok.plan c.in-Some.t c.in-Some.ensures.value c.in-Ok.ensures.planned in
-    IfOk-weaker c.written_of.result _ _ (λ ending written. (planned_reply c.in-Ok.plan, told, written)) c.written_of.ensures.written
+    IfOk-weaker c.written_of.result _ _ (λ ending written. (planned_reply c.in-Ok.plan, told, written))
+    c.written_of.ensures.written
 
 pub returns-in-Ok-clause-fault : goal.returns-in-Ok-clause-fault
 returns-in-Ok-clause-fault g c = λ failed.
@@ -26,6 +27,7 @@ returns-in-Err-clause-cause g c = elim c.told.ensures [
 
 pub returns-in-Err-clause-fault : goal.returns-in-Err-clause-fault
 returns-in-Err-clause-fault g c = λ failed. elim c.told.ensures [
-  | inl memory ↦ let same : c.told.result ≡ tool.Store = cc in absurd (let no : tool.Memory ≡ tool.Store = sym memory.1 ∙ same in cc)
+  | inl memory ↦ let same : c.told.result ≡ tool.Store = cc in absurd
+      (let no : tool.Memory ≡ tool.Store = sym memory.1 ∙ same in cc)
   | inr store ↦ (rw c.in-Err.is at c.plan-planned.ensures.fault) store.0
 ]

@@ -6,7 +6,8 @@ returns-in-Entry c =
 
 pub returns-in-Tester : goal.returns-in-Tester
 returns-in-Tester c =
-    rw c.in-Tester.is (rw (c.as_str-round-in-Tester.ensures.text, c.as_str-name.ensures.text) at c.write-in-Tester.ensures.bytes)
+    rw c.in-Tester.is (rw (c.as_str-round-in-Tester.ensures.text, c.as_str-name.ensures.text) at
+    c.write-in-Tester.ensures.bytes)
 
 pub returns-in-Answer : goal.returns-in-Answer
 returns-in-Answer c =

@@ -7,5 +7,6 @@ returns-clause-told g c =
     let world = (g.S.ReadStore.content c.puzzle.new.self).world in
     let certified = c.args.self.now in (
       (λ h s. (read.served h).0),
-      (λ h s. c.decide.ensures.decided world (certify_told world _ c.args.action.now certified.key.now certified.budget c.requires.same (read.served h).1)),
+      (λ h s. c.decide.ensures.decided world (certify_told world _ c.args.action.now certified.key.now certified.budget
+          c.requires.same (read.served h).1)),
     )

@@ -13,7 +13,8 @@ returns c = record {
       c.as_slice.ensures.value c.in_ok-people.ensures;
   puzzles = subst (λ rows. IsTally text_cmp (λ (row : PuzzleRow). row.key.author) rows c.in_ok-puzzles.puzzles.entries)
       c.as_slice-2.ensures.value c.in_ok-puzzles.ensures;
-  testers = subst (λ rows. IsTally text_cmp (λ (row : TesterKey × Unit {0}). row.0.round) rows c.in_ok-testers.testers.entries)
+  testers = subst (λ rows. IsTally text_cmp (λ (row : TesterKey × Unit {0}). row.0.round) rows
+      c.in_ok-testers.testers.entries)
       c.as_slice-3.ensures.value c.in_ok-testers.ensures;
   answers = subst (λ rows. IsTally to_puzzle_cmp to_puzzle rows c.in_ok-answers.answers.entries)
       c.as_slice-4.ensures.value c.in_ok-answers.ensures;

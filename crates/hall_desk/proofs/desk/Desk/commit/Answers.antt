@@ -4,13 +4,15 @@ use Rattle.hall_desk.proofs.desk.Desk.commit.Goals as goal
 pub invariant_of-self : goal.invariant_of-self
 invariant_of-self g c =
     let made = c.commit-made.ensures in
-    copies_left g.S.ReadStore.content c.self.inside.store c.commit-made.new.store c.args.plan.change c.commit-made.result c.self.inside.copies
+    copies_left g.S.ReadStore.content c.self.inside.store c.commit-made.new.store c.args.plan.change
+    c.commit-made.result c.self.inside.copies
     c.take.result c.left_by.result c.take-2.result c.left_by-2.result c.take.ensures.value c.take-2.ensures.value
     made.leads made.made (λ idle. (made.nothing idle).1) c.left_by.ensures c.left_by-2.ensures c.self.invariant
 
 pub invariant_of-self-else-writes : goal.invariant_of-self-else-writes
 invariant_of-self-else-writes g c =
     let made = c.commit-made.ensures in
-    copies_left g.S.ReadStore.content c.self.inside.store c.commit-made.new.store c.args.plan.change c.commit-made.result c.self.inside.copies
+    copies_left g.S.ReadStore.content c.self.inside.store c.commit-made.new.store c.args.plan.change
+    c.commit-made.result c.self.inside.copies
     c.take.result c.left_by.result c.take-2.result c.left_by-2.result c.take.ensures.value c.take-2.ensures.value
     made.leads made.made (λ idle. (made.nothing idle).1) c.left_by.ensures c.left_by-2.ensures c.self.invariant

@@ -10,12 +10,15 @@ returns-clause-runs g c =
     c.self.view_is c.run.ensures.runs
 
 pub returns-clause-unique : goal.returns-clause-unique
-returns-clause-unique g c = rw (← c.self.view_is) (λ h s sane. unique_solutions (g.S.ReadStore.content c.run.new.store).world (c.run.ensures.sane h s sane))
+returns-clause-unique g c = rw (← c.self.view_is) (λ h s sane. unique_solutions
+    (g.S.ReadStore.content c.run.new.store).world (c.run.ensures.sane h s sane))
 
 pub returns-clause-right : goal.returns-clause-right
-returns-clause-right g c = rw (← c.self.view_is) (λ h s sane. right_answers (g.S.ReadStore.content c.run.new.store).world (c.run.ensures.sane h s sane))
+returns-clause-right g c = rw (← c.self.view_is) (λ h s sane. right_answers
+    (g.S.ReadStore.content c.run.new.store).world (c.run.ensures.sane h s sane))
 
 pub returns-clause-left : goal.returns-clause-left
 returns-clause-left g c =
-    subst (λ s. IfOk c.run.result (λ replies. LeavesRun (g.S.ReadStore.content s) c.args.requests.now replies.items (g.S.ReadStore.content c.run.new.store)))
+    subst (λ s. IfOk c.run.result (λ replies. LeavesRun (g.S.ReadStore.content s) c.args.requests.now replies.items
+    (g.S.ReadStore.content c.run.new.store)))
     c.self.view_is c.run.ensures.left

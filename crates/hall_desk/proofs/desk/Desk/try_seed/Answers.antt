@@ -10,4 +10,5 @@ returns-clause-seeds g c =
 
 pub returns-clause-stops : goal.returns-clause-stops
 returns-clause-stops g c =
-    subst (λ s. StopsInSeed (g.S.ReadStore.content s) c.args.people.now (g.S.ReadStore.content c.seed.new.store)) c.self.view_is c.seed.ensures.stops
+    subst (λ s. StopsInSeed (g.S.ReadStore.content s) c.args.people.now (g.S.ReadStore.content c.seed.new.store))
+    c.self.view_is c.seed.ensures.stops

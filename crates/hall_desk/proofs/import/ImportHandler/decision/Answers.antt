@@ -9,6 +9,9 @@ returns-clause-told g c =
     let conflict = c.in_ok-facts.ensures in
     let world = (g.S.ReadStore.content c.any_conflict.new.store).world in (
       (λ h s. conflict.told.0 h s),
-      (λ h s. c.decide.ensures.decided world (import_told world _ c.args.action.now c.args.self.now.people.now c.requires.same
-          (subst (λ (list : List Person). IsTrue c.in_ok-facts.field-0 ↔ ((person : Person) × Contains list person × Conflicts world person)) c.as_slice.ensures.value (conflict.told.1 h s)))),
+      (λ h s. c.decide.ensures.decided world (import_told world _ c.args.action.now c.args.self.now.people.now
+          c.requires.same
+          (subst (λ (list : List Person). IsTrue c.in_ok-facts.field-0
+          ↔ ((person : Person) × Contains list person × Conflicts world person)) c.as_slice.ensures.value
+          (conflict.told.1 h s)))),
     )

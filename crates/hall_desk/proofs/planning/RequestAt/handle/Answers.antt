@@ -23,14 +23,21 @@ returns-in-Allow-clause-told g c =
     let new = g.S.ReadStore.content c.plan.new.store in
     let decided = c.in_ok-decision.ensures in
     let kept : Kept old new = kept_then old mid new decided.kept c.plan.ensures.kept in
-    told_through c.plan.result (λ w plan. IsMadePlan w facts.caller action c.args.self.now.t plan) (λ w plan. IsPlanFor w c.args.self.now.t request plan) old mid new c.plan.ensures.kept decided.told.0
+    told_through c.plan.result (λ w plan. IsMadePlan w facts.caller action c.args.self.now.t plan)
+    (λ w plan. IsPlanFor w c.args.self.now.t request plan) old mid new c.plan.ensures.kept decided.told.0
     (λ plan h s made.
     planned facts new.world c.args.self.now.t request Allow plan.reply plan.change plan.visits
     (subst (λ (who : Option Person). IsCaller new.world request.key who) (sym decided.caller)
     (carried (λ w. IsCaller w request.key c.args.facts.now.caller) old new kept c.requires.caller h s))
     (carried (λ w. IsDecided w facts request.action c.args.self.now.t Allow) mid new c.plan.ensures.kept
-    (λ h0 s0. subst (λ (decision : Decision). IsDecided mid.world facts request.action c.args.self.now.t decision) c.in-Allow.is (decided.told.1 h0 s0)) h s)
-    made.found (subst (λ (a : Action). Allowed new.world facts.caller a c.args.self.now.t made.found plan.reply (changed plan.change new.world)) (sym c.requires.same) made.allowed) made.can
-    (λ why. elim why [ inl denied ↦ absurd (denied refl) | inr nothing ↦ made.quiet (subst (λ (a : Action). HasNothingToWrite new.world a) c.requires.same nothing) ])
+    (λ h0 s0. subst (λ (decision : Decision). IsDecided mid.world facts request.action c.args.self.now.t decision)
+    c.in-Allow.is (decided.told.1 h0 s0)) h s)
+    made.found (subst (λ (a : Action). Allowed new.world facts.caller a c.args.self.now.t made.found plan.reply
+    (changed plan.change new.world)) (sym c.requires.same) made.allowed) made.can
+    (λ why. elim why [
+      | inl denied ↦ absurd (denied refl)
+      | inr nothing ↦ made.quiet
+          (subst (λ (a : Action). HasNothingToWrite new.world a) c.requires.same nothing)
+    ])
     (λ allowed. subst (λ (a : Action). HasSearched new.world a plan) (sym c.requires.same) made.searched))
     c.plan.ensures.told

@@ -9,7 +9,8 @@ returns-in-Some-clause-told g c =
     let read = c.in_ok-facts.ensures in
     let world = (g.S.ReadStore.content c.round.new.self).world in (
       (λ h s. (read.served h).0),
-      (λ h s. c.in-Some.ensures.some world (ended_told world _ c.args.action.now c.args.self.now.round.now c.requires.same (read.served h).1.row)),
+      (λ h s. c.in-Some.ensures.some world (ended_told world _ c.args.action.now c.args.self.now.round.now
+          c.requires.same (read.served h).1.row)),
     )
 
 pub returns-clause-told : goal.returns-clause-told
@@ -21,5 +22,6 @@ returns-clause-told g c =
     let id = c.args.self.now.round.now in (
       (λ h s. (looked.served h).0),
       (λ h s. c.decide.ensures.decided last.world (publish_told last.world _ c.args.action.now id c.requires.same
-          (carried (λ w. IsRoundFound w (Some id) c.in_ok-facts.field-0) first last looked.kept (λ h0 s0. (read.served h0).1.row) h s) (looked.served h).1)),
+          (carried (λ w. IsRoundFound w (Some id) c.in_ok-facts.field-0) first last looked.kept
+          (λ h0 s0. (read.served h0).1.row) h s) (looked.served h).1)),
     )

@@ -11,7 +11,8 @@ returns-in-Some-clause-told g c =
     let world = (g.S.ReadStore.content c.any_lacking.new.store).world in
     let put = c.args.self.now in (
       (λ h s. lacks.told.0 h s),
-      (λ h s. c.in-Some.ensures.some world (sheet_told world _ c.args.action.now put.round.now put.sheet.now c.requires.same (lacks.told.1 h s))),
+      (λ h s. c.in-Some.ensures.some world (sheet_told world _ c.args.action.now put.round.now put.sheet.now
+          c.requires.same (lacks.told.1 h s))),
     )
 
 pub returns-clause-told : goal.returns-clause-told
@@ -23,7 +24,8 @@ returns-clause-told g c =
     let put = c.args.self.now in
     let lacking : World → Type 0 = λ w. IsTrue c.in_ok-facts.field-0 ↔ SheetLacks w put.sheet.now in (
       (λ h s. (read.served h).0),
-      (λ h s. c.decide.ensures.decided last.world (replaced_told last.world _ c.args.action.now put.round.now put.sheet.now c.requires.same
+      (λ h s. c.decide.ensures.decided last.world (replaced_told last.world _ c.args.action.now put.round.now
+          put.sheet.now c.requires.same
           (carried lacking first last read.kept lacks.told.1 h s)
           (read.served h).1.row)),
     )

@@ -12,7 +12,8 @@ returns-in-Some-clause-told g c =
     let read = c.in_ok-facts.ensures in
     let world = (g.S.ReadStore.content c.round.new.self).world in (
       (λ h s. (read.served h).0),
-      (λ h s. c.in-Some.ensures.some world (draft_told world _ c.args.action.now c.args.self.now.round.now c.requires.same (read.served h).1.row)),
+      (λ h s. c.in-Some.ensures.some world (draft_told world _ c.args.action.now c.args.self.now.round.now
+          c.requires.same (read.served h).1.row)),
     )
 
 pub returns-in-Some-decide_up_to-clause-told : goal.returns-in-Some-decide_up_to-clause-told
@@ -25,7 +26,8 @@ returns-in-Some-decide_up_to-clause-told g c =
     let id = c.args.self.now.round.now in (
       (λ h s. shared.told.0 h (read.served (shared.kept.honest h)).0),
       (λ h s. c.in-Some-decide_up_to.ensures.some world (shared_told world _ c.args.action.now id c.requires.same
-          (carried (λ w. IsRoundFound w (Some id) c.in_ok-facts.field-0) first last shared.kept (λ h0 s0. (read.served h0).1.row) h s) (shared.told.1 h s))),
+          (carried (λ w. IsRoundFound w (Some id) c.in_ok-facts.field-0) first last shared.kept
+          (λ h0 s0. (read.served h0).1.row) h s) (shared.told.1 h s))),
     )
 
 pub returns-clause-told : goal.returns-clause-told
@@ -41,6 +43,8 @@ returns-clause-told g c =
     let from_first : Kept first last = kept_then first second last shared.kept uncertified.kept in (
       (λ h s. uncertified.told.0 h (shared.told.0 (uncertified.kept.honest h) (read.served (from_first.honest h)).0)),
       (λ h s. c.decide.ensures.decided world (faults_told world _ c.args.action.now id c.requires.same
-          (carried (λ w. IsRoundFound w (Some id) c.in_ok-facts.field-0) first last from_first (λ h0 s0. (read.served h0).1.row) h s)
-          (carried (λ w. IsTrue c.in_ok-facts-2.field-0 ↔ HasFaultyEntry Shared w id) second last uncertified.kept shared.told.1 h s) (uncertified.told.1 h s))),
+          (carried (λ w. IsRoundFound w (Some id) c.in_ok-facts.field-0) first last from_first
+          (λ h0 s0. (read.served h0).1.row) h s)
+          (carried (λ w. IsTrue c.in_ok-facts-2.field-0 ↔ HasFaultyEntry Shared w id) second last uncertified.kept
+          shared.told.1 h s) (uncertified.told.1 h s))),
     )

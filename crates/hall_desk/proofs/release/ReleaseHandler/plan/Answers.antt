@@ -7,5 +7,6 @@ returns-clause-told g c =
     let world = (g.S.ReadStore.content c.args._store.now).world in
     let plan = c.in_ok-release_round.field-0 in (
       (λ h s. s),
-      (λ h s. made_anyhow world c.args.facts.now.caller (release_action c.args.self.now) c.args._t plan (c.in_ok-release_round.ensures world (c.requires.told h s) c.args._t)),
+      (λ h s. made_anyhow world c.args.facts.now.caller (release_action c.args.self.now) c.args._t plan
+          (c.in_ok-release_round.ensures world (c.requires.told h s) c.args._t)),
     )

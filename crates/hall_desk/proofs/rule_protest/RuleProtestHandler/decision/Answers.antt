@@ -16,8 +16,10 @@ returns-in-Some-clause-told g c =
     let asked = c.args.self.now in (
       (λ h s. (standing.served h).0),
       (λ h s. c.in-Some.ensures.some last.world
-          (protest_there_told last.world _ c.args.action.now asked.round.now asked.entrant.now asked.token.now asked.ruling c.requires.same
-          (carried (λ w. IsRoundFound w (Some asked.round.now) c.in_ok-facts.field-0) first last standing.kept (λ h0 s0. (read.served h0).1.row) h s)
+          (protest_there_told last.world _ c.args.action.now asked.round.now asked.entrant.now asked.token.now
+          asked.ruling c.requires.same
+          (carried (λ w. IsRoundFound w (Some asked.round.now) c.in_ok-facts.field-0) first last standing.kept
+          (λ h0 s0. (read.served h0).1.row) h s)
           ((standing.served h).1 ∙ ap (get last.world.protests) c.in_ok-key.ensures))),
     )
 
@@ -33,8 +35,11 @@ returns-clause-told g c =
     let from_first : Kept first last = kept_then first second last standing.kept looked.kept in (
       (λ h s. looked.told.0 h (standing.served (looked.kept.honest h)).0),
       (λ h s. c.decide.ensures.decided last.world
-          (rule_told last.world _ c.args.action.now asked.round.now asked.entrant.now asked.token.now asked.ruling c.requires.same
-          (carried (λ w. IsRoundFound w (Some asked.round.now) c.in_ok-facts.field-0) first last from_first (λ h0 s0. (read.served h0).1.row) h s)
+          (rule_told last.world _ c.args.action.now asked.round.now asked.entrant.now asked.token.now asked.ruling
+          c.requires.same
+          (carried (λ w. IsRoundFound w (Some asked.round.now) c.in_ok-facts.field-0) first last from_first
+          (λ h0 s0. (read.served h0).1.row) h s)
           (carried (λ w. c.in_ok-facts-2.field-0 ≡ get w.protests (ruled_key asked)) second last looked.kept
-          (λ h0 s0. (standing.served h0).1 ∙ ap (get second.world.protests) c.in_ok-key.ensures) h s) (looked.told.1 h s))),
+          (λ h0 s0. (standing.served h0).1 ∙ ap (get second.world.protests) c.in_ok-key.ensures) h s)
+          (looked.told.1 h s))),
     )

@@ -12,5 +12,6 @@ find_solutions-requires g c = λ h s sane.
     let id = c.args.self.now.round.now in
     let row = c.in-Some.row in
     subst (λ (entries : List Entry). AreInStateOne world entries) (sym c.as_slice.ensures.value)
-    (listed_in_state_one world id row (subst (λ (found : Option RoundRow). IsRoundFound world (Some id) found) c.in-Some.is (c.requires.told h s).1.1.0)
+    (listed_in_state_one world id row (subst (λ (found : Option RoundRow). IsRoundFound world (Some id) found)
+    c.in-Some.is (c.requires.told h s).1.1.0)
     (solutions_released c.args.facts.now id row c.requires.allowed.object c.in-Some.is) sane)

@@ -13,7 +13,8 @@ returns-in-Some-clause-told g c =
     let asked = c.args.self.now in (
       (λ h s. (read.served h).0),
       (λ h s. c.in-Some.ensures.some world
-          (place_told world _ c.args.action.now asked.round.now asked.number asked.token.now asked.answer.now c.requires.same (read.served h).1.row)),
+          (place_told world _ c.args.action.now asked.round.now asked.number asked.token.now asked.answer.now
+          c.requires.same (read.served h).1.row)),
     )
 
 pub returns-in-Some-decide_up_to-clause-told : goal.returns-in-Some-decide_up_to-clause-told
@@ -25,8 +26,10 @@ returns-in-Some-decide_up_to-clause-told g c =
     let asked = c.args.self.now in (
       (λ h s. standing.told.0 h (read.served (standing.kept.honest h)).0),
       (λ h s. c.in-Some-decide_up_to.ensures.some last.world
-          (token_told last.world _ c.args.action.now asked.round.now asked.number asked.token.now asked.answer.now c.requires.same
-          (carried (λ w. IsRoundFound w (Some asked.round.now) c.in_ok-facts.field-0) first last standing.kept (λ h0 s0. (read.served h0).1.row) h s) (standing.told.1 h s))),
+          (token_told last.world _ c.args.action.now asked.round.now asked.number asked.token.now asked.answer.now
+          c.requires.same
+          (carried (λ w. IsRoundFound w (Some asked.round.now) c.in_ok-facts.field-0) first last standing.kept
+          (λ h0 s0. (read.served h0).1.row) h s) (standing.told.1 h s))),
     )
 
 pub returns-clause-told : goal.returns-clause-told
@@ -41,7 +44,10 @@ returns-clause-told g c =
     let from_first : Kept first last = kept_then first second last standing.kept given.kept in (
       (λ h s. given.told.0 h (standing.told.0 (given.kept.honest h) (read.served (from_first.honest h)).0)),
       (λ h s. c.decide.ensures.decided last.world
-          (submit_told last.world _ c.args.action.now asked.round.now asked.number asked.token.now asked.answer.now c.requires.same
-          (carried (λ w. IsRoundFound w (Some asked.round.now) c.in_ok-facts.field-0) first last from_first (λ h0 s0. (read.served h0).1.row) h s)
-          (carried (λ w. IsAnswerOf w c.args.facts.now.caller asked c.in_ok-facts-2.field-0) second last given.kept standing.told.1 h s) (given.told.1 h s))),
+          (submit_told last.world _ c.args.action.now asked.round.now asked.number asked.token.now asked.answer.now
+          c.requires.same
+          (carried (λ w. IsRoundFound w (Some asked.round.now) c.in_ok-facts.field-0) first last from_first
+          (λ h0 s0. (read.served h0).1.row) h s)
+          (carried (λ w. IsAnswerOf w c.args.facts.now.caller asked c.in_ok-facts-2.field-0) second last given.kept
+          standing.told.1 h s) (given.told.1 h s))),
     )

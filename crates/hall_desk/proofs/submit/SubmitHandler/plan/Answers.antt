@@ -15,7 +15,8 @@ pub judge_at-requires-clause-listed : goal.judge_at-requires-clause-listed
 judge_at-requires-clause-listed g c = λ h s.
     let world = (g.S.ReadStore.content c.args.store.now).world in
     let id = c.args.self.now.round.now in
-    listed_kept world id c.in-Some-Some.row (subst (λ (found : Option RoundRow). IsRoundFound world (Some id) found) c.in-Some-Some.is-1 (c.requires.told h s).1.1.0)
+    listed_kept world id c.in-Some-Some.row (subst (λ (found : Option RoundRow). IsRoundFound world (Some id) found)
+    c.in-Some-Some.is-1 (c.requires.told h s).1.1.0)
 
 pub returns-then-branch-clause-fault : goal.returns-then-branch-clause-fault
 returns-then-branch-clause-fault g c =
@@ -27,8 +28,11 @@ returns-then-branch-clause-fault g c =
     let kept : Kept old new = kept_then old mid new c.in_ok-verdict.ensures.kept c.in_ok-is_number_taken.ensures.kept in
     λ _. inr (λ h.
     let read = c.in_ok-is_number_taken.ensures.served h in
-    let told = carried (λ w. AreTrue facts w (submit_action asked)) old new kept c.requires.told h read.0 in
-    (read.0, λ sane. number_free new.world facts asked c.in-Some-Some.person _ c.in-Some-Some.is-0 told c.number_after-n.ensures sane (read.1.0 c.if-branch.true)))
+    let told = carried (λ w. AreTrue facts w (submit_action asked)) old new kept c.requires.told h read.0 in (
+      read.0,
+      λ sane. number_free new.world facts asked c.in-Some-Some.person _ c.in-Some-Some.is-0 told
+          c.number_after-n.ensures sane (read.1.0 c.if-branch.true),
+    ))
 
 pub returns-clause-told : goal.returns-clause-told
 returns-clause-told g c =
@@ -45,9 +49,12 @@ returns-clause-told g c =
     let kept : Kept old new = kept_then old mid new judged.kept read.kept in (
       (λ h s. (read.served h).0),
       (λ h s. submitted new.world facts asked person c.number_after-n.result c.in-Some-Some.is-0
-          (carried (λ w. AreTrue facts w (submit_action asked)) old new kept c.requires.told h s) c.number_after-n.ensures
+          (carried (λ w. AreTrue facts w (submit_action asked)) old new kept c.requires.told h s)
+          c.number_after-n.ensures
           c.args.t verdict row c.in_ok-submitted.field-0 c.in-Some-Some.is-1 c.requires.allowed.token
           (carried (λ w. IsThere w facts.caller) old new kept c.requires.there h s)
-          (carried (λ w. IsJudgedAt w row asked.number asked.answer.now verdict) mid new read.kept (λ h0 s0. (judged.served h0).1) h s)
-          (λ taken. false≢true (sym c.if-branch.false ∙ (read.served h).1.1 taken)) c.in_ok-submitted.ensures.reply c.in_ok-submitted.ensures.change),
+          (carried (λ w. IsJudgedAt w row asked.number asked.answer.now verdict) mid new read.kept
+          (λ h0 s0. (judged.served h0).1) h s)
+          (λ taken. false≢true (sym c.if-branch.false ∙ (read.served h).1.1 taken)) c.in_ok-submitted.ensures.reply
+          c.in_ok-submitted.ensures.change),
     )

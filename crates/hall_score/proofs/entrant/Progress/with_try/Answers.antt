@@ -5,4 +5,5 @@ use Rattle.hall_score.proofs.entrant.Progress.with_try.Goals as goal
 pub returns : goal.returns
 returns c = λ rows is.
     try_work c.args.round.now rows c.args.row.now c.args.self.now _ is c.requires.number c.requires.n refl refl refl
-    (c.with.ensures.tries is.current (tried_before c.args.round.now rows c.args.self.now c.args.row.now is c.requires.number c.requires.n) is.tries)
+    (c.with.ensures.tries is.current (tried_before c.args.round.now rows c.args.self.now c.args.row.now is
+    c.requires.number c.requires.n) is.tries)

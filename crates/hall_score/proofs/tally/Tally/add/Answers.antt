@@ -6,4 +6,5 @@ pub returns-in-Some : goal.returns-in-Some
 returns-in-Some c =
     let entrant = c.in-Some.entrant in
     let next = next_at c.args.self.now.last entrant c.args.row.now c.in-Some.is c.requires in
-    next_takes c.args.self.now _ c.args.row.now entrant _ c.in-Some.is next.0 next.1 refl refl refl refl refl c.with-entrant.ensures
+    next_takes c.args.self.now _ c.args.row.now entrant _ c.in-Some.is next.0 next.1 refl refl refl refl refl
+    c.with-entrant.ensures

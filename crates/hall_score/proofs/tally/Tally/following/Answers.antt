@@ -4,7 +4,8 @@ use Rattle.hall_score.proofs.tally.Tally.following.Goals as goal
 
 pub returns-then-is_before : goal.returns-then-is_before
 returns-then-is_before c =
-    turn_next c.args.self.now.last c.in-Some.entrant c.args.row.now c.in-Some.is (sym c.cmp.ensures ∙ c.in-Equal.is) (c.is_before.ensures.0 c.if-is_before.true)
+    turn_next c.args.self.now.last c.in-Some.entrant c.args.row.now c.in-Some.is (sym c.cmp.ensures ∙ c.in-Equal.is)
+    (c.is_before.ensures.0 c.if-is_before.true)
 
 pub returns-else-is_before : goal.returns-else-is_before
 returns-else-is_before c =

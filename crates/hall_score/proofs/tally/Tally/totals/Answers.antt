@@ -5,5 +5,7 @@ use Rattle.hall_score.proofs.tally.Tally.totals.Goals as goal
 
 pub returns : goal.returns
 returns c = λ round protests answers fresh between is first second.
-    let taken = took_answers round protests between [] answers c.args.self (took_protests round fresh [] protests between is first) second in
-    subst (AreTotalsOf round protests answers) (sym c.into_list.ensures) (c.in_ok-close.ensures.ok round protests answers taken)
+    let taken = took_answers round protests between [] answers c.args.self
+    (took_protests round fresh [] protests between is first) second in
+    subst (AreTotalsOf round protests answers) (sym c.into_list.ensures)
+    (c.in_ok-close.ensures.ok round protests answers taken)

@@ -20,13 +20,17 @@ pub returns-in_err-lines-clause-lines : goal.returns-in_err-lines-clause-lines
 returns-in_err-lines-clause-lines c = IfOk-from_err c.from_residual.result _ c.from_residual.ensures.0
 
 pub returns-in_err-labels-clause-board : goal.returns-in_err-labels-clause-board
-returns-in_err-labels-clause-board c = IfOk-from_err c.from_residual-in_err-labels.result _ c.from_residual-in_err-labels.ensures.0
+returns-in_err-labels-clause-board c = IfOk-from_err c.from_residual-in_err-labels.result _
+    c.from_residual-in_err-labels.ensures.0
 
 pub returns-in_err-labels-clause-lines : goal.returns-in_err-labels-clause-lines
-returns-in_err-labels-clause-lines c = IfOk-from_err c.from_residual-in_err-labels.result _ c.from_residual-in_err-labels.ensures.0
+returns-in_err-labels-clause-lines c = IfOk-from_err c.from_residual-in_err-labels.result _
+    c.from_residual-in_err-labels.ensures.0
 
 pub returns-in_err-ends-clause-board : goal.returns-in_err-ends-clause-board
-returns-in_err-ends-clause-board c = IfOk-from_err c.from_residual-in_err-ends.result _ c.from_residual-in_err-ends.ensures.0
+returns-in_err-ends-clause-board c = IfOk-from_err c.from_residual-in_err-ends.result _
+    c.from_residual-in_err-ends.ensures.0
 
 pub returns-in_err-ends-clause-lines : goal.returns-in_err-ends-clause-lines
-returns-in_err-ends-clause-lines c = IfOk-from_err c.from_residual-in_err-ends.result _ c.from_residual-in_err-ends.ensures.0
+returns-in_err-ends-clause-lines c = IfOk-from_err c.from_residual-in_err-ends.result _
+    c.from_residual-in_err-ends.ensures.0

@@ -13,6 +13,8 @@ returns-clause-obeyed c = λ colour obeys differ.
     let link = c.index-link.result.now in
     let first = Obeys-set links c.args.lower hung colour (subst (λ xs. Obeys xs colour) (sym c.self.view_is) obeys)
     (subst (λ xs. c.args.lower < length xs) (sym c.self.view_is) c.requires.lower) differ in
-    let low : c.args.upper < length middle = (let size = length-set links c.args.lower hung in let upper = subst (λ xs. c.args.upper < length xs) (sym c.self.view_is) c.requires.upper in omega arith) in
-    Obeys-set middle c.args.upper (record { to = link.to; differs = link.differs; weight = c.saturating_add.result }) colour first low
+    let low : c.args.upper < length middle = (let size = length-set links c.args.lower hung in let upper = subst
+    (λ xs. c.args.upper < length xs) (sym c.self.view_is) c.requires.upper in omega arith) in
+    Obeys-set middle c.args.upper (record { to = link.to; differs = link.differs; weight = c.saturating_add.result })
+    colour first low
     (AreTurned-link middle c.args.upper link colour first low c.index-link.ensures)

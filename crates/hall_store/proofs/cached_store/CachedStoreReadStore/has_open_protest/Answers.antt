@@ -3,5 +3,7 @@ use Rattle.hall_store.proofs.cached_store.CachedStoreReadStore.has_open_protest.
 
 pub invariant_of-self : goal.invariant_of-self
 invariant_of-self g c =
-    read_agrees c.has_open_protest-told.result (g.S.ReadStore.content c.self.inside.store) (g.S.ReadStore.content c.has_open_protest-told.new.self) c.self.inside.cache c.forget_if_refused.new.self _
-    c.self.invariant c.has_open_protest-told.ensures.kept c.has_open_protest-told.ensures.served c.forget_if_refused.ensures.kept c.forget_if_refused.ensures.forgot
+    read_agrees c.has_open_protest-told.result (g.S.ReadStore.content c.self.inside.store)
+    (g.S.ReadStore.content c.has_open_protest-told.new.self) c.self.inside.cache c.forget_if_refused.new.self _
+    c.self.invariant c.has_open_protest-told.ensures.kept c.has_open_protest-told.ensures.served
+    c.forget_if_refused.ensures.kept c.forget_if_refused.ensures.forgot

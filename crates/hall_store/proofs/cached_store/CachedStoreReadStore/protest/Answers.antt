@@ -3,5 +3,7 @@ use Rattle.hall_store.proofs.cached_store.CachedStoreReadStore.protest.Goals as 
 
 pub invariant_of-self : goal.invariant_of-self
 invariant_of-self g c =
-    read_agrees c.protest-told.result (g.S.ReadStore.content c.self.inside.store) (g.S.ReadStore.content c.protest-told.new.self) c.self.inside.cache c.forget_if_refused.new.self _
-    c.self.invariant c.protest-told.ensures.kept c.protest-told.ensures.served c.forget_if_refused.ensures.kept c.forget_if_refused.ensures.forgot
+    read_agrees c.protest-told.result (g.S.ReadStore.content c.self.inside.store)
+    (g.S.ReadStore.content c.protest-told.new.self) c.self.inside.cache c.forget_if_refused.new.self _
+    c.self.invariant c.protest-told.ensures.kept c.protest-told.ensures.served c.forget_if_refused.ensures.kept
+    c.forget_if_refused.ensures.forgot

@@ -3,5 +3,7 @@ use Rattle.hall_store.proofs.cached_store.CachedStoreStore.add_answer.Goals as g
 
 pub invariant_of-self : goal.invariant_of-self
 invariant_of-self g c =
-    write_agrees c.add_answer-told.result _ (g.S.ReadStore.content c.self.inside.store) (g.S.ReadStore.content c.add_answer-told.new.self) c.self.inside.cache c.forget_if_refused.new.self (answers_spare c.args.row)
+    write_agrees c.add_answer-told.result _ (g.S.ReadStore.content c.self.inside.store)
+    (g.S.ReadStore.content c.add_answer-told.new.self) c.self.inside.cache c.forget_if_refused.new.self
+    (answers_spare c.args.row)
     c.self.invariant c.add_answer-told.ensures.makes c.forget_if_refused.ensures.kept c.forget_if_refused.ensures.forgot

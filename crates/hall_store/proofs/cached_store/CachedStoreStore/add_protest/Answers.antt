@@ -3,5 +3,8 @@ use Rattle.hall_store.proofs.cached_store.CachedStoreStore.add_protest.Goals as 
 
 pub invariant_of-self : goal.invariant_of-self
 invariant_of-self g c =
-    write_agrees c.add_protest-told.result _ (g.S.ReadStore.content c.self.inside.store) (g.S.ReadStore.content c.add_protest-told.new.self) c.self.inside.cache c.forget_if_refused.new.self (protests_spare c.args.row)
-    c.self.invariant c.add_protest-told.ensures.makes c.forget_if_refused.ensures.kept c.forget_if_refused.ensures.forgot
+    write_agrees c.add_protest-told.result _ (g.S.ReadStore.content c.self.inside.store)
+    (g.S.ReadStore.content c.add_protest-told.new.self) c.self.inside.cache c.forget_if_refused.new.self
+    (protests_spare c.args.row)
+    c.self.invariant c.add_protest-told.ensures.makes c.forget_if_refused.ensures.kept
+    c.forget_if_refused.ensures.forgot

@@ -15,6 +15,8 @@ pub returns-clause-served : goal.returns-clause-served
 returns-clause-served c = λ _. (
   tt,
   c.in_ok-answer_with.ensures
-      ∙ ap (λ (s : AnswerSlot). find (has_token c.args.key.now.token) (filter (λ (row : AnswerRow). agree Puzzle (slot_of row) s) (values_of c.args.self.now.answers.entries))) c.in_ok-first.ensures
+      ∙ ap (λ (s : AnswerSlot). find (has_token c.args.key.now.token)
+      (filter (λ (row : AnswerRow). agree Puzzle (slot_of row) s) (values_of c.args.self.now.answers.entries)))
+      c.in_ok-first.ensures
       ∙ sym (get_answer c.args.self.now c.args.key.now),
 )

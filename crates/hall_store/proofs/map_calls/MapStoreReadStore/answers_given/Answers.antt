@@ -14,6 +14,7 @@ pub returns-clause-served : goal.returns-clause-served
 returns-clause-served c = λ _. (
   tt,
   c.count_answers.ensures.count
-      ∙ ap (λ (s : AnswerSlot). count_by (λ (row : AnswerRow). agree Puzzle (slot_of row) s) (values_of c.args.self.now.answers.entries)) c.in_ok-first.ensures
+      ∙ ap (λ (s : AnswerSlot). count_by (λ (row : AnswerRow). agree Puzzle (slot_of row) s)
+      (values_of c.args.self.now.answers.entries)) c.in_ok-first.ensures
       ∙ counted c.args.self.now c.args.entrant.now c.args.round.now c.args.number,
 )

@@ -11,13 +11,19 @@ use Rattle.hall_store.proofs.AnswerWorlds.{listed_in}
 use Rattle.hall_store.proofs.map_calls.MapStoreReadStore.answers_in.Goals as goal
 
 pub answer_rows-requires-clause-first : goal.answer_rows-requires-clause-first
-answer_rows-requires-clause-first c = (ap (λ (s : AnswerSlot). s.entrant) c.in_ok-first.ensures, ap (λ (s : AnswerSlot). s.number) c.in_ok-first.ensures, ap (λ (s : AnswerSlot). s.n) c.in_ok-first.ensures)
+answer_rows-requires-clause-first c = (
+  ap (λ (s : AnswerSlot). s.entrant) c.in_ok-first.ensures,
+  ap
+      (λ (s : AnswerSlot). s.number) c.in_ok-first.ensures,
+  ap (λ (s : AnswerSlot). s.n) c.in_ok-first.ensures,
+)
 
 pub returns-clause-served : goal.returns-clause-served
 returns-clause-served c = λ _. (
   tt,
   subst (IsListing (world_of_maps c.args.self.now) (is_in c.args.round.now))
       (sym (c.in_ok-answer_rows.ensures.rows
-      ∙ ap (λ (s : AnswerSlot). filter (λ (row : AnswerRow). agree Round (slot_of row) s) (values_of c.args.self.now.answers.entries)) c.in_ok-first.ensures))
+      ∙ ap (λ (s : AnswerSlot). filter (λ (row : AnswerRow). agree Round (slot_of row) s)
+      (values_of c.args.self.now.answers.entries)) c.in_ok-first.ensures))
       (listed_in c.args.self.now c.args.round.now c.answer_rows.ensures.ordered),
 )

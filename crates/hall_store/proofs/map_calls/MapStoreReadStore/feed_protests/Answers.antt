@@ -17,27 +17,34 @@ use Rattle.hall_store.proofs.map_calls.MapStoreReadStore.feed_protests.Goals as 
 abbrev rows_in : MapStore → List ℕ → List ProtestRow
 rows_in store round = filter (is_protest_in round) (values_of store.protests.entries)
 
-made : (store : MapStore) (round : List ℕ) → IsStrictlySortedBy protest_cmp (keys_of store.protests.entries) → rows_in store round ≡ protests_in (world_of_maps store) round
+made : (store : MapStore) (round : List ℕ) → IsStrictlySortedBy protest_cmp (keys_of store.protests.entries)
+    → rows_in store round ≡ protests_in (world_of_maps store) round
 made store round ordered =
-    ap (λ (es : List (ProtestKey × ProtestRow)). filter (is_protest_in round) (values_of es)) (sym (entries_made protest_total same_protest_keys store.protests.entries ordered))
+    ap (λ (es : List (ProtestKey × ProtestRow)). filter (is_protest_in round) (values_of es))
+    (sym (entries_made protest_total same_protest_keys store.protests.entries ordered))
 
 pub returns-in_err-feed_protests-clause-fed : goal.returns-in_err-feed_protests-clause-fed
 returns-in_err-feed_protests-clause-fed g c =
     let store = c.args.self.now in
     let round = c.args.round.now in
-    (fed_or_refused g.K.Sink.refuses (λ world rows. rows ≡ protests_in world round) (content_of_maps store) c.args.sink.now c.feed_protests.new.sink (rows_in store round)
-    (made store round c.feed_protests.ensures.ordered) tt c.in_err-feed_protests.field-0.0 c.from_residual.result c.in_err-feed_protests.ensures.stopped c.from_residual.ensures.1).0
+    (fed_or_refused g.K.Sink.refuses (λ world rows. rows ≡ protests_in world round) (content_of_maps store)
+    c.args.sink.now c.feed_protests.new.sink (rows_in store round)
+    (made store round c.feed_protests.ensures.ordered) tt c.in_err-feed_protests.field-0.0 c.from_residual.result
+    c.in_err-feed_protests.ensures.stopped c.from_residual.ensures.1).0
 
 pub returns-in_err-feed_protests-clause-fault : goal.returns-in_err-feed_protests-clause-fault
 returns-in_err-feed_protests-clause-fault g c =
     let store = c.args.self.now in
     let round = c.args.round.now in
-    (fed_or_refused g.K.Sink.refuses (λ world rows. rows ≡ protests_in world round) (content_of_maps store) c.args.sink.now c.feed_protests.new.sink (rows_in store round)
-    (made store round c.feed_protests.ensures.ordered) tt c.in_err-feed_protests.field-0.0 c.from_residual.result c.in_err-feed_protests.ensures.stopped c.from_residual.ensures.1).1
+    (fed_or_refused g.K.Sink.refuses (λ world rows. rows ≡ protests_in world round) (content_of_maps store)
+    c.args.sink.now c.feed_protests.new.sink (rows_in store round)
+    (made store round c.feed_protests.ensures.ordered) tt c.in_err-feed_protests.field-0.0 c.from_residual.result
+    c.in_err-feed_protests.ensures.stopped c.from_residual.ensures.1).1
 
 pub returns-clause-fed : goal.returns-clause-fed
 returns-clause-fed g c =
     let store = c.args.self.now in
     let round = c.args.round.now in
-    fed_whole g.K.Sink.refuses (λ world rows. rows ≡ protests_in world round) (content_of_maps store) c.args.sink.now c.feed_protests.new.sink (rows_in store round)
+    fed_whole g.K.Sink.refuses (λ world rows. rows ≡ protests_in world round) (content_of_maps store) c.args.sink.now
+    c.feed_protests.new.sink (rows_in store round)
     (made store round c.feed_protests.ensures.ordered) tt c.in_ok-feed_protests.ensures.fed

@@ -8,6 +8,8 @@ use Rattle.hall_store.proofs.map_calls.MapStoreReadStore.is_number_taken.Goals a
 pub returns-clause-served : goal.returns-clause-served
 returns-clause-served c = λ _. (
   tt,
-  subst (λ (s : AnswerSlot). IsTrue c.is_taken.result ↔ IsNumberTaken (world_of_maps c.args.self.now) s.entrant s.round s.number s.n) c.in_ok-slot.ensures
-      (number_taken c.args.self.now c.in_ok-slot.slot c.is_taken.ensures.ordered c.is_taken.result c.is_taken.ensures.taken),
+  subst (λ (s : AnswerSlot). IsTrue c.is_taken.result ↔ IsNumberTaken (world_of_maps c.args.self.now) s.entrant s.round
+      s.number s.n) c.in_ok-slot.ensures
+      (number_taken c.args.self.now c.in_ok-slot.slot c.is_taken.ensures.ordered c.is_taken.result
+      c.is_taken.ensures.taken),
 )

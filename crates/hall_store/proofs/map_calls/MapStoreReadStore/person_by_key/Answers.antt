@@ -8,5 +8,6 @@ use Rattle.hall_store.proofs.map_calls.MapStoreReadStore.person_by_key.Goals as 
 pub returns-clause-served : goal.returns-clause-served
 returns-clause-served c = λ _. (
   tt,
-  subst (λ (found : Option Person). IsKeyHolder (world_of_maps c.args.self.now) c.args.key.now found) (sym c.in_ok-holder.ensures) (holder_found c.args.self.now c.args.key.now),
+  subst (λ (found : Option Person). IsKeyHolder (world_of_maps c.args.self.now) c.args.key.now found)
+      (sym c.in_ok-holder.ensures) (holder_found c.args.self.now c.args.key.now),
 )

@@ -25,7 +25,9 @@ returns-clause-served c =
       c.count_protests.ensures.count
           ∙ ap (λ (k : ProtestKey). count_by (is_protest_of k.entrant k.round) (values_of es)) c.in_ok-first.ensures
           ∙ sym (length-filter (is_protest_of entrant round) (values_of es))
-          ∙ ap length (filter_agree (is_protest_of entrant round) theirs (λ row. and_turned (same_text row.key.round round) (same_text row.key.entrant entrant)) (values_of es))
+          ∙ ap length (filter_agree (is_protest_of entrant round) theirs
+          (λ row. and_turned (same_text row.key.round round) (same_text row.key.entrant entrant)) (values_of es))
           ∙ length-filter theirs (values_of es)
-          ∙ ap (λ (es : List (ProtestKey × ProtestRow)). count_by theirs (values_of es)) (sym (entries_made protest_total same_protest_keys es c.count_protests.ensures.ordered)),
+          ∙ ap (λ (es : List (ProtestKey × ProtestRow)). count_by theirs (values_of es))
+          (sym (entries_made protest_total same_protest_keys es c.count_protests.ensures.ordered)),
     )

@@ -15,6 +15,7 @@ returns-clause-served c =
       tt,
       c.in_ok-protest_rows.ensures.rows
           ∙ ap (λ (k : ProtestKey). filter (is_protest_of k.entrant k.round) (values_of es)) c.in_ok-first.ensures
-          ∙ ap (λ (es : List (ProtestKey × ProtestRow)). filter (is_protest_of c.args.entrant.now c.args.round.now) (values_of es))
+          ∙ ap (λ (es : List (ProtestKey × ProtestRow)). filter (is_protest_of c.args.entrant.now c.args.round.now)
+          (values_of es))
           (sym (entries_made protest_total same_protest_keys es c.protest_rows.ensures.ordered)),
     )

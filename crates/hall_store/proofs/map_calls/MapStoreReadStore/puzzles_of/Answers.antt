@@ -9,12 +9,16 @@ use Rattle.hall_store.proofs.map_calls.MapStoreReadStore.puzzles_of.Goals as goa
 
 pub returns-clause-served : goal.returns-clause-served
 returns-clause-served c =
-    let author : c.in_ok-first.first.author ≡ c.args.author.now = ap (λ (k : PuzzleKey). k.author) c.in_ok-first.ensures in
+    let author : c.in_ok-first.first.author ≡ c.args.author.now = ap (λ (k : PuzzleKey). k.author)
+    c.in_ok-first.ensures in
     let es : List (PuzzleKey × PuzzleRow) = c.args.self.now.puzzles.entries in
     λ _. (
       tt,
       c.in_ok-puzzle_rows.ensures.rows
-          ∙ ap (λ (a : List ℕ). filter (λ (row : PuzzleRow). same_text row.key.author a) (map (λ (e : PuzzleKey × PuzzleRow). e.1) es)) author
-          ∙ ap (λ (es : List (PuzzleKey × PuzzleRow)). filter (λ (row : PuzzleRow). same_text row.key.author c.args.author.now) (map (λ (e : PuzzleKey × PuzzleRow). e.1) es))
+          ∙ ap (λ (a : List ℕ). filter (λ (row : PuzzleRow). same_text row.key.author a)
+          (map (λ (e : PuzzleKey × PuzzleRow). e.1) es)) author
+          ∙ ap (λ (es : List (PuzzleKey × PuzzleRow)). filter
+          (λ (row : PuzzleRow). same_text row.key.author c.args.author.now)
+          (map (λ (e : PuzzleKey × PuzzleRow). e.1) es))
           (sym (entries_made puzzle_total same_puzzle_keys es c.puzzle_rows.ensures.ordered)),
     )

@@ -8,13 +8,17 @@ use Rattle.hall_store.proofs.map_calls.MapStoreReadStore.puzzles_put.Goals as go
 
 pub returns-clause-served : goal.returns-clause-served
 returns-clause-served c =
-    let author : c.in_ok-first.first.author ≡ c.args.author.now = ap (λ (k : PuzzleKey). k.author) c.in_ok-first.ensures in
+    let author : c.in_ok-first.first.author ≡ c.args.author.now = ap (λ (k : PuzzleKey). k.author)
+    c.in_ok-first.ensures in
     let es : List (PuzzleKey × PuzzleRow) = c.args.self.now.puzzles.entries in
     λ _. (
       tt,
       c.count_puzzles.ensures.count
-          ∙ ap (λ (a : List ℕ). count_by (λ (row : PuzzleRow). same_text row.key.author a) (map (λ (e : PuzzleKey × PuzzleRow). e.1) es)) author
-          ∙ ap (λ (es : List (PuzzleKey × PuzzleRow)). count_by (λ (row : PuzzleRow). same_text row.key.author c.args.author.now) (map (λ (e : PuzzleKey × PuzzleRow). e.1) es))
+          ∙ ap (λ (a : List ℕ). count_by (λ (row : PuzzleRow). same_text row.key.author a)
+          (map (λ (e : PuzzleKey × PuzzleRow). e.1) es)) author
+          ∙ ap (λ (es : List (PuzzleKey × PuzzleRow)). count_by
+          (λ (row : PuzzleRow). same_text row.key.author c.args.author.now)
+          (map (λ (e : PuzzleKey × PuzzleRow). e.1) es))
           (sym (entries_made puzzle_total same_puzzle_keys es c.count_puzzles.ensures.ordered)),
     )
 

@@ -12,8 +12,11 @@ use Rattle.hall_store.proofs.Ranges.{each_after}
 use Rattle.hall_store.proofs.map_calls.MapStoreStore.add_answer.Goals as goal
 
 -- no key is another's after a call that put a row of a new one, or was refused and left the map
-keys_after : {T E : Type 0} (m n : tree.BTreeMap AnswerSlot AnswerRow) (slot : AnswerSlot) (row : AnswerRow) (result : Result T E) →
-    OnOk result (n.entries ≡ tree.insert_entry slot_cmp m.entries slot row) → OnErr result (tree.IsUnchanged m n) → AreKeysDistinct (tree.insert_entry slot_cmp m.entries slot row) → AreKeysDistinct m.entries → AreKeysDistinct n.entries
+keys_after : {T E : Type 0} (m n : tree.BTreeMap AnswerSlot AnswerRow) (slot : AnswerSlot) (row : AnswerRow)
+    (result : Result T E) →
+    OnOk result (n.entries ≡ tree.insert_entry slot_cmp m.entries slot row) → OnErr result (tree.IsUnchanged m n)
+    → AreKeysDistinct (tree.insert_entry slot_cmp m.entries slot row) → AreKeysDistinct m.entries
+    → AreKeysDistinct n.entries
 keys_after m n slot row (Ok done) ok err after before = subst AreKeysDistinct (sym ok) after
 keys_after m n slot row (Err fault) ok err after before = subst AreKeysDistinct (sym err) before
 
@@ -24,8 +27,10 @@ returns-clause-makes c =
     let row = c.args.row in
     let own = c.in_ok-slot.ensures.own in
     let can = c.requires tt tt in
-    let made : from_entries {R = answer_cmp} (map answer_entry c.put.new.map.entries) ≡ insert (from_entries (map answer_entry old.answers.entries)) row.key row =
-    ap (λ (es : List (AnswerSlot × AnswerRow)). from_entries {R = answer_cmp} (map answer_entry es)) c.in_ok-put.ensures.entries
+    let made : from_entries {R = answer_cmp} (map answer_entry c.put.new.map.entries) ≡ insert
+    (from_entries (map answer_entry old.answers.entries)) row.key row =
+    ap (λ (es : List (AnswerSlot × AnswerRow)). from_entries {R = answer_cmp} (map answer_entry es))
+    c.in_ok-put.ensures.entries
     ∙ answer_put slot row old.answers.entries (slot_free old slot row own can) (key_fresh old slot row own can) in
     record {
       leads = record { honest = λ h. h; serves = λ h s. s; counts = omega arith; lasts = λ h s. inl s };
@@ -48,7 +53,9 @@ invariant_of-self c =
       uses_kept = old.uses_kept;
       answers_kept = each_after slot_total same_slots IsAnswerKept old.answers c.put.new.map slot row c.put.result
           c.put.ensures.updates c.put.ensures.err c.in_ok-slot.ensures old.answers_kept;
-      answer_keys_distinct = keys_after old.answers c.put.new.map slot row c.put.result c.put.ensures.entries c.put.ensures.err
-          (keys_stay_distinct slot row old.answers.entries (slot_free old slot row own can) (key_fresh old slot row own can) old.answer_keys_distinct) old.answer_keys_distinct;
+      answer_keys_distinct = keys_after old.answers c.put.new.map slot row c.put.result c.put.ensures.entries
+          c.put.ensures.err
+          (keys_stay_distinct slot row old.answers.entries (slot_free old slot row own can)
+          (key_fresh old slot row own can) old.answer_keys_distinct) old.answer_keys_distinct;
       protests_kept = old.protests_kept;
     }

@@ -12,9 +12,12 @@ use Rattle.hall_store.proofs.map_calls.MapStoreStore.add_protest.Goals as goal
 pub returns-clause-makes : goal.returns-clause-makes
 returns-clause-makes c =
     let old = c.args.self.now in
-    let made : from_entries {R = protest_cmp} c.put.new.map.entries ≡ insert (from_entries old.protests.entries) c.args.row.key c.args.row =
-    inserted protest_total same_protest_keys old.protests.entries c.put.new.map.entries c.in_ok-key.key c.args.row c.in_ok-put.ensures.updates.0
-    ∙ ap (λ (k : ProtestKey). insert (from_entries {R = protest_cmp} old.protests.entries) k c.args.row) (sym c.in_ok-key.ensures.own) in
+    let made : from_entries {R = protest_cmp} c.put.new.map.entries ≡ insert (from_entries old.protests.entries)
+    c.args.row.key c.args.row =
+    inserted protest_total same_protest_keys old.protests.entries c.put.new.map.entries c.in_ok-key.key c.args.row
+    c.in_ok-put.ensures.updates.0
+    ∙ ap (λ (k : ProtestKey). insert (from_entries {R = protest_cmp} old.protests.entries) k c.args.row)
+    (sym c.in_ok-key.ensures.own) in
     record {
       leads = record { honest = λ h. h; serves = λ h s. s; counts = omega arith; lasts = λ h s. inl s };
       once = omega arith;
@@ -31,6 +34,7 @@ invariant_of-self c =
       uses_kept = c.args.self.now.uses_kept;
       answers_kept = c.args.self.now.answers_kept;
       answer_keys_distinct = c.args.self.now.answer_keys_distinct;
-      protests_kept = each_after protest_total same_protest_keys IsProtestKept c.args.self.now.protests c.put.new.map c.in_ok-key.key c.args.row c.put.result
+      protests_kept = each_after protest_total same_protest_keys IsProtestKept c.args.self.now.protests c.put.new.map
+          c.in_ok-key.key c.args.row c.put.result
           c.put.ensures.updates c.put.ensures.err c.in_ok-key.ensures c.args.self.now.protests_kept;
     }

@@ -27,7 +27,8 @@ invariant_of-self-2 c =
     let list = c.as_slice-list.result.now in
     let can = subst (CanImport (world_of_maps old)) (sym c.as_slice-list.ensures.value) (c.requires tt tt) in
     record {
-      people_indexed = all_indexed old list can keys c.index_people.ensures.stay c.in_ok-index_people.ensures.led c.in_ok-people.people.entries c.in_ok-people.ensures;
+      people_indexed = all_indexed old list can keys c.index_people.ensures.stay c.in_ok-index_people.ensures.led
+          c.in_ok-people.people.entries c.in_ok-people.ensures;
       puzzles_kept = old.puzzles_kept;
       rounds_indexed = old.rounds_indexed;
       uses_kept = old.uses_kept;

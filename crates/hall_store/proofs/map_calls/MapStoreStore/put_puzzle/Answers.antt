@@ -12,9 +12,12 @@ use Rattle.hall_store.proofs.map_calls.MapStoreStore.put_puzzle.Goals as goal
 pub returns-clause-makes : goal.returns-clause-makes
 returns-clause-makes c =
     let old = c.args.self.now in
-    let made : from_entries {R = puzzle_cmp} c.put.new.map.entries ≡ insert (from_entries old.puzzles.entries) c.args.row.key c.args.row =
-    inserted puzzle_total same_puzzle_keys old.puzzles.entries c.put.new.map.entries c.in_ok-key.key c.args.row c.in_ok-put.ensures.updates.0
-    ∙ ap (λ (k : PuzzleKey). insert (from_entries {R = puzzle_cmp} old.puzzles.entries) k c.args.row) (sym c.in_ok-key.ensures.own) in
+    let made : from_entries {R = puzzle_cmp} c.put.new.map.entries ≡ insert (from_entries old.puzzles.entries)
+    c.args.row.key c.args.row =
+    inserted puzzle_total same_puzzle_keys old.puzzles.entries c.put.new.map.entries c.in_ok-key.key c.args.row
+    c.in_ok-put.ensures.updates.0
+    ∙ ap (λ (k : PuzzleKey). insert (from_entries {R = puzzle_cmp} old.puzzles.entries) k c.args.row)
+    (sym c.in_ok-key.ensures.own) in
     record {
       leads = record { honest = λ h. h; serves = λ h s. s; counts = omega arith; lasts = λ h s. inl s };
       once = omega arith;
@@ -26,7 +29,8 @@ pub invariant_of-self : goal.invariant_of-self
 invariant_of-self c =
     record {
       people_indexed = c.args.self.now.people_indexed;
-      puzzles_kept = each_after puzzle_total same_puzzle_keys IsPuzzleKept c.args.self.now.puzzles c.put.new.map c.in_ok-key.key c.args.row c.put.result
+      puzzles_kept = each_after puzzle_total same_puzzle_keys IsPuzzleKept c.args.self.now.puzzles c.put.new.map
+          c.in_ok-key.key c.args.row c.put.result
           c.put.ensures.updates c.put.ensures.err c.in_ok-key.ensures c.args.self.now.puzzles_kept;
       rounds_indexed = c.args.self.now.rounds_indexed;
       uses_kept = c.args.self.now.uses_kept;

@@ -31,9 +31,11 @@ invariant_of-self-2 c =
     record {
       people_indexed = old.people_indexed;
       puzzles_kept = old.puzzles_kept;
-      rounds_indexed = each_after text_total same_texts (IsRoundIndexed c.index_round.new.uses.entries) old.rounds c.put_round.new.rounds row.round.id row c.put_round.result
+      rounds_indexed = each_after text_total same_texts (IsRoundIndexed c.index_round.new.uses.entries) old.rounds
+          c.put_round.new.rounds row.round.id row c.put_round.result
           c.put_round.ensures.ok c.put_round.ensures.err c.in_ok-index_round.ensures.indexed
-          (λ id row found. indexed_stays old.uses.entries c.index_round.new.uses.entries id row c.index_round.ensures.stay (old.rounds_indexed id row found));
+          (λ id row found. indexed_stays old.uses.entries c.index_round.new.uses.entries id row
+          c.index_round.ensures.stay (old.rounds_indexed id row found));
       uses_kept = c.index_round.ensures.kept;
       answers_kept = old.answers_kept;
       answer_keys_distinct = old.answer_keys_distinct;

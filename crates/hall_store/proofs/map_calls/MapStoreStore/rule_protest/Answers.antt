@@ -17,7 +17,8 @@ pub unreachable-requires : goal.unreachable-requires
 unreachable-requires c =
     let es = c.args.self.now.protests.entries in
     let key = c.args.key.now in
-    let gone : lookup (is_at (protest_cmp key)) es ≡ None = sym c.get_mut.ensures.value ∙ ap option_copied_mut c.in-None.is in
+    let gone : lookup (is_at (protest_cmp key)) es ≡ None = sym c.get_mut.ensures.value
+    ∙ ap option_copied_mut c.in-None.is in
     let asked = c.requires tt tt in
     let no : None ≡ Some asked.0 = sym gone ∙ sym (get_found protest_total es key) ∙ asked.1 in
     cc
@@ -29,15 +30,22 @@ returns-clause-makes c =
     let key = c.args.key.now in
     let row = c.in-Some.row.now in
     let new : ProtestRow = record row { ruling = Some c.args.ruling } in
-    let seen : lookup (is_at (protest_cmp key)) es ≡ Some row = sym c.get_mut.ensures.value ∙ ap option_copied_mut c.in-Some.is in
+    let seen : lookup (is_at (protest_cmp key)) es ≡ Some row = sym c.get_mut.ensures.value
+    ∙ ap option_copied_mut c.in-Some.is in
     let found : get (from_entries {R = protest_cmp} es) key ≡ Some row = get_found protest_total es key ∙ seen in
-    let made : from_entries {R = protest_cmp} (c.get_mut.follows.lender new).entries ≡ insert (from_entries es) key new =
-    inserted protest_total same_protest_keys es (c.get_mut.follows.lender new).entries key new ((c.get_mut.follows.holds new).3 (search rules)).0 in
+    let made : from_entries {R = protest_cmp} (c.get_mut.follows.lender new).entries ≡ insert (from_entries es) key
+    new =
+    inserted protest_total same_protest_keys es (c.get_mut.follows.lender new).entries key new
+    ((c.get_mut.follows.holds new).3 (search rules)).0 in
     record {
       leads = record { honest = λ h. h; serves = λ h s. s; counts = omega arith; lasts = λ h s. inl s };
       once = omega arith;
       stops = λ s h left may. absurd may;
-      made = λ _. (tt, (λ i. record (world_of_maps old) { protests = made i }) ∙ ap (with_ruling (world_of_maps old) key c.args.ruling) (sym found));
+      made = λ _. (
+        tt,
+        (λ i. record (world_of_maps old) { protests = made i })
+            ∙ ap (with_ruling (world_of_maps old) key c.args.ruling) (sym found),
+      );
     }
 
 pub invariant_of-self : goal.invariant_of-self
@@ -46,7 +54,8 @@ invariant_of-self c =
     let key = c.args.key.now in
     let row = c.in-Some.row.now in
     let new : ProtestRow = record row { ruling = Some c.args.ruling } in
-    let seen : lookup (is_at (protest_cmp key)) es ≡ Some row = sym c.get_mut.ensures.value ∙ ap option_copied_mut c.in-Some.is in
+    let seen : lookup (is_at (protest_cmp key)) es ≡ Some row = sym c.get_mut.ensures.value
+    ∙ ap option_copied_mut c.in-Some.is in
     let kept = c.args.self.now.protests_kept key row seen in
     record {
       people_indexed = c.args.self.now.people_indexed;
@@ -55,6 +64,7 @@ invariant_of-self c =
       uses_kept = c.args.self.now.uses_kept;
       answers_kept = c.args.self.now.answers_kept;
       answer_keys_distinct = c.args.self.now.answer_keys_distinct;
-      protests_kept = each_put protest_total same_protest_keys IsProtestKept es (c.get_mut.follows.lender new).entries key new ((c.get_mut.follows.holds new).3 (search rules)).0
+      protests_kept = each_put protest_total same_protest_keys IsProtestKept es (c.get_mut.follows.lender new).entries
+          key new ((c.get_mut.follows.holds new).3 (search rules)).0
           (record { own = kept.own; token = kept.token }) c.args.self.now.protests_kept;
     }

@@ -17,7 +17,8 @@ pub unreachable-requires : goal.unreachable-requires
 unreachable-requires c =
     let es = c.args.self.now.puzzles.entries in
     let key = c.args.key.now in
-    let gone : lookup (is_at (puzzle_cmp key)) es ≡ None = sym c.get_mut.ensures.value ∙ ap option_copied_mut c.in-None.is in
+    let gone : lookup (is_at (puzzle_cmp key)) es ≡ None = sym c.get_mut.ensures.value
+    ∙ ap option_copied_mut c.in-None.is in
     let asked = c.requires tt tt in
     let no : None ≡ Some asked.0 = sym gone ∙ sym (get_found puzzle_total es key) ∙ asked.1 in
     cc
@@ -29,15 +30,21 @@ returns-clause-makes c =
     let key = c.args.key.now in
     let row = c.in-Some.row.now in
     let new : PuzzleRow = record row { state = c.args.state } in
-    let seen : lookup (is_at (puzzle_cmp key)) es ≡ Some row = sym c.get_mut.ensures.value ∙ ap option_copied_mut c.in-Some.is in
+    let seen : lookup (is_at (puzzle_cmp key)) es ≡ Some row = sym c.get_mut.ensures.value
+    ∙ ap option_copied_mut c.in-Some.is in
     let found : get (from_entries {R = puzzle_cmp} es) key ≡ Some row = get_found puzzle_total es key ∙ seen in
     let made : from_entries {R = puzzle_cmp} (c.get_mut.follows.lender new).entries ≡ insert (from_entries es) key new =
-    inserted puzzle_total same_puzzle_keys es (c.get_mut.follows.lender new).entries key new ((c.get_mut.follows.holds new).3 (search rules)).0 in
+    inserted puzzle_total same_puzzle_keys es (c.get_mut.follows.lender new).entries key new
+    ((c.get_mut.follows.holds new).3 (search rules)).0 in
     record {
       leads = record { honest = λ h. h; serves = λ h s. s; counts = omega arith; lasts = λ h s. inl s };
       once = omega arith;
       stops = λ s h left may. absurd may;
-      made = λ _. (tt, (λ i. record (world_of_maps old) { puzzles = made i }) ∙ ap (with_state (world_of_maps old) key c.args.state) (sym found));
+      made = λ _. (
+        tt,
+        (λ i. record (world_of_maps old) { puzzles = made i })
+            ∙ ap (with_state (world_of_maps old) key c.args.state) (sym found),
+      );
     }
 
 pub invariant_of-self : goal.invariant_of-self
@@ -46,11 +53,13 @@ invariant_of-self c =
     let key = c.args.key.now in
     let row = c.in-Some.row.now in
     let new : PuzzleRow = record row { state = c.args.state } in
-    let seen : lookup (is_at (puzzle_cmp key)) es ≡ Some row = sym c.get_mut.ensures.value ∙ ap option_copied_mut c.in-Some.is in
+    let seen : lookup (is_at (puzzle_cmp key)) es ≡ Some row = sym c.get_mut.ensures.value
+    ∙ ap option_copied_mut c.in-Some.is in
     let kept = c.args.self.now.puzzles_kept key row seen in
     record {
       people_indexed = c.args.self.now.people_indexed;
-      puzzles_kept = each_put puzzle_total same_puzzle_keys IsPuzzleKept es (c.get_mut.follows.lender new).entries key new ((c.get_mut.follows.holds new).3 (search rules)).0
+      puzzles_kept = each_put puzzle_total same_puzzle_keys IsPuzzleKept es (c.get_mut.follows.lender new).entries key
+          new ((c.get_mut.follows.holds new).3 (search rules)).0
           (record { own = kept.own; label = kept.label }) c.args.self.now.puzzles_kept;
       rounds_indexed = c.args.self.now.rounds_indexed;
       uses_kept = c.args.self.now.uses_kept;

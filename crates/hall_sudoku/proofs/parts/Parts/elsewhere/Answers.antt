@@ -21,18 +21,29 @@ loop-cell-preserved g c =
     let claimed = c.seen_and_shared-claimed.result.0 in
     let confined = c.confined-confined.result in
     let other_is : c.from-other.result ≡ second cell = c.from-other.ensures in
-    let read = without_both claimed confined c.from-other.result c.of.result c.index-claimed-other.result c.index-confined-of.result c.without.result
-    (omega (arith, c.seen_and_shared-claimed.ensures.seen_size, other_is, parts.second_small cell (omega (arith, inside, parts.second_size)), square.few))
+    let read = without_both claimed confined c.from-other.result c.of.result c.index-claimed-other.result
+    c.index-confined-of.result c.without.result
+    (omega (
+      arith,
+      c.seen_and_shared-claimed.ensures.seen_size,
+      other_is,
+      parts.second_small cell
+          (omega (arith, inside, parts.second_size)),
+      square.few,
+    ))
     (omega (arith, c.confined-confined.ensures.size, c.of.ensures.board, c.requires.fits))
     c.without.ensures in
     record {
       size = length-set _ _ _ ∙ c.loop-cell.invariant.size;
-      elsewhere = at_more (λ k x. (v : ℕ) → Has x v → IsElsewhere size first second c.args.candidates.now k v) cell c.without.result c.loop-cell.out c.loop-cell.invariant.elsewhere small
+      elsewhere = at_more (λ k x. (v : ℕ) → Has x v → IsElsewhere size first second c.args.candidates.now k v) cell
+          c.without.result c.loop-cell.out c.loop-cell.invariant.elsewhere small
           (λ v h.
           let both = read v h in
           elsewhere_from size first second c.args.candidates.now square
-          (λ k lt. parts.first_small k (omega (arith, parts.first_size))) (λ k lt. parts.second_small k (omega (arith, parts.second_size)))
-          confined claimed c.columns.result.now cell v c.columns.ensures.division c.confined-confined.ensures.confined c.seen_and_shared-claimed.ensures.seen inside
+          (λ k lt. parts.first_small k (omega (arith, parts.first_size)))
+          (λ k lt. parts.second_small k (omega (arith, parts.second_size)))
+          confined claimed c.columns.result.now cell v c.columns.ensures.division c.confined-confined.ensures.confined
+          c.seen_and_shared-claimed.ensures.seen inside
           (subst (λ k. Has (get_or claimed k 0) v) other_is both.0)
           (subst (λ k. Has (get_or confined k 0) v → ⊥) c.of.ensures.part both.1));
     }

@@ -19,12 +19,21 @@ loop-cell-preserved g c =
     let part = c.of-part.result in
     let inside : cell < cells size = omega (arith, c.loop-cell-test.true, c.cells-cell-end.ensures.cells) in
     let within : cell < length candidates = omega (arith, inside, c.requires.room) in
-    let small : part < length parts = omega (arith, c.of-part.ensures.board, c.loop-cell.invariant.size, c.requires.fits) in
+    let small : part < length parts = omega (
+      arith,
+      c.of-part.ensures.board,
+      c.loop-cell.invariant.size,
+      c.requires.fits,
+    ) in
     let at : part ≡ part_of size first second cell = c.of-part.ensures.part in
-    let made = or_read parts candidates part cell c.index-parts-part.result c.index-candidates-cell.result c.or.result small within c.index-candidates-cell.is c.or.ensures in
+    let made = or_read parts candidates part cell c.index-parts-part.result c.index-candidates-cell.result c.or.result
+    small within c.index-candidates-cell.is c.or.ensures in
     record {
       size = length-set _ _ _ ∙ c.loop-cell.invariant.size;
-      gathered = subst (λ (k : ℕ). AreGathered size first second (cell + 1) candidates (set parts k c.or.result)) (sym at)
-          (gathered_more size first second candidates cell c.or.result parts c.loop-cell.invariant.gathered (subst (λ (k : ℕ). k < length parts) at small)
-          (subst (λ (k : ℕ). (v : ℕ) → Has c.or.result v ↔ (Has (get_or parts k 0) v ⊎ Has (get_or candidates cell 0) v)) at made));
+      gathered = subst (λ (k : ℕ). AreGathered size first second (cell + 1) candidates (set parts k c.or.result))
+          (sym at)
+          (gathered_more size first second candidates cell c.or.result parts c.loop-cell.invariant.gathered
+          (subst (λ (k : ℕ). k < length parts) at small)
+          (subst (λ (k : ℕ). (v : ℕ) → Has c.or.result v ↔ (Has (get_or parts k 0) v
+          ⊎ Has (get_or candidates cell 0) v)) at made));
     }

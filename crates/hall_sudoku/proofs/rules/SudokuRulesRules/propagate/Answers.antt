@@ -12,7 +12,8 @@ returns-clause-live c =
     rw (← c.self.view_is)
     (IfOk-weaker c.settle-step.result _ _ (λ step h is_live.
     narrows_of c.self.inside.puzzle c.args.partial.now.places c.settle-step.new.partial.places c.self.invariant.0
-    (subst (λ (n : Size). Narrows (units_question n) c.args.partial.now.places c.settle-step.new.partial.places) c.self.invariant.1 (h is_live)))
+    (subst (λ (n : Size). Narrows (units_question n) c.args.partial.now.places c.settle-step.new.partial.places)
+    c.self.invariant.1 (h is_live)))
     c.settle-step.ensures.live)
 
 pub returns-clause-dead : goal.returns-clause-dead
@@ -28,7 +29,8 @@ returns-clause-err c =
     rw (← c.self.view_is)
     (on_err_weaker c.settle-step.result (λ h.
     narrows_of c.self.inside.puzzle c.args.partial.now.places c.settle-step.new.partial.places c.self.invariant.0
-    (subst (λ (n : Size). Narrows (units_question n) c.args.partial.now.places c.settle-step.new.partial.places) c.self.invariant.1 h))
+    (subst (λ (n : Size). Narrows (units_question n) c.args.partial.now.places c.settle-step.new.partial.places)
+    c.self.invariant.1 h))
     c.settle-step.ensures.err)
 
 pub returns-clause-settled : goal.returns-clause-settled

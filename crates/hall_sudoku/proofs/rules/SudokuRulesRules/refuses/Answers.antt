@@ -10,5 +10,6 @@ returns c = record {
   hopeless =
       rw (← c.self.view_is)
       (λ yes. hopeless_of c.self.inside.puzzle c.args.partial.now.places c.self.invariant.0
-      (subst (λ (n : Size). IsHopeless (units_question n) c.args.partial.now.places) c.self.invariant.1 (c.has_rival.ensures.hopeless yes)));
+      (subst (λ (n : Size). IsHopeless (units_question n) c.args.partial.now.places) c.self.invariant.1
+      (c.has_rival.ensures.hopeless yes)));
 }
