@@ -11,6 +11,8 @@ pub mod MapLemmas
 pub mod FoundLemmas
 pub mod InsertLemmas
 pub mod WriteLemmas
+pub mod AloneLemmas
+pub mod AddLemmas
 pub mod SoundLemmas
 pub mod StopLemmas
 pub mod UpdateLemmas

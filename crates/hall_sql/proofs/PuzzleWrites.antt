@@ -1,11 +1,11 @@
 -- What the statements that write a puzzle leave.
-use Rattle.std.proofs.Common.{None, ◌≡◌, ◌≢◌, inl, ℕ, pos, List, [], ◌∷◌, length, flat_map, is_some, option_to_list, Bool, true, IsTrue, Some, Ok, refl, sym, ap, subst, ◌∙◌, arith}
+use Rattle.std.proofs.Common.{None, ◌≡◌, inl, ℕ, pos, List, [], ◌∷◌, length, is_some, Bool, true, IsTrue, Some, Ok}
+use Rattle.std.proofs.Common.{refl, sym, ap, subst, ◌∙◌, arith}
 use Rattle.std.proofs.lemmas.Bool.{and_parts}
 use Rattle.std.proofs.lemmas.List.{length-map}
 use Rattle.std.proofs.lemmas.List.Sorted.{length_permutation}
-use Rattle.std.specs.List.{AllByRecursion}
 use Rattle.std.specs.Ordering.{eq_by_cmp}
-use Rattle.std.specs.FinMap.{FinMap, from_entries, get, insert}
+use Rattle.std.specs.FinMap.{get, insert}
 use Rattle.sqlite.specs.declared.types.Value.{Value}
 use Rattle.sqlite.specs.declared.types.Value.TheVariants.{Null, Int, Real, Text, Blob}
 use Rattle.sqlite_sql.specs.declared.ops.BinaryOp.TheVariants.{Compare}
@@ -17,23 +17,19 @@ use Rattle.sqlite_value.specs.Keys.{joined}
 use Rattle.sqlite_schema.specs.Names.{same_name}
 use Rattle.sqlite_schema.specs.declared.schema.Keys.TheVariants.{Enforced}
 use Rattle.sqlite_rules.specs.Action.{works}
-use Rattle.sqlite_rules.specs.Cast.{cast_row}
 use Rattle.sqlite_rules.specs.Edit.{next_rowid}
 use Rattle.sqlite_rules.specs.Lists.{Has}
 use Rattle.sqlite_rules.proofs.ListLemmas.{has_filtered}
 use Rattle.sqlite.specs.Order.{Row}
-use Rattle.sqlite.specs.Table.{Table}
 use Rattle.sqlite.specs.Term.{col, eval_all}
 use Rattle.sqlite.specs.Tree.{Trees}
-use Rattle.sqlite.specs.Source.TheVariants.{Values}
-use Rattle.sqlite.specs.Command.TheVariants.{Insert, Update}
-use Rattle.sqlite.specs.State.{State, HasCleanDisk, Executes, Shown, Writes}
-use Rattle.sqlite.specs.Listing.{understood}
-use Rattle.sqlite.proofs.Callers.{runs_as, statement_of}
+use Rattle.sqlite.specs.Command.TheVariants.{Update}
+use Rattle.sqlite.specs.State.{State, HasCleanDisk, Executes, Shown}
+use Rattle.sqlite.proofs.Callers.{runs_as}
 use Rattle.hall_grid.specs.Text.{SpellsText}
 use Rattle.hall_grid.specs.Printable.{is_printable}
-use Rattle.hall_policy.specs.Text.{text_cmp, is_word_byte}
-use Rattle.hall_policy.specs.World.{puzzle_cmp, answer_cmp, protest_cmp}
+use Rattle.hall_policy.specs.Text.{is_word_byte}
+use Rattle.hall_policy.specs.World.{puzzle_cmp}
 use Rattle.hall_policy.specs.Ranges.{IsPuzzleKey, IsState}
 use Rattle.hall_policy.specs.declared.record.PuzzleKey.{PuzzleKey}
 use Rattle.hall_policy.specs.declared.record.PuzzleRow.{PuzzleRow}
@@ -46,34 +42,35 @@ use Rattle.hall_store.specs.declared.change.Change.TheVariants.{PutPuzzle, SetSt
 use Rattle.hall_sql.proofs.UniqueLemmas.{kept_keyed}
 use Rattle.hall_sql.specs.Tables.{IsHallSchema, hall_schema}
 use Rattle.hall_sql.specs.declared.tables.HallTable.TheVariants.{Puzzles}
-use Rattle.hall_sql.proofs.Wordings.{Wording, added_in, adds_quiet, hall_in, keeps_quiet, table_in, worded}
+use Rattle.hall_sql.proofs.Wordings.{Wording, hall_in, keeps_quiet, table_in, worded}
 use Rattle.hall_sql.specs.declared.puzzles.TheConstants.{LOOK_PUZZLE, ADD_PUZZLE, REPLACE_PUZZLE}
 use Rattle.hall_sql.specs.Values.{state_in}
 use Rattle.hall_sql.specs.Columns.{puzzle_params, HasSoMany, state_code, solution_of}
-use Rattle.hall_sql.specs.Rows.{kept, person_of_row, puzzle_of_row, round_of_row, place_of_row, answer_of_row}
-use Rattle.hall_sql.specs.Rows.{protest_of_row, tester_of_row, world_of}
+use Rattle.hall_sql.specs.Rows.{puzzle_of_row, world_of}
 use Rattle.hall_sql.specs.Spared.{may_write}
-use Rattle.hall_sql.specs.Standing.{HasAdded, IsHall, HasMade}
+use Rattle.hall_sql.specs.Standing.{IsHall, HasMade}
 use Rattle.hall_sql.specs.Fill.{AddsRow, WithPuzzle}
 use Rattle.hall_sql.specs.Inside.{IsHallData}
-use Rattle.hall_sql.proofs.PuzzleTexts.{puzzles_there, key_terms, added_terms, replaced_terms, apart, look_puzzle_is, add_puzzle_is, replace_puzzle_is}
+use Rattle.hall_sql.proofs.PuzzleTexts.{puzzles_there, key_terms, added_terms, replaced_terms, apart, look_puzzle_is}
+use Rattle.hall_sql.proofs.PuzzleTexts.{add_puzzle_is, replace_puzzle_is}
 use Rattle.hall_sql.proofs.PuzzleLemmas.{key_columns}
 use Rattle.hall_sql.proofs.CallLemmas.{executed_open, answers_selection}
 use Rattle.hall_sql.proofs.ColumnLemmas.{texts_equal, column_equals, last_equal, more_equal, spelled}
 use Rattle.hall_grid.specs.Canonical.{CanonicalText}
 use Rattle.hall_sql.specs.PuzzleText.{HasPuzzleRow}
-use Rattle.hall_sql.proofs.AllRead.{added_read}
-use Rattle.hall_sql.proofs.InsertLemmas.{inserts}
-use Rattle.hall_sql.proofs.KeyedLemmas.{data_added, keyed_after}
+use Rattle.hall_sql.proofs.AddLemmas.{IsInsert, row_added, row_put, row_made}
+use Rattle.hall_sql.proofs.AloneLemmas.{alone_world}
+use Rattle.hall_sql.proofs.KeyedLemmas.{keyed_after}
 use Rattle.hall_sql.proofs.MapLemmas.{equal_is, put_new}
 use Rattle.hall_sql.proofs.QuietLemmas.{two_stay}
 use Rattle.hall_sql.proofs.ReplaceLemmas.{replaced_one, added_one, put_alone, replaced_alone}
-use Rattle.hall_sql.proofs.SparedLemmas.{own_key, added_spared, replaced_spared, alone_spared}
+use Rattle.hall_sql.proofs.SparedLemmas.{own_key, replaced_spared, alone_spared}
 use Rattle.hall_sql.proofs.UpdateLemmas.{update, updates, passes_with, made_with}
-use Rattle.hall_sql.proofs.WriteLemmas.{writes_hall, same_worlds, cast_null, cast_number}
+use Rattle.hall_sql.proofs.WriteLemmas.{writes_hall, cast_null, cast_number}
 
 -- a state is read from its code and its solution
-state_reads : (state : PuzzleState) → IsState state → state_in (Int (pos (state_code state))) (Text (solution_of state)) ≡ Some state
+state_reads : (state : PuzzleState) → IsState state → state_in (Int (pos (state_code state))) (Text (solution_of state))
+    ≡ Some state
 state_reads New is = refl
 state_reads (One solution) is = rw (kind_holds 0 4000 is_printable solution is)
 state_reads NoSolution is = refl
@@ -92,21 +89,6 @@ text_is (Real x) t h = absurd cc
 text_is (Text s) t h = ap Text (texts_tie s t h)
 text_is (Blob b) t h = absurd cc
 
--- where the table of puzzles alone was written, the puzzles alone are changed
-puzzles_alone : (old new : Trees) (puzzles : FinMap puzzle_cmp PuzzleRow)
-    → AllByRecursion (λ (t : Table). t.tree ≢ 3 → new t.tree ≡ old t.tree) hall_schema.tables
-    → kept puzzle_cmp (λ (row : PuzzleRow). row.key) puzzle_of_row (new 3) ≡ puzzles
-    → world_of new ≡ record (world_of old) { puzzles = puzzles }
-puzzles_alone old new puzzles others is =
-    same_worlds (world_of new) (record (world_of old) { puzzles = puzzles })
-    (ap (kept text_cmp (λ person. person.name) person_of_row) (others.0 (λ same. absurd (omega (arith, same)))))
-    is
-    (ap (kept text_cmp (λ round. round.id) round_of_row) (others.1.1.0 (λ same. absurd (omega (arith, same)))))
-    (ap (λ rows. from_entries (flat_map (λ row. option_to_list (place_of_row row)) rows)) (others.1.1.1.0 (λ same. absurd (omega (arith, same)))))
-    (ap (kept answer_cmp (λ row. row.key) answer_of_row) (others.1.1.1.1.0 (λ same. absurd (omega (arith, same)))))
-    (ap (kept protest_cmp (λ row. row.key) protest_of_row) (others.1.1.1.1.1.0 (λ same. absurd (omega (arith, same)))))
-    (ap (λ rows. from_entries (flat_map (λ row. option_to_list (tester_of_row row)) rows)) (others.1.1.1.1.1.1.0 (λ same. absurd (omega (arith, same)))))
-
 pub no_rows : {A : Type 0} (xs : List A) → length xs ≡ 0 → xs ≡ []
 no_rows [] e = refl
 no_rows (x ∷ xs) e = absurd (omega (arith, e))
@@ -117,10 +99,13 @@ pub puzzle_looked : (key : PuzzleKey) (old new : State) (rows : List Row) → Is
 puzzle_looked key old new rows has shown =
     let given = Text key.author ∷ Text key.label ∷ [] in
     let (u, words) = worded old.now.schema has in
-    let sel = answers_selection LOOK_PUZZLE.now given old new 3 key_terms (col 1 1 ∷ []) [] _ (look_puzzle_is u).0 (look_puzzle_is u).1 (look_puzzle_is u).2 refl words rows shown in
-    sym (length_permutation _ sel.found sel.same) ∙ sym (length-map sel.found (λ r. eval_all (col 1 1 ∷ []) (given ∷ r ∷ []))) ∙ ap length (sym sel.shown)
+    let sel = answers_selection LOOK_PUZZLE.now given old new 3 key_terms (col 1 1 ∷ []) [] _ (look_puzzle_is u).0
+    (look_puzzle_is u).1 (look_puzzle_is u).2 refl words rows shown in
+    sym (length_permutation _ sel.found sel.same) ∙ sym (length-map sel.found
+    (λ r. eval_all (col 1 1 ∷ []) (given ∷ r ∷ []))) ∙ ap length (sym sel.shown)
 
-module _ (text : List ℕ) (row : PuzzleRow) (spells : SpellsText text row.puzzle) (in_key : IsPuzzleKey row.key) (in_state : IsState row.state) where
+module _ (text : List ℕ) (row : PuzzleRow) (spells : SpellsText text row.puzzle) (in_key : IsPuzzleKey row.key)
+    (in_state : IsState row.state) where
   abbrev params : Row
   params = puzzle_params text row
 
@@ -133,8 +118,16 @@ module _ (text : List ℕ) (row : PuzzleRow) (spells : SpellsText text row.puzzl
     state_reads row.state in_state,
   )
 
-  puzzle_casts : cast_row puzzles_there (Null ∷ params) ≡ Null ∷ params
-  puzzle_casts = rw (cast_null, cast_number (state_code row.state))
+  adds : IsInsert Puzzles ADD_PUZZLE.now params
+  adds = record {
+    at = 1;
+    terms = added_terms;
+    width = 6;
+    there = λ u. refl;
+    is = add_puzzle_is;
+    source = refl;
+    casts = rw (cast_null, cast_number (state_code row.state));
+  }
 
   abbrev has_key : Row → Bool
   has_key = passes_with hall_schema puzzles_there key_terms replaced_terms apart params
@@ -152,9 +145,6 @@ module _ (text : List ℕ) (row : PuzzleRow) (spells : SpellsText text row.puzzl
   -- the row that is the puzzle stands under its key
   own_row : (r : Row) → puzzle_of_row r ≡ Some row → has_key r ≡ true
   own_row r is = agrees r row is ∙ own_key puzzle_total row.key
-
-  quiet : (u : Wording) (new : Row) → works (hall_in u) Enforced 0 3 [] (new ∷ []) ≡ []
-  quiet u new = adds_quiet (hall_in u) 3 (new ∷ [])
 
   module _ (r : Row) (taken : has_key r ≡ true) where
     author_is : column r 1 ≡ Text row.key.author
@@ -183,123 +173,132 @@ module _ (text : List ℕ) (row : PuzzleRow) (spells : SpellsText text row.puzzl
     unfolding same_name joined
     made_quiet u =
         let stays = two_stay _ 1 2 r (made r) (rw author_is) (rw label_is) in
-        keeps_quiet u 3 (r ∷ []) (made r ∷ [])
-        (tt, ((λ a. refl, tt), (tt, ((λ a. refl, (λ a. stays, tt)), ((λ a. refl, (λ a. refl, tt)), ((λ a. refl, (λ a. refl, tt)), ((λ a. refl, (λ a. refl, tt)), tt)))))))
-
-  -- what the INSERT of a puzzle adds
-  module _ (old new : State) (count : ℕ) (u : Wording) (has : old.now.schema ≡ hall_in u) (ran : Executes ADD_PUZZLE.now params old new (Ok count)) where
-    writes : Writes old new None (Insert 1 (Values added_terms 6)) (statement_of ADD_PUZZLE.now (understood (hall_in u) ADD_PUZZLE.now)) params count
-    writes = runs_as ADD_PUZZLE.now params old new (hall_in u) has (Insert 1 (Values added_terms 6)) (add_puzzle_is u).0 (add_puzzle_is u).1 count ran
-
-    adds : HasAdded hall_schema 3 params old.now new.now
-    adds = added_in u 3 params old.now new.now
-        (inserts (hall_in u) 1 (table_in u Puzzles) refl refl added_terms 6 params (Null ∷ params) params refl refl puzzle_casts (quiet u) old new _ count has writes)
-
-    with_puzzle : WithPuzzle (world_of old.now.trees) row (world_of new.now.trees)
-    with_puzzle fresh =
-        let id = Int (next_rowid (old.now.trees 3)) in
-        puzzles_alone old.now.trees new.now.trees (insert (world_of old.now.trees).puzzles row.key row) adds.others
-        (put_new puzzle_total same_puzzle_keys (λ (x : PuzzleRow). x.key) puzzle_of_row row (id ∷ params) (old.now.trees 3) (new.now.trees 3) adds.put (puzzle_reads id) adds.free fresh)
+        keeps_quiet u 3 (r ∷ []) (made r ∷ []) (
+          tt,
+          (
+            (λ a. refl, tt),
+            (
+              tt,
+              (
+                (λ a. refl, (λ a. stays, tt)),
+                ((λ a. refl, (λ a. refl, tt)), ((λ a. refl, (λ a. refl, tt)), ((λ a. refl, (λ a. refl, tt)), tt))),
+              ),
+            ),
+          ),
+        )
 
   -- the INSERT of a puzzle inside a transaction
   pub puzzle_put : (old new : State) (count : ℕ) → Executes ADD_PUZZLE.now params old new (Ok count)
       → IsHallData old.now → IsHallData new.now × AddsRow 3 WithPuzzle params old.now row new.now
-  puzzle_put old new count ran held =
-      let (u, words) = worded old.now.schema held.schema in
-      let it = adds old new count u words ran in (
-        data_added 3 params old.now new.now it held held.keyed.1.0,
-        record {
-          row = it;
-          world = with_puzzle old new count u words ran;
-          read = added_read 3 params old.now new.now it (ap is_some (puzzle_reads (Int (next_rowid (old.now.trees 3))))) (λ all. all.1.0);
-        },
-      )
+  puzzle_put old new count ran =
+      let id = Int (next_rowid (old.now.trees 3)) in
+      row_put Puzzles ADD_PUZZLE.now params adds old new count ran WithPuzzle row (ap is_some (puzzle_reads id))
+      (λ it fresh.
+      alone_world 3 old.now.trees new.now.trees it.others ∙ ap
+      (λ puzzles. record (world_of old.now.trees) { puzzles = puzzles })
+      (put_new puzzle_total same_puzzle_keys (λ (x : PuzzleRow). x.key) puzzle_of_row row (id ∷ params)
+      (old.now.trees 3) (new.now.trees 3) it.put
+      (puzzle_reads id) it.free fresh))
 
   module _ (old new : State) (count : ℕ) (hall : IsHall old) (clean : HasCleanDisk old) where
     -- and outside of one, under a new key
-    pub puzzle_added : (IsTrue old.is_open → HasSoMany row.key old 0) → Executes ADD_PUZZLE.now params old new (Ok count) → HasMade (PutPuzzle row) old new
+    pub puzzle_added : (IsTrue old.is_open → HasSoMany row.key old 0)
+        → Executes ADD_PUZZLE.now params old new (Ok count) → HasMade (PutPuzzle row) old new
     puzzle_added nobody ran =
-        let mode = hall.autocommit clean in
-        let was = executed_open old new ADD_PUZZLE.now params count mode ran in
-        let held : IsHallData old.now = record { schema = (hall.settled clean was).1; keyed = hall.keyed clean was } in
-        let (u, words) = worded old.now.schema held.schema in
-        let w = writes old new count u words ran in
-        let it = adds old new count u words ran in
-        let put = puzzle_put old new count ran held in
-        let id = next_rowid (old.now.trees 3) in
-        record {
-          hall = writes_hall old new _ _ _ count mode w put.0.schema put.0.keyed;
-          was_open = was;
-          serves = w.shown.is_open;
-          world = puzzles_alone old.now.trees new.now.trees (insert (world_of old.now.trees).puzzles row.key row) it.others
-              (added_one puzzle_total same_puzzle_keys (λ (x : PuzzleRow). x.key) puzzle_of_row row.key has_key agrees (old.now.trees 3) (new.now.trees 3) (Int id ∷ params) row (no_rows _ (nobody was)) it.free it.put refl (puzzle_reads (Int id)));
-          others = alone_spared (may_write (PutPuzzle row)) 3 old.now.trees new.now.trees
-              (added_spared (may_write (PutPuzzle row) 3) (old.now.trees 3) (new.now.trees 3) (Int id ∷ params) (own_row (Int id ∷ params) (puzzle_reads (Int id))) it.free it.put) it.others;
-        }
+        let id = Int (next_rowid (old.now.trees 3)) in
+        row_made Puzzles ADD_PUZZLE.now params adds old new count ran (PutPuzzle row) hall clean
+        (own_row (id ∷ params) (puzzle_reads id)) (λ it opens.
+        alone_world 3 old.now.trees new.now.trees it.others ∙ ap
+        (λ puzzles. record (world_of old.now.trees) { puzzles = puzzles })
+        (added_one puzzle_total same_puzzle_keys (λ (x : PuzzleRow). x.key) puzzle_of_row row.key has_key agrees
+        (old.now.trees 3) (new.now.trees 3) (id ∷ params) row
+        (no_rows _ (nobody opens)) it.free it.put refl (puzzle_reads id)))
 
     -- the UPDATE of the puzzle under the key
-    pub puzzle_replaced : (IsTrue old.is_open → HasSoMany row.key old 1) → Executes REPLACE_PUZZLE.now params old new (Ok count) → HasMade (PutPuzzle row) old new
+    pub puzzle_replaced : (IsTrue old.is_open → HasSoMany row.key old 1)
+        → Executes REPLACE_PUZZLE.now params old new (Ok count) → HasMade (PutPuzzle row) old new
     puzzle_replaced single ran =
         let mode = hall.autocommit clean in
         let was = executed_open old new REPLACE_PUZZLE.now params count mode ran in
         let has = (hall.settled clean was).1 in
         let keyed = hall.keyed clean was in
         let (u, words) = worded old.now.schema has in
-        let w = runs_as REPLACE_PUZZLE.now params old new (hall_in u) words (Update 1 (update (hall_in u) (table_in u Puzzles) key_terms replaced_terms apart)) (replace_puzzle_is u).0 (replace_puzzle_is u).1 count ran in
-        let it = updates (hall_in u) (table_in u Puzzles) key_terms replaced_terms apart 1 refl params (λ r taken. made_quiet r taken u) old new _ count words keyed.1.0 w (single was) in
+        let w = runs_as REPLACE_PUZZLE.now params old new (hall_in u) words
+        (Update 1 (update (hall_in u) (table_in u Puzzles) key_terms replaced_terms apart)) (replace_puzzle_is u).0
+        (replace_puzzle_is u).1 count ran in
+        let it = updates (hall_in u) (table_in u Puzzles) key_terms replaced_terms apart 1 refl params
+        (λ r taken. made_quiet r taken u) old new _ count words keyed.1.0 w (single was) in
         let one = it.rows.one in
-        let there = has_filtered has_key (old.now.trees 3) one (subst (λ l. Has l one) (sym it.rows.found) (inl refl)) in
+        let there = has_filtered has_key (old.now.trees 3) one
+        (subst (λ l. Has l one) (sym it.rows.found) (inl refl)) in
         record {
-          hall = writes_hall old new _ _ _ count mode w (subst IsHallSchema (sym it.same) has) (keyed_after 3 old.now.trees new.now.trees hall_schema.tables it.keyed it.others keyed);
+          hall = writes_hall old new _ _ _ count mode w (subst IsHallSchema (sym it.same) has)
+              (keyed_after 3 old.now.trees new.now.trees hall_schema.tables it.keyed it.others keyed);
           was_open = was;
           serves = w.shown.is_open;
-          world = puzzles_alone old.now.trees new.now.trees (insert (world_of old.now.trees).puzzles row.key row) it.others
-              (replaced_one puzzle_total same_puzzle_keys (λ (x : PuzzleRow). x.key) puzzle_of_row row.key has_key agrees made (old.now.trees 3) (new.now.trees 3) row keyed.1.0 it.rows refl (made_reads one there.1));
+          world = alone_world 3 old.now.trees new.now.trees it.others
+              ∙ ap (λ puzzles. record (world_of old.now.trees) { puzzles = puzzles })
+              (replaced_one puzzle_total same_puzzle_keys (λ (x : PuzzleRow). x.key) puzzle_of_row row.key has_key
+              agrees made (old.now.trees 3) (new.now.trees 3) row keyed.1.0 it.rows refl (made_reads one there.1));
           others = alone_spared (may_write (PutPuzzle row)) 3 old.now.trees new.now.trees
-              (replaced_spared (may_write (PutPuzzle row) 3) has_key made (old.now.trees 3) (new.now.trees 3) keyed.1.0 it.rows there.1 (own_row (made one) (made_reads one there.1))) it.others;
+              (replaced_spared (may_write (PutPuzzle row) 3) has_key made (old.now.trees 3) (new.now.trees 3) keyed.1.0
+              it.rows there.1 (own_row (made one) (made_reads one there.1))) it.others;
         }
 
     -- the row that was added stands alone under the key
-    pub added_alone : CanonicalText text row.puzzle → (IsTrue old.is_open → HasSoMany row.key old 0) → Executes ADD_PUZZLE.now params old new (Ok count)
+    pub added_alone : CanonicalText text row.puzzle → (IsTrue old.is_open → HasSoMany row.key old 0)
+        → Executes ADD_PUZZLE.now params old new (Ok count)
         → HasPuzzleRow row new.now
     added_alone canonical nobody ran =
         let was = executed_open old new ADD_PUZZLE.now params count (hall.autocommit clean) ran in
-        let (u, words) = worded old.now.schema (hall.settled clean was).1 in
-        let it = adds old new count u words ran in
+        let held : IsHallData old.now = record { schema = (hall.settled clean was).1; keyed = hall.keyed clean was } in
+        let it = (row_added Puzzles ADD_PUZZLE.now params adds old new count ran held).1 in
         let id = Int (next_rowid (old.now.trees 3)) in
         record {
           text = text;
           canonical = canonical;
           rowid = id;
-          alone = put_alone has_key (old.now.trees 3) (new.now.trees 3) (id ∷ params) (own_row (id ∷ params) (puzzle_reads id)) (no_rows _ (nobody was)) it.free it.put;
+          alone = put_alone has_key (old.now.trees 3) (new.now.trees 3) (id ∷ params)
+              (own_row (id ∷ params) (puzzle_reads id)) (no_rows _ (nobody was)) it.free it.put;
         }
 
     -- and so does the one that took another's place
-    pub replaced_row : CanonicalText text row.puzzle → (IsTrue old.is_open → HasSoMany row.key old 1) → Executes REPLACE_PUZZLE.now params old new (Ok count)
+    pub replaced_row : CanonicalText text row.puzzle → (IsTrue old.is_open → HasSoMany row.key old 1)
+        → Executes REPLACE_PUZZLE.now params old new (Ok count)
         → HasPuzzleRow row new.now
     replaced_row canonical single ran =
         let was = executed_open old new REPLACE_PUZZLE.now params count (hall.autocommit clean) ran in
         let keyed = hall.keyed clean was in
         let (u, words) = worded old.now.schema (hall.settled clean was).1 in
-        let w = runs_as REPLACE_PUZZLE.now params old new (hall_in u) words (Update 1 (update (hall_in u) (table_in u Puzzles) key_terms replaced_terms apart)) (replace_puzzle_is u).0 (replace_puzzle_is u).1 count ran in
-        let it = updates (hall_in u) (table_in u Puzzles) key_terms replaced_terms apart 1 refl params (λ r taken. made_quiet r taken u) old new _ count words keyed.1.0 w (single was) in
+        let w = runs_as REPLACE_PUZZLE.now params old new (hall_in u) words
+        (Update 1 (update (hall_in u) (table_in u Puzzles) key_terms replaced_terms apart)) (replace_puzzle_is u).0
+        (replace_puzzle_is u).1 count ran in
+        let it = updates (hall_in u) (table_in u Puzzles) key_terms replaced_terms apart 1 refl params
+        (λ r taken. made_quiet r taken u) old new _ count words keyed.1.0 w (single was) in
         let one = it.rows.one in
-        let there = has_filtered has_key (old.now.trees 3) one (subst (λ l. Has l one) (sym it.rows.found) (inl refl)) in
+        let there = has_filtered has_key (old.now.trees 3) one
+        (subst (λ l. Has l one) (sym it.rows.found) (inl refl)) in
         record {
           text = text;
           canonical = canonical;
           rowid = column (made one) 0;
-          alone = replaced_alone has_key made (old.now.trees 3) (new.now.trees 3) keyed.1.0 it.rows (own_row (made one) (made_reads one there.1)) ∙ ap (λ r. r ∷ []) (made_is one there.1);
+          alone = replaced_alone has_key made (old.now.trees 3) (new.now.trees 3) keyed.1.0 it.rows
+              (own_row (made one) (made_reads one there.1)) ∙ ap (λ r. r ∷ []) (made_is one there.1);
         }
 
 -- a puzzle stands under its own key, so to put it in a state is to set the state under the key
-pub put_sets : (key : PuzzleKey) (state : PuzzleState) (trees : Trees) (row : PuzzleRow) → Some row ≡ get (world_of trees).puzzles key
-    → (changed (PutPuzzle (record row { state = state })) (world_of trees) ≡ changed (SetState key state) (world_of trees))
+pub put_sets : (key : PuzzleKey) (state : PuzzleState) (trees : Trees) (row : PuzzleRow)
+    → Some row ≡ get (world_of trees).puzzles key
+    → (changed (PutPuzzle (record row { state = state })) (world_of trees) ≡ changed (SetState key state)
+    (world_of trees))
     × (may_write (PutPuzzle (record row { state = state })) ≡ may_write (SetState key state))
 put_sets key state trees row found =
-    let own : row.key ≡ key = kept_keyed puzzle_total same_puzzle_keys (λ (x : PuzzleRow). x.key) puzzle_of_row (trees 3) key row (sym found) in (
-      subst (λ k. record (world_of trees) { puzzles = insert (world_of trees).puzzles k (record row { state = state }) } ≡ changed (SetState key state) (world_of trees)) (sym own)
-          (subst (λ o. with_state (world_of trees) key state (Some row) ≡ with_state (world_of trees) key state o) found refl),
+    let own : row.key ≡ key = kept_keyed puzzle_total same_puzzle_keys (λ (x : PuzzleRow). x.key) puzzle_of_row
+    (trees 3) key row (sym found) in (
+      subst (λ k. record (world_of trees) { puzzles = insert (world_of trees).puzzles k (record row { state = state }) }
+          ≡ changed (SetState key state) (world_of trees)) (sym own)
+          (subst (λ o. with_state (world_of trees) key state (Some row) ≡ with_state (world_of trees) key state o) found
+          refl),
       ap (λ k. may_write (SetState k state)) own,
     )
 

@@ -6,9 +6,9 @@ use Rattle.sqlite.specs.Order.{Row}
 use Rattle.sqlite.specs.Effect.{IsDatabase}
 use Rattle.sqlite.specs.Listing.{understood}
 use Rattle.sqlite.specs.State.{State, Executes, Runs}
-use Rattle.sqlite.proofs.Callers.{IsPlain, command_of, runs_as}
+use Rattle.sqlite.proofs.Callers.{command_of, runs_as}
 use Rattle.hall_sql.specs.Tables.{IsHallSchema}
-use Rattle.hall_sql.proofs.Wordings.{Wording, hall_in, worded}
+use Rattle.hall_sql.specs.WriteCause.{IsEdit, IsWritten}
 
 -- the statements that write rows
 abbrev pub IsRowWrite : Command → Type 0
@@ -18,7 +18,8 @@ IsRowWrite (Update at q) = Unit {0}
 IsRowWrite (Delete at q) = Unit {0}
 IsRowWrite _ = ⊥
 
-written_sound : (old new : State) (command : Command) (text : List ℕ) (params : Row) (count : ℕ) → IsRowWrite command → Runs old new None command text params count
+written_sound : (old new : State) (command : Command) (text : List ℕ) (params : Row) (count : ℕ) → IsRowWrite command
+    → Runs old new None command text params count
     → IsDatabase new.now
 written_sound old new (Insert at from) text params count is w = w.sound
 written_sound old new (InsertOr at way from clauses) text params count is w = w.sound
@@ -26,10 +27,19 @@ written_sound old new (Update at q) text params count is w = w.sound
 written_sound old new (Delete at q) text params count is w = w.sound
 written_sound old new _ text params count is w = absurd is
 
-pub ran_sound : (sql : List ℕ) (params : Row) (old new : State) (count : ℕ) → IsHallSchema old.now.schema → ((u : Wording) → IsPlain (understood (hall_in u) sql))
-    → ((u : Wording) → IsRowWrite (command_of (understood (hall_in u) sql))) → Executes sql params old new (Ok count) → IsDatabase new.now
-ran_sound sql params old new count has plain is ran =
-    let it = worded old.now.schema has in
-    let schema = hall_in it.0 in
-    written_sound old new (command_of (understood schema sql)) _ params count (is it.0)
-    (runs_as sql params old new schema it.1 (command_of (understood schema sql)) refl (plain it.0) count ran)
+-- the statements that the hall runs write rows
+pub writes_rows : (command : Command) → IsEdit command → IsRowWrite command
+writes_rows (Insert at from) edit = tt
+writes_rows (Update at q) edit = tt
+writes_rows (Delete at q) edit = tt
+writes_rows _ edit = absurd edit
+
+-- and where they ran they left a database
+pub ran_sound : (sql : List ℕ) (params : Row) (old new : State) (count : ℕ) → IsHallSchema old.now.schema
+    → IsWritten sql params
+    → Executes sql params old new (Ok count) → IsDatabase new.now
+ran_sound sql params old new count has written ran =
+    let it = written old.now.schema has in
+    let command = command_of (understood old.now.schema sql) in
+    written_sound old new command _ params count (writes_rows command it.edits)
+    (runs_as sql params old new old.now.schema refl command refl it.plain count ran)

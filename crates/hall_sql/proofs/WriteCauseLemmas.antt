@@ -1,6 +1,9 @@
 -- Why a write fails, from what the connection refused.
-use Rattle.std.proofs.Common.{◌≡◌, ◌≢◌, ◌⊎◌, inl, inr, ℕ, zero, suc, ◌+◌, ◌<◌, ◌≤◌, List, ◌∷◌, length, drop, get_or, true, false, ◌||◌, ◌&&◌, append-nil, Option, Some, None, Ok, Err, IsTrue, IsSome, is_some, refl, sym, ap, subst, ◌∙◌, arith}
+use Rattle.std.proofs.Common.{IsErrAnd, ◌≡◌, ◌≢◌, ◌⊎◌, inl, inr, ℕ, zero, suc, ◌+◌, ◌<◌, ◌≤◌, List, ◌∷◌, length, drop}
+use Rattle.std.proofs.Common.{get_or, true, false, ◌||◌, ◌&&◌, append-nil, Option, Some, None, Result, Ok, Err, IsTrue}
+use Rattle.std.proofs.Common.{IsSome, is_some, refl, sym, ap, subst, ◌∙◌, arith}
 use Rattle.std.proofs.lemmas.Bool.{cases_Bool}
+use Rattle.std.proofs.lemmas.Result.{IfErr-weaker}
 use Rattle.sqlite_schema.specs.declared.command.Returning.{Returning}
 use Rattle.sqlite_schema.specs.declared.command.Command.{Command}
 use Rattle.sqlite_schema.specs.declared.command.Command.TheVariants.{Insert, Update, Delete}
@@ -11,12 +14,18 @@ use Rattle.sqlite.specs.declared.error.Error.TheVariants.{SqliteFailure}
 use Rattle.sqlite.specs.Order.{Row}
 use Rattle.sqlite.specs.Does.{Does}
 use Rattle.sqlite.specs.Listing.{understood}
-use Rattle.sqlite.specs.State.{State, HasCleanDisk, IsMisplaced, Escapes, EndsScope, RunsCommand, Executes, ExecutesIn, mode_of, text_of, is_pragma, shows_rows}
+use Rattle.sqlite.specs.State.{State, HasCleanDisk, IsMisplaced, Escapes, EndsScope, RunsCommand, Executes, ExecutesIn}
+use Rattle.sqlite.specs.State.{mode_of, text_of, is_pragma, shows_rows}
 use Rattle.sqlite.specs.Steps.{FailsToCommit}
 use Rattle.sqlite.proofs.Callers.{IsPlain, command_of, statement_of}
-use Rattle.hall_store.specs.Store.{MoreFaults}
+use Rattle.hall_policy.specs.World.{World}
+use Rattle.hall_store.specs.Store.{Fails, MoreFaults}
+use Rattle.hall_store.specs.declared.fault.StoreFault.{StoreFault}
+use Rattle.hall_store.specs.declared.fault.StoreFault.TheVariants.{Failed}
+use Rattle.hall_sql.proofs.CauseLemmas.{fails_as}
 use Rattle.sqlite.specs.Schema.{Schema}
-use Rattle.hall_sql.specs.Standing.{IsHall, LeadsConnection}
+use Rattle.hall_sql.specs.Rows.{world_of}
+use Rattle.hall_sql.specs.Standing.{IsHall, KeptTables, LeadsConnection}
 use Rattle.hall_sql.specs.Inside.{KeptTransaction, IsHallData, LeadsUncommitted, MakesInside}
 use Rattle.sqlite_trees.specs.declared.store.Store.{Ghosts}
 use Rattle.sqlite.specs.Held.{Held, state}
@@ -33,17 +42,24 @@ use Rattle.hall_sql.specs.RoundPuts.{CountsHeads}
 use Rattle.hall_sql.specs.declared.puzzles.TheConstants.{ADD_PUZZLE, REPLACE_PUZZLE}
 use Rattle.hall_sql.specs.declared.round_writes.TheConstants.{ADD_HEAD, REPLACE_HEAD}
 use Rattle.hall_sql.proofs.EachLemmas.{next_item}
-use Rattle.hall_sql.specs.WriteCause.{PuzzleIsRefused, PutPuzzleFails, HeadIsRefused, IsHeadRefused}
-use Rattle.hall_sql.specs.WriteCause.{IsEdit, IsWritten, IsWrittenIn, enforced, IsStatementRefused, RunFails, Refuses}
-use Rattle.hall_sql.specs.WriteCause.{RefusesInside, RefusesToAsk, IsUnderWay}
+use Rattle.hall_sql.specs.WriteCause.{PuzzleIsRefused, PutPuzzleFails, HeadIsRefused, IsHeadRefused, IsEdit, IsWritten}
+use Rattle.hall_sql.specs.WriteCause.{IsWrittenIn, enforced, IsStatementRefused, RunFails, Refuses, RefusesInside}
+use Rattle.hall_sql.specs.WriteCause.{RefusesToAsk, IsUnderWay, InsideFails}
 use Rattle.hall_sql.proofs.AskedLemmas.{store_cause, not_run, open_cause}
 
 -- ---- one statement
 
 -- a text that was computed to be an edit
-pub written : {schema : Schema} (sql : List ℕ) (params : Row) (command : Command) → command_of (understood schema sql) ≡ command → IsEdit command
-    → IsPlain (understood schema sql) → is_whole sql (length params) (understood schema sql) ≡ true → IsWrittenIn sql params schema
-written sql params command is edit plain whole = record { plain = plain; whole = whole; edits = subst IsEdit (sym is) edit }
+pub written : {schema : Schema} (sql : List ℕ) (params : Row) (command : Command)
+    → command_of (understood schema sql) ≡ command → IsEdit command
+    → IsPlain (understood schema sql) → is_whole sql (length params) (understood schema sql) ≡ true
+    → IsWrittenIn sql params schema
+written sql params command is edit plain whole = record {
+  plain = plain;
+  whole = whole;
+  edits = subst IsEdit (sym is)
+      edit;
+}
 
 -- an edit is no command that shows rows, nor one that begins or ends a transaction
 edit_shows : (command : Command) (returning : Option Returning) → IsEdit command → returning ≡ None
@@ -76,13 +92,19 @@ edit_stays s command edit (inr h) = elim h.1 [
   | inr back ↦ subst IsEdit back edit
 ]
 
-module _ (sql : List ℕ) (params : Row) (old new : State) (e : Error) (other : e ≢ SqliteFailure code.OutOfMemory) (free : old.step_limit ≡ None) where
+module _ (sql : List ℕ) (params : Row) (old new : State) (e : Error) (other : e ≢ SqliteFailure code.OutOfMemory)
+    (free : old.step_limit ≡ None) where
   module _ (c : Compiled) (known : understood old.now.schema sql ≡ Ok c) (none : c.returning ≡ None) where
-    is_refused : (stop : Option Error) → Does old.step_limit (mode_of old) params old.now (text_of sql c) c.returning c.command (Err stop)
+    is_refused : (stop : Option Error) → Does old.step_limit (mode_of old) params old.now (text_of sql c) c.returning
+        c.command (Err stop)
         → IsStatementRefused sql params old.now
     is_refused stop does =
-        let it : Does None enforced params old.now (text_of sql c) None c.command (Err stop) = rw (free, none) at does in
-        (stop, subst (λ r. Does None enforced params old.now (statement_of sql r) None (command_of r) (Err stop)) (sym known) it)
+        let it : Does None enforced params old.now (text_of sql c) None c.command (Err stop) = rw (free, none) at
+        does in (
+          stop,
+          subst (λ r. Does None enforced params old.now (statement_of sql r) None (command_of r) (Err stop))
+              (sym known) it,
+        )
 
     command_cause : IsEdit c.command → RunsCommand old new sql c params (Err e) → RunFails sql params old new
     command_cause edit (inl h) = elim h.0 [
@@ -94,7 +116,8 @@ module _ (sql : List ℕ) (params : Row) (old new : State) (e : Error) (other : 
       | inr large ↦ inr (is_refused None large)
     ]
 
-  executed_cause : IsWrittenIn sql params old.now.schema → Executes sql params old new (Err e) → RunFails sql params old new
+  executed_cause : IsWrittenIn sql params old.now.schema → Executes sql params old new (Err e)
+      → RunFails sql params old new
   unfolding ExecutesIn
   executed_cause it (inl h) = inl (not_run old.now.schema sql params old new e it.plain it.whole other refl h)
   executed_cause it (inr h) =
@@ -106,35 +129,43 @@ module _ (sql : List ℕ) (params : Row) (old new : State) (e : Error) (other : 
       command_cause h.0 known bare.0 edit runs
 
 -- outside a transaction
-pub refused_cause : (sql : List ℕ) (params : Row) (old new : State) → IsWritten sql params → IsHall old → HasCleanDisk old
+pub refused_cause : (sql : List ℕ) (params : Row) (old new : State) → IsWritten sql params → IsHall old
+    → HasCleanDisk old
     → Refuses sql params old new → RunFails sql params old new
 refused_cause sql params old new it hall clean refuses = elim (cases_Bool old.is_open) [
-  | inl opens ↦ executed_cause sql params old new refuses.0 refuses.1 hall.unlimited (it old.now.schema (hall.settled clean opens).1) refuses.2
+  | inl opens ↦ executed_cause sql params old new refuses.0 refuses.1 hall.unlimited
+      (it old.now.schema (hall.settled clean opens).1) refuses.2
   | inr shut ↦ inl (inr shut)
 ]
 
-never_escapes : (sql : List ℕ) (params : Row) (s : State) → IsWrittenIn sql params s.now.schema → ¬ (EndsScope 0 sql params s)
+never_escapes : (sql : List ℕ) (params : Row) (s : State) → IsWrittenIn sql params s.now.schema
+    → ¬ (EndsScope 0 sql params s)
 unfolding EndsScope
 never_escapes sql params s it h =
     let known : understood s.now.schema sql ≡ Ok h.0 = h.1.is in
     edit_stays s h.0.command (subst (λ r. IsEdit (command_of r)) known it.edits) h.2
 
 -- and inside
-pub inside_cause : (sql : List ℕ) (params : Row) (old new : State) → IsWritten sql params → IsUnderWay old → RefusesInside sql params old new
+pub inside_cause : (sql : List ℕ) (params : Row) (old new : State) → IsWritten sql params → IsUnderWay old
+    → RefusesInside sql params old new
     → RunFails sql params old new
 inside_cause sql params old new it goes refuses = elim refuses.2 [
-  | inl ran ↦ executed_cause sql params old new refuses.0 refuses.1 goes.unlimited (it old.now.schema goes.hall.schema) ran.0
+  | inl ran ↦ executed_cause sql params old new refuses.0 refuses.1 goes.unlimited (it old.now.schema goes.hall.schema)
+      ran.0
   | inr ends ↦ absurd (never_escapes sql params old (it old.now.schema goes.hall.schema) ends.0)
 ]
 
-pub asked_inside : (sql : List ℕ) (params : Row) (old new : State) → IsAsked sql params → IsUnderWay old → RefusesToAsk sql params old new
+pub asked_inside : (sql : List ℕ) (params : Row) (old new : State) → IsAsked sql params → IsUnderWay old
+    → RefusesToAsk sql params old new
     → IsStoreCause old new
 asked_inside sql params old new asks goes refuses = elim refuses.2 [
-  | inl fails ↦ open_cause sql params old new refuses.0 (asks old.now.schema goes.hall.schema) goes.unlimited refuses.1 refl fails
+  | inl fails ↦ open_cause sql params old new refuses.0 (asks old.now.schema goes.hall.schema) goes.unlimited refuses.1
+      refl fails
   | inr late ↦
       let known : understood old.now.schema sql ≡ Ok late.0 = late.1.is in
       let plain = (asks old.now.schema goes.hall.schema).plain in
-      absurd (let no : false ≡ true = subst IsSome (subst IsPlain {x = understood old.now.schema sql} known plain).0 late.2 in cc)
+      absurd (let no : false ≡ true = subst IsSome (subst IsPlain {x = understood old.now.schema sql} known plain).0
+      late.2 in cc)
 ]
 
 -- ---- one call after another
@@ -158,7 +189,8 @@ cause_served a b c before opens (inl more) = inl (more_over a.faults b.faults c.
 cause_served a b c before opens (inr shut) = absurd (let no : false ≡ true = sym shut ∙ opens in cc)
 
 -- or whether it did or not
-pub cause_over : (a b c : State) → LeadsConnection a b → HasCleanDisk b → LeadsConnection b c → IsStoreCause b c → IsStoreCause a c
+pub cause_over : (a b c : State) → LeadsConnection a b → HasCleanDisk b → LeadsConnection b c → IsStoreCause b c
+    → IsStoreCause a c
 cause_over a b c before clean after cause = elim (cases_Bool b.is_open) [
   | inl opens ↦ cause_served a b c before.counts opens cause
   | inr shut ↦ elim (cases_Bool a.is_open) [
@@ -171,10 +203,12 @@ cause_over a b c before clean after cause = elim (cases_Bool b.is_open) [
 ]
 
 -- a statement after a call that left the tables
-pub run_over : (sql : List ℕ) (params : Row) (a b c : State) → LeadsConnection a b → HasCleanDisk b → LeadsConnection b c → b.now ≡ a.now
+pub run_over : (sql : List ℕ) (params : Row) (a b c : State) → LeadsConnection a b → HasCleanDisk b
+    → LeadsConnection b c → b.now ≡ a.now
     → RunFails sql params b c → RunFails sql params a c
 run_over sql params a b c before clean after same (inl cause) = inl (cause_over a b c before clean after cause)
-run_over sql params a b c before clean after same (inr refused) = inr (subst (IsStatementRefused sql params) same refused)
+run_over sql params a b c before clean after same (inr refused) = inr
+    (subst (IsStatementRefused sql params) same refused)
 
 -- so where the store served
 pub run_served : (sql : List ℕ) (params : Row) (a b c : State) → a.faults ≤ b.faults → IsTrue b.is_open → b.now ≡ a.now
@@ -187,8 +221,70 @@ pub goes_on : (a b : State) → IsUnderWay a → LeadsConnection a b → KeptTra
 goes_on a b goes lasts steps =
     record { mode = steps.mode; unlimited = lasts.limit ∙ goes.unlimited; hall = steps.hall goes.hall }
 
+-- ---- several calls
+
+-- the first of them fails as it does alone
+pub fails_first : {R Cause Why : Type 0} (Rest : Type 0) (result : Result R StoreFault) (fault : StoreFault)
+    → IsErrAnd result (λ e. e ≡ fault) → (fault ≡ Failed → Cause ⊎ Why) → Fails (Cause ⊎ (Why ⊎ Rest)) result
+fails_first Rest result fault is why = fails_as result _ fault is (λ failed. elim (why failed) [
+  | inl cause ↦ inl cause
+  | inr refused ↦ inr (inl refused)
+])
+
+-- ---- a call after one that did its part
+
+module _ (First : Database → Database → Type 0) (old mid new : State) (to_mid : LeadsConnection old mid)
+    (to_new : LeadsConnection mid new) (did : HasCleanDisk mid → IsTrue old.in_transaction → MakesInside First old mid)
+  where
+    -- it is called over what the first one left
+    gone_on : HasCleanDisk new → IsUnderWay old → IsUnderWay mid × First old.now mid.now
+    gone_on clean goes =
+        let was : HasCleanDisk mid = omega (arith, to_new.clean, clean) in
+        let first = did was goes.mode in
+        (goes_on old mid goes to_mid first.steps, first.does goes.hall)
+
+    module _ {Why Both : Type 0} (both : IsHallData mid.now → First old.now mid.now → Why → Both) where
+      -- so where it is refused there, both are
+      pub then_cause : HasCleanDisk new → IsUnderWay old → (IsUnderWay mid → IsStoreCause mid new ⊎ Why)
+          → IsStoreCause old new ⊎ Both
+      then_cause clean goes why =
+          let on = gone_on clean goes in
+          let was : HasCleanDisk mid = omega (arith, to_new.clean, clean) in
+          elim (why on.0) [
+            | inl cause ↦ inl (cause_over old mid new to_mid was to_new cause)
+            | inr refused ↦ inr (both on.0.hall on.1 refused)
+          ]
+
+      pub then_fails : {R : Type 0} (result : Result R StoreFault) → InsideFails mid new (IsStoreCause mid new ⊎ Why)
+          result
+          → InsideFails old new (IsStoreCause old new ⊎ Both) result
+      then_fails result fails clean goes =
+          IfErr-weaker result _ _ (λ fault why failed. then_cause clean goes (λ on. why failed))
+          (fails clean (gone_on clean goes).0)
+
+-- ---- a write of what a query found
+
+-- the query left the tables, so the write fails over them as they were before it
+pub found_fails : {X R Late : Type 0} (Finds : Type 0) (Why : X → Type 0) (at : World → Option X) (x : X)
+    (old mid new : State)
+    (result : Result R StoreFault) → KeptTables old mid → (HasCleanDisk new → HasCleanDisk mid)
+    → (HasCleanDisk mid → IsTrue mid.is_open × (at (world_of mid.now.trees) ≡ Some x))
+    → (old.faults ≤ mid.faults → IsTrue mid.is_open → mid.now ≡ old.now → Late → Why x)
+    → (HasCleanDisk new → Fails Late result) → HasCleanDisk new
+    → Fails (Finds ⊎ ((x : X) × (at (world_of old.now.trees) ≡ Some x) × Why x)) result
+found_fails Finds Why at x old mid new result rested honest found early fails clean =
+    let was = honest clean in
+    let it = found was in
+    let same = rested.same was it.0 in
+    let there = subst (λ (d : Database). at (world_of d.trees) ≡ Some x) same it.1 in
+    IfErr-weaker result _ _
+    (λ fault why failed. inr (x, there, early rested.follows.lasts.counts it.0 same (why failed))) (fails clean)
+
+-- ---- the end of a transaction
+
 -- a commit that is refused has its cause in the store
-pub commit_cause : (old new : State) (e : Error) → IsTrue old.in_transaction → e ≢ SqliteFailure code.OutOfMemory → FailsToCommit old new e
+pub commit_cause : (old new : State) (e : Error) → IsTrue old.in_transaction → e ≢ SqliteFailure code.OutOfMemory
+    → FailsToCommit old new e
     → IsStoreCause old new
 commit_cause old new e mode other (inl h) = elim (store_cause old new ⊥ e other h.0 h.1 h.2) [
   | inl cause ↦ cause
@@ -203,22 +299,28 @@ next_is items i item low is = next_item items i item low ∙ ap (λ x. x ∷ dro
 
 -- ---- puzzles
 
-pub new_refused : (row : PuzzleRow) (text : List ℕ) (count : ℕ) (a b : State) → CanonicalText text row.puzzle → count ≡ 0
+pub new_refused : (row : PuzzleRow) (text : List ℕ) (count : ℕ) (a b : State) → CanonicalText text row.puzzle
+    → count ≡ 0
     → RunFails ADD_PUZZLE.now (puzzle_params text row) a b → IsStoreCause a b ⊎ PuzzleIsRefused row count a.now
 new_refused row text count a b is none (inl cause) = inl cause
-new_refused row text count a b is none (inr refused) = inr (subst (λ n. PuzzleIsRefused row n a.now) (sym none) (text, is, refused))
+new_refused row text count a b is none (inr refused) = inr (subst (λ n. PuzzleIsRefused row n a.now) (sym none)
+    (text, is, refused))
 
-pub over_refused : (row : PuzzleRow) (text : List ℕ) (count : ℕ) (a b : State) → CanonicalText text row.puzzle → count ≡ 1
+pub over_refused : (row : PuzzleRow) (text : List ℕ) (count : ℕ) (a b : State) → CanonicalText text row.puzzle
+    → count ≡ 1
     → RunFails REPLACE_PUZZLE.now (puzzle_params text row) a b → IsStoreCause a b ⊎ PuzzleIsRefused row count a.now
 over_refused row text count a b is one (inl cause) = inl cause
-over_refused row text count a b is one (inr refused) = inr (subst (λ n. PuzzleIsRefused row n a.now) (sym one) (text, is, refused))
+over_refused row text count a b is one (inr refused) = inr (subst (λ n. PuzzleIsRefused row n a.now) (sym one)
+    (text, is, refused))
 
-pub many_refused : (row : PuzzleRow) (count : ℕ) (db : Database) → ¬ (count ≡ 0) → ¬ (count ≡ 1) → PuzzleIsRefused row count db
+pub many_refused : (row : PuzzleRow) (count : ℕ) (db : Database) → ¬ (count ≡ 0) → ¬ (count ≡ 1)
+    → PuzzleIsRefused row count db
 many_refused row zero db some more = absurd (some refl)
 many_refused row (suc zero) db some more = absurd (more refl)
 many_refused row (suc (suc n)) db some more = tt
 
-pub puzzle_found : (row : PuzzleRow) (count : ℕ) (a b c : State) → a.faults ≤ b.faults → IsTrue b.is_open → b.now ≡ a.now
+pub puzzle_found : (row : PuzzleRow) (count : ℕ) (a b c : State) → a.faults ≤ b.faults → IsTrue b.is_open
+    → b.now ≡ a.now
     → HasSoMany row.key b count → IsStoreCause b c ⊎ PuzzleIsRefused row count b.now → PutPuzzleFails row a c
 puzzle_found row count a b c before opens same many (inl cause) = inl (cause_served a b c before opens cause)
 puzzle_found row count a b c before opens same many (inr refused) = inr (
@@ -227,7 +329,8 @@ puzzle_found row count a b c before opens same many (inr refused) = inr (
   subst (PuzzleIsRefused row count) same refused,
 )
 
-pub puzzle_served : (row : PuzzleRow) (a b c : State) → a.faults ≤ b.faults → IsTrue b.is_open → b.now ≡ a.now → PutPuzzleFails row b c
+pub puzzle_served : (row : PuzzleRow) (a b c : State) → a.faults ≤ b.faults → IsTrue b.is_open → b.now ≡ a.now
+    → PutPuzzleFails row b c
     → PutPuzzleFails row a c
 puzzle_served row a b c before opens same (inl cause) = inl (cause_served a b c before opens cause)
 puzzle_served row a b c before opens same (inr it) = puzzle_found row it.0 a b c before opens same it.1 (inr it.2)
@@ -239,20 +342,24 @@ pub new_head : (round : Round) (count : ℕ) (a b : State) → count ≡ 0 → R
 new_head round count a b none (inl cause) = inl cause
 new_head round count a b none (inr refused) = inr (subst (λ n. HeadIsRefused round n a.now) (sym none) refused)
 
-pub over_head : (round : Round) (count : ℕ) (a b : State) → count ≡ 1 → RunFails REPLACE_HEAD.now (head_params round) a b
+pub over_head : (round : Round) (count : ℕ) (a b : State) → count ≡ 1 → RunFails REPLACE_HEAD.now (head_params round) a
+    b
     → IsStoreCause a b ⊎ HeadIsRefused round count a.now
 over_head round count a b one (inl cause) = inl cause
 over_head round count a b one (inr refused) = inr (subst (λ n. HeadIsRefused round n a.now) (sym one) refused)
 
-pub many_heads : (round : Round) (count : ℕ) (db : Database) → ¬ (count ≡ 0) → ¬ (count ≡ 1) → HeadIsRefused round count db
+pub many_heads : (round : Round) (count : ℕ) (db : Database) → ¬ (count ≡ 0) → ¬ (count ≡ 1)
+    → HeadIsRefused round count db
 many_heads round zero db some more = absurd (some refl)
 many_heads round (suc zero) db some more = absurd (more refl)
 many_heads round (suc (suc n)) db some more = tt
 
-pub head_found : (round : Round) (count : ℕ) (a b c : State) → LeadsConnection a b → HasCleanDisk b → LeadsConnection b c → CountsHeads round.id count a.now b.now
+pub head_found : (round : Round) (count : ℕ) (a b c : State) → LeadsConnection a b → HasCleanDisk b
+    → LeadsConnection b c → CountsHeads round.id count a.now b.now
     → IsStoreCause b c ⊎ HeadIsRefused round count b.now → IsStoreCause a c ⊎ IsHeadRefused round a.now
 head_found round count a b c before clean after counts (inl cause) = inl (cause_over a b c before clean after cause)
-head_found round count a b c before clean after counts (inr refused) = inr (count, counts.many, subst (HeadIsRefused round count) counts.same refused)
+head_found round count a b c before clean after counts (inr refused) = inr
+    (count, counts.many, subst (HeadIsRefused round count) counts.same refused)
 
 -- ---- a transaction
 
@@ -266,7 +373,11 @@ module _ {S : Type 0} (g : Ghosts S) (held : Held S) (hall : IsHall (state g hel
       → (IsUnderWay base → IsStoreCause base mid ⊎ Refused) → IsStoreCause (state g held) end ⊎ Refused
   whole_cause mid end clean lasts why = elim (cases_Bool (state g held).is_open) [
     | inl opens ↦
-        let ours : IsHallData base.now = record { schema = (hall.settled clean opens).1; keyed = hall.keyed clean opens } in
+        let ours : IsHallData base.now = record {
+          schema = (hall.settled clean opens).1;
+          keyed = hall.keyed clean
+              opens;
+        } in
         elim (why (record { mode = refl; unlimited = hall.unlimited; hall = ours })) [
           | inl cause ↦ inl (cause_later base mid end lasts cause)
           | inr refused ↦ inr refused
@@ -276,7 +387,8 @@ module _ {S : Type 0} (g : Ghosts S) (held : Held S) (hall : IsHall (state g hel
 
   -- or its commit was
   pub commit_fails : (Does : Database → Database → Type 0) (mid end : State) (e : Error) → LeadsUncommitted base mid
-      → (HasCleanDisk mid → IsTrue base.in_transaction → MakesInside Does base mid) → LeadsConnection mid end → HasCleanDisk end
+      → (HasCleanDisk mid → IsTrue base.in_transaction → MakesInside Does base mid) → LeadsConnection mid end
+      → HasCleanDisk end
       → e ≢ SqliteFailure code.OutOfMemory → FailsToCommit mid end e → IsStoreCause (state g held) end
   commit_fails Does mid end e carries did lasts clean other fails =
       let was : HasCleanDisk mid = omega (arith, lasts.clean, clean) in

@@ -1,5 +1,6 @@
 -- From what a statement that writes leaves to what the trait of stores says.
-use Rattle.std.proofs.Common.{◌≡◌, inl, inr, ℕ, ℤ, pos, List, Bool, true, false, cond, if◌then◌else◌, IsTrue, IsErrAnd, Result, Ok, Err, OnOk, OnErr, None, refl, sym, ap, subst, ◌∙◌, arith}
+use Rattle.std.proofs.Common.{◌≡◌, inl, inr, ℕ, ℤ, pos, List, Bool, true, false, cond, if◌then◌else◌, IsTrue, IsErrAnd}
+use Rattle.std.proofs.Common.{Result, Ok, Err, OnOk, OnErr, None, refl, sym, ap, subst, ◌∙◌, arith}
 use Rattle.sqlite.specs.declared.types.Value.{Value}
 use Rattle.sqlite.specs.declared.types.Value.TheVariants.{Null, Int}
 use Rattle.sqlite.specs.Cast.{cast}
@@ -9,7 +10,6 @@ use Rattle.sqlite.specs.Order.{Row}
 use Rattle.sqlite.specs.Effect.{Database}
 use Rattle.sqlite.specs.State.{State, HasCleanDisk, Writes}
 use Rattle.sqlite_schema.specs.declared.command.Command.{Command}
-use Rattle.hall_policy.specs.World.{World}
 use Rattle.hall_store.specs.Store.{LeavesOneOf, MakesInWorld}
 use Rattle.hall_store.specs.Change.{changed}
 use Rattle.hall_store.specs.declared.change.Change.{Change}
@@ -26,8 +26,10 @@ use Rattle.hall_sql.proofs.SparedLemmas.{same_spared}
 use Rattle.hall_sql.proofs.StoreLemmas.{opens_hall, rested_stayed, stays_on}
 
 -- a write outside a transaction is committed
-pub writes_hall : (old new : State) (command : Command) (text : List ℕ) (given : Row) (count : ℕ) → old.in_transaction ≡ false
-    → (w : Writes old new None command text given count) → IsHallSchema new.now.schema → AreAllKeyed new.now.trees → IsHall (without_limit new)
+pub writes_hall : (old new : State) (command : Command) (text : List ℕ) (given : Row) (count : ℕ)
+    → old.in_transaction ≡ false
+    → (w : Writes old new None command text given count) → IsHallSchema new.now.schema → AreAllKeyed new.now.trees
+    → IsHall (without_limit new)
 writes_hall old new command text given count mode w has keyed = record {
   unlimited = refl;
   autocommit = λ clean. w.shown.mode ∙ mode;
@@ -53,7 +55,8 @@ no_stops change old new stops opens clean db may = inl (stops clean db may)
 
 -- a statement that ran makes the change
 pub made_wrote : {R E : Type 0} (change : Change) (old new : State) (done : R) → IsHall old → LeadsConnection old new
-    → StopsAt change old new → (HasCleanDisk old → HasCleanDisk new → HasMade change old new) → MakesInTables {E = E} change old new (Ok done)
+    → StopsAt change old new → (HasCleanDisk old → HasCleanDisk new → HasMade change old new)
+    → MakesInTables {E = E} change old new (Ok done)
 made_wrote change old new done hall lasts stops made =
     let before = λ (clean : HasCleanDisk new). let was : HasCleanDisk old = omega (arith, lasts.clean, clean) in was in
     let it = λ (clean : HasCleanDisk new). made (before clean) clean in
@@ -80,7 +83,8 @@ made_wrote change old new done hall lasts stops made =
     }
 
 -- and one that is refused leaves the tables
-pub stayed_wrote : {R E : Type 0} (change : Change) (old new : State) (fault : E) → StopsAt change old new → KeptRows old new → MakesInTables {R = R} change old new (Err fault)
+pub stayed_wrote : {R E : Type 0} (change : Change) (old new : State) (fault : E) → StopsAt change old new
+    → KeptRows old new → MakesInTables {R = R} change old new (Err fault)
 stayed_wrote change old new fault stops rested = record {
   hall = rested.tabled;
   makes = record {
@@ -94,18 +98,22 @@ stayed_wrote change old new fault stops rested = record {
 }
 
 -- so does a call that rests
-pub rested_wrote : {R E : Type 0} (change : Change) (old new : State) (fault : E) → KeptTables old new → MakesInTables {R = R} change old new (Err fault)
-rested_wrote change old new fault rested = stayed_wrote change old new fault (no_stops change old new rested.stops) (rested_stayed rested)
+pub rested_wrote : {R E : Type 0} (change : Change) (old new : State) (fault : E) → KeptTables old new
+    → MakesInTables {R = R} change old new (Err fault)
+rested_wrote change old new fault rested = stayed_wrote change old new fault (no_stops change old new rested.stops)
+    (rested_stayed rested)
 
 -- so does a call that rests before it
-pub rested_wrote_as : {R E : Type 0} (change : Change) (old new : State) (fault : E) (result : Result R E) → IsErrAnd result (λ e. e ≡ fault) → KeptTables old new
+pub rested_wrote_as : {R E : Type 0} (change : Change) (old new : State) (fault : E) (result : Result R E)
+    → IsErrAnd result (λ e. e ≡ fault) → KeptTables old new
     → MakesInTables change old new result
 rested_wrote_as change old new fault (Ok done) is rested = absurd is
 rested_wrote_as change old new fault (Err e) is rested = rested_wrote change old new e rested
 
 -- a write after a query that left the world
 pub rested_then : {R E : Type 0} (change : Change) (old mid new : State) (result : Result R E) → KeptTables old mid
-    → (HasCleanDisk mid → IsTrue mid.is_open) → MakesInTables change mid new result → MakesInTables change old new result
+    → (HasCleanDisk mid → IsTrue mid.is_open) → MakesInTables change mid new result
+    → MakesInTables change old new result
 rested_then {R} {E} change old mid new result rested serves wrote =
     let before = wrote.makes.leads.honest in
     let same = λ (clean : HasCleanDisk new). rested.same (before clean) (serves (before clean)) in
@@ -113,7 +121,8 @@ rested_then {R} {E} change old mid new result rested serves wrote =
     record {
       hall = wrote.hall;
       makes = record {
-        leads = leads_then (content_of old) (content_of mid) (content_of new) (follows_leads old mid rested.follows) wrote.makes.leads;
+        leads = leads_then (content_of old) (content_of mid) (content_of new) (follows_leads old mid rested.follows)
+            wrote.makes.leads;
         once = omega arith;
         stops = λ opens clean left it. elim (wrote.makes.stops (serves (before clean)) clean left it) [
           | inl earlier ↦ inl (earlier.0, rested.stops (before clean) earlier.0 earlier.1, earlier.2)
@@ -121,11 +130,14 @@ rested_then {R} {E} change old mid new result rested serves wrote =
         ];
         made = by result wrote.makes.made world;
       };
-      others = λ clean. subst (λ (d : Database). OnOk result (KeptOtherRows (may_write change) d.trees new.now.trees)) (same clean) (wrote.others clean);
+      others = λ clean. subst (λ (d : Database). OnOk result (KeptOtherRows (may_write change) d.trees new.now.trees))
+          (same clean) (wrote.others clean);
       refused = left result wrote.refused;
     }
   where
-    by : (result : Result R E) → MakesInWorld change (content_of mid) (content_of new) result → (HasCleanDisk new → world_of mid.now.trees ≡ world_of old.now.trees) → MakesInWorld change (content_of old) (content_of new) result
+    by : (result : Result R E) → MakesInWorld change (content_of mid) (content_of new) result
+        → (HasCleanDisk new → world_of mid.now.trees ≡ world_of old.now.trees)
+        → MakesInWorld change (content_of old) (content_of new) result
     by (Ok done) made world = λ clean. let it = made clean in (it.0, it.1 ∙ ap (changed change) (world clean))
     by (Err fault) made world = λ clean opens. made clean opens ∙ world clean
 
@@ -134,8 +146,10 @@ rested_then {R} {E} change old mid new result rested serves wrote =
     left (Err fault) second = stays_on old mid new rested second
 
 -- a query that left the world made a change that changes nothing
-pub rested_made : {R E : Type 0} (change : Change) (old new : State) (done : R) → KeptTables old new → (HasCleanDisk new → IsTrue new.is_open)
-    → (HasCleanDisk new → changed change (world_of new.now.trees) ≡ world_of new.now.trees) → MakesInTables {E = E} change old new (Ok done)
+pub rested_made : {R E : Type 0} (change : Change) (old new : State) (done : R) → KeptTables old new
+    → (HasCleanDisk new → IsTrue new.is_open)
+    → (HasCleanDisk new → changed change (world_of new.now.trees) ≡ world_of new.now.trees)
+    → MakesInTables {E = E} change old new (Ok done)
 rested_made change old new done rested serves nothing = record {
   hall = rested.tabled;
   makes = record {
@@ -146,13 +160,15 @@ rested_made change old new done rested serves nothing = record {
         let world = ap (λ (d : Database). world_of d.trees) (rested.same clean (serves clean)) in
         (serves clean, sym (nothing clean) ∙ ap (changed change) world);
   };
-  others = λ clean. subst (λ (d : Database). KeptOtherRows (may_write change) d.trees new.now.trees) (rested.same clean (serves clean)) (same_spared (may_write change) new.now.trees);
+  others = λ clean. subst (λ (d : Database). KeptOtherRows (may_write change) d.trees new.now.trees)
+      (rested.same clean (serves clean)) (same_spared (may_write change) new.now.trees);
   refused = tt;
 }
 
 -- a write that made one change made another that is the same of its world and may write the same rows
 pub wrote_too : {R E : Type 0} (change other : Change) (old new : State) (result : Result R E)
-    → (HasCleanDisk old → (changed change (world_of old.now.trees) ≡ changed other (world_of old.now.trees)) × (may_write change ≡ may_write other))
+    → (HasCleanDisk old → (changed change (world_of old.now.trees) ≡ changed other (world_of old.now.trees))
+    × (may_write change ≡ may_write other))
     → MakesInTables change old new result → MakesInTables other old new result
 wrote_too {R} {E} change other old new result same wrote = record {
   hall = wrote.hall;
@@ -165,27 +181,16 @@ wrote_too {R} {E} change other old new result same wrote = record {
     ];
     made = by result wrote.makes.made wrote.makes.leads.honest;
   };
-  others = λ clean. subst (λ takes. OnOk result (KeptOtherRows takes old.now.trees new.now.trees)) (same (wrote.makes.leads.honest clean)).1 (wrote.others clean);
+  others = λ clean. subst (λ takes. OnOk result (KeptOtherRows takes old.now.trees new.now.trees))
+      (same (wrote.makes.leads.honest clean)).1 (wrote.others clean);
   refused = wrote.refused;
 }
   where
-    by : (result : Result R E) → MakesInWorld change (content_of old) (content_of new) result → (HasCleanDisk new → HasCleanDisk old)
+    by : (result : Result R E) → MakesInWorld change (content_of old) (content_of new) result
+        → (HasCleanDisk new → HasCleanDisk old)
         → MakesInWorld other (content_of old) (content_of new) result
     by (Ok done) made before = λ clean. let it = made clean in (it.0, it.1 ∙ (same (before clean)).0)
     by (Err fault) made before = made
-
--- worlds are one where their maps are
-pub same_worlds : (a b : World) → a.people ≡ b.people → a.puzzles ≡ b.puzzles → a.rounds ≡ b.rounds → a.places ≡ b.places → a.answers ≡ b.answers
-    → a.protests ≡ b.protests → a.testers ≡ b.testers → a ≡ b
-same_worlds a b people puzzles rounds places answers protests testers = λ i. record {
-  people = people i;
-  puzzles = puzzles i;
-  rounds = rounds i;
-  places = places i;
-  answers = answers i;
-  protests = protests i;
-  testers = testers i;
-}
 
 either : (b : Bool) (x : Value) → cond b x x ≡ x
 either true x = refl

@@ -1,8 +1,9 @@
 -- What calls inside a transaction leave.
-use Rattle.std.specs.Prelude.{◌≡◌, [], ◌∷◌, None, IsTrue}
+use Rattle.std.specs.Prelude.{◌≡◌, ℕ, List, [], ◌∷◌, None, Result, Ok, IsTrue, OnOk}
 use Rattle.std.specs.FinMap.{get, insert}
 use Rattle.sqlite.specs.Effect.{Database, IsDatabase}
-use Rattle.sqlite.specs.State.{State, HasCleanDisk, KeepsCommit}
+use Rattle.sqlite.specs.Order.{Row}
+use Rattle.sqlite.specs.State.{State, HasCleanDisk, Executes, KeepsCommit}
 use Rattle.hall_policy.specs.World.{World}
 use Rattle.hall_policy.specs.declared.record.Person.{Person}
 use Rattle.hall_store.specs.Change.{changed}
@@ -33,10 +34,22 @@ pub record KeptTransaction (old new : State) : Type 0 where
   pub hall : IsHallData old.now → IsHallData new.now
   pub sound : IsHallData old.now → IsDatabase old.now → IsDatabase new.now
 
+-- a statement that writes rows ran inside a transaction, which goes on over a database
+pub record RanInside (sql : List ℕ) (params : Row) (old new : State) : Type 0 where
+  pub mode : IsTrue new.in_transaction
+  pub sound : IsHallData old.now → IsDatabase new.now
+  pub count : ℕ
+  pub ran : Executes sql params old new (Ok count)
+
 -- a call inside a transaction ran, and did this to the hall's tables
 pub record MakesInside (Does : Database → Database → Type 0) (old new : State) : Type 0 where
   pub steps : KeptTransaction old new
   pub does : IsHallData old.now → Does old.now new.now
+
+-- so does each call there that isn't refused
+abbrev pub DoesInside : {R E : Type 0} → State → State → (Database → Database → Type 0) → Result R E → Type 0
+DoesInside old new Does result =
+    HasCleanDisk new → IsTrue old.in_transaction → OnOk result (MakesInside Does old new)
 
 -- the tables hold the changed world, and each row that the change may not write
 pub record Changes (change : Change) (old new : Database) : Type 0 where

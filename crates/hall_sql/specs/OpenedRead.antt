@@ -57,5 +57,5 @@ IsCauseToRead {F} g image_at tells refuses opens closes old path new (Unopened e
 IsCauseToRead {F} g image_at tells refuses opens closes old path new (Refused fault) =
     (there : F) × tells old path false there
     × IsHandedBack MakesAtMost (λ was left. fault ≡ Failed → RefusesToRead was left)
-        g image_at opens closes there path new
+    g image_at opens closes there path new
 IsCauseToRead g image_at tells refuses opens closes old path new WasOld = ⊥

@@ -11,7 +11,7 @@ use Rattle.hall_sql.specs.declared.testers.TheConstants.{TESTERS_OF}
 
 -- over the tables as they were the query answers rows, and each of them is a record of this kind
 pub record AreRecords {X : Type 0} (read : Row → Option X) (sql : List ℕ) (params : Row) (old new : State)
-  : Type 0 where
+    : Type 0 where
   pub rows : List Row
   pub records : List X
   pub reads : map read rows ≡ map Some records

@@ -1,6 +1,6 @@
 -- Why a write to the tables answers that it failed.
 use Rattle.std.specs.Prelude.{◌≡◌, ◌≢◌, ◌⊎◌, ◌<◌, ◌+◌, ℕ, true, false, suc, zero, List, [], ◌∷◌, drop, take, length}
-use Rattle.std.specs.Prelude.{Option, Some, None, Result, Ok, Err, IsTrue}
+use Rattle.std.specs.Prelude.{Option, Some, None, Result, Ok, Err, IsTrue, OnOk, OnErr}
 use Rattle.std.specs.FinMap.{get}
 use Rattle.sqlite_schema.specs.declared.command.Command.{Command}
 use Rattle.sqlite_schema.specs.declared.command.Command.TheVariants.{Insert, Update, Delete}
@@ -20,6 +20,7 @@ use Rattle.sqlite.specs.Listing.{understood}
 use Rattle.sqlite.specs.Order.{Row}
 use Rattle.sqlite.specs.Schema.{Schema}
 use Rattle.sqlite.specs.State.{State, HasCleanDisk, Executes, ExecutesInside, FailsToQuery, IsTooLate, Shown}
+use Rattle.sqlite.specs.State.{CommitsBy, Survives}
 use Rattle.hall_grid.specs.Canonical.{CanonicalText}
 use Rattle.hall_policy.specs.declared.record.Entry.{Entry}
 use Rattle.hall_policy.specs.declared.record.Person.{Person}
@@ -35,7 +36,6 @@ use Rattle.hall_store.specs.Change.{flagged}
 use Rattle.hall_store.specs.Store.{Fails}
 use Rattle.hall_store.specs.declared.change.RoundFlag.{RoundFlag}
 use Rattle.hall_store.specs.declared.fault.StoreFault.{StoreFault}
-use Rattle.hall_store.specs.declared.fault.StoreFault.TheVariants.{Failed}
 use Rattle.hall_sql.specs.Asked.{is_whole}
 use Rattle.hall_sql.specs.Cause.{IsStoreCause, IsAnyUnread, FindFails}
 use Rattle.hall_sql.specs.Columns.{person_params, puzzle_params, ruling_params, HasSoMany}
@@ -49,7 +49,7 @@ use Rattle.hall_sql.specs.declared.rounds.TheConstants.{HEAD}
 use Rattle.hall_sql.specs.declared.round_writes.TheConstants.{ADD_HEAD, REPLACE_HEAD, DROP_PLACES, ADD_PLACE}
 use Rattle.hall_sql.specs.declared.protests.TheConstants.{RULE_PROTEST, PROTEST}
 use Rattle.hall_sql.specs.declared.testers.TheConstants.{DROP_TESTERS, ADD_TESTER}
-use Rattle.hall_sql.specs.Standing.{HasAdded}
+use Rattle.hall_sql.specs.Standing.{HasAdded, KeptRows, LeadsConnection}
 use Rattle.hall_sql.specs.Tables.{IsHallSchema, hall_schema}
 
 -- ---- one statement
@@ -91,10 +91,13 @@ RunFails sql params old new = IsStoreCause old new ⊎ IsStatementRefused sql pa
 abbrev pub Refuses : List ℕ → Row → State → State → Type 0
 Refuses sql params old new = (e : Error) × (e ≢ SqliteFailure OutOfMemory) × Executes sql params old new (Err e)
 
--- it ran, or was refused so
-abbrev pub ExecutesOrRefuses : List ℕ → Row → State → State → Result ℕ StoreFault → Type 0
-ExecutesOrRefuses sql params old new (Ok count) = Executes sql params old new (Ok count)
-ExecutesOrRefuses sql params old new (Err fault) = fault ≡ Failed → Refuses sql params old new
+-- the statement ran, or was refused, and then the tables are as they were; a stop in it leaves what it may commit
+pub record IsRun {R : Type 0} (sql : List ℕ) (params : Row) (old new : State) (result : Result R StoreFault)
+    : Type 0 where
+  pub lasts : LeadsConnection old new
+  pub refused : OnErr result (KeptRows old new)
+  pub survives : Survives old new (CommitsBy sql params old)
+  pub ran : HasCleanDisk new → OnOk result ((count : ℕ) × Executes sql params old new (Ok count))
 
 -- a statement inside a transaction was refused so
 abbrev pub RefusesInside : List ℕ → Row → State → State → Type 0

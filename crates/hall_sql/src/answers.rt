@@ -1,24 +1,24 @@
 //! The table of answers.
-ghost use Rattle.std.specs.Prelude.{◌≡◌, IsTrue, OnOk, OnErr, []};
+ghost use Rattle.std.specs.Prelude.{◌≡◌, []};
 ghost use Rattle.std.specs.FinMap.{values};
 ghost use Rattle.sqlite.specs.Held.{state};
 ghost use Rattle.hall_store.specs.Store.{Fails, Asks};
 ghost use Rattle.hall_store.specs.Change.{CanAddAnswer};
 ghost use Rattle.hall_store.specs.declared.change.Change.TheVariants.{AddAnswer};
 ghost use Rattle.hall_policy.specs.Ranges.{IsAnswerRow};
-ghost use Rattle.sqlite.specs.State.{HasCleanDisk, Survives, CommitsBy};
+ghost use Rattle.sqlite.specs.State.{HasCleanDisk};
 ghost use Rattle.sqlite.specs.Values.{bound};
 ghost use Rattle.hall_sql.specs.Columns.{answer_params};
 ghost use Rattle.hall_sql.specs.Fill.{AddsAnswer};
-ghost use Rattle.hall_sql.specs.Inside.{LeadsUncommitted, MakesInside};
-ghost use Rattle.hall_sql.specs.Standing.{IsHall, KeptRows, LeadsConnection};
+ghost use Rattle.hall_sql.specs.Inside.{LeadsUncommitted, DoesInside};
+ghost use Rattle.hall_sql.specs.Standing.{IsHall};
 ghost use Rattle.hall_sql.specs.Content.{MakesInTables, content_of};
 ghost use Rattle.hall_sql.specs.Rows.{answer_in};
 ghost use Rattle.hall_sql.specs.Reads.{ReadsTable};
 ghost use Rattle.hall_sql.specs.Versions.{IsAnyHall};
-ghost use Rattle.hall_sql.specs.WriteCause.{ExecutesOrRefuses, InsideFails, RunFails};
+ghost use Rattle.hall_sql.specs.WriteCause.{InsideFails, RunFails};
 
-use crate::calls::{run, run_in};
+use crate::calls::{run, write_in};
 use crate::counts::count;
 use crate::reads::read_any;
 use hall_policy::AnswerRow;
@@ -105,20 +105,6 @@ fn columns(row: &AnswerRow) -> [ValueRef<'_>; 8]
     ]
 }
 
-/// Writes the columns of an answer.
-fn write<S: Alter>(conn: &mut Connection<S>, row: &AnswerRow) -> Result<usize, StoreFault>
-    requires hall { IsHall (state S.Store conn.old) }
-    ensures lasts { LeadsConnection (state S.Store conn.old) (state S.Store conn.new) }
-    ensures refused { OnErr result (KeptRows (state S.Store conn.old) (state S.Store conn.new)) }
-    ensures survives { Survives (state S.Store conn.old) (state S.Store conn.new)
-        (CommitsBy ADD_ANSWER.now (answer_params row.now) (state S.Store conn.old)) }
-    ensures runs { HasCleanDisk (state S.Store conn.new) →
-        ExecutesOrRefuses ADD_ANSWER.now (answer_params row.now) (state S.Store conn.old) (state S.Store conn.new)
-        result }
-{
-    run(conn, ADD_ANSWER, &columns(row))
-}
-
 /// Adds an answer under a new key, inside a transaction.
 pub(crate) fn add_inside<S: Alter>(
     tx: &mut Transaction<'_, S>,
@@ -126,16 +112,14 @@ pub(crate) fn add_inside<S: Alter>(
 ) -> Result<(), StoreFault>
     ensures same_reference { tx.new.conn.ghost_name ≡ tx.old.conn.ghost_name }
     ensures carries { LeadsUncommitted (state S.Store tx.old.conn.now) (state S.Store tx.new.conn.now) }
-    ensures done { HasCleanDisk (state S.Store tx.new.conn.now) → IsTrue (state S.Store tx.old.conn.now).in_transaction
-        → OnOk result (MakesInside (λ a b. AddsAnswer a row.now b) (state S.Store tx.old.conn.now)
-        (state S.Store tx.new.conn.now)) }
+    ensures done { DoesInside (state S.Store tx.old.conn.now) (state S.Store tx.new.conn.now)
+        (λ a b. AddsAnswer a row.now b) result }
     ensures cause { InsideFails (state S.Store tx.old.conn.now) (state S.Store tx.new.conn.now)
         (RunFails ADD_ANSWER.now (answer_params row.now) (state S.Store tx.old.conn.now)
         (state S.Store tx.new.conn.now)) result }
 {
     in_range(row);
-    run_in(tx, ADD_ANSWER, &columns(row))?;
-    Ok(())
+    write_in(tx, ADD_ANSWER, &columns(row))
 }
 
 /// Stores one more answer.
@@ -150,8 +134,5 @@ pub(crate) fn add_answer<S: Alter>(
         (answer_params row.now) (state S.Store conn.old) (state S.Store conn.new)) result }
 {
     in_range(row);
-    match write(conn, row) {
-        Ok(_) => Ok(()),
-        Err(fault) => Err(fault),
-    }
+    run(conn, ADD_ANSWER, &columns(row))
 }

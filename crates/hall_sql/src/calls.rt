@@ -1,19 +1,19 @@
 //! One statement each: what it leaves of the connection.
-ghost use Rattle.std.specs.Prelude.{◌≡◌, ◌≢◌, true, IsTrue, Ok, IfOk, OnOk, OnErr};
+ghost use Rattle.std.specs.Prelude.{◌≡◌, ◌≢◌, true, IsTrue, Ok, IfOk, OnOk};
 ghost use Rattle.sqlite.specs.Values.{bound};
 ghost use Rattle.sqlite.specs.Held.{state};
 ghost use Rattle.sqlite.specs.Given.{IsPlain};
 ghost use Rattle.sqlite.specs.Listing.{understood};
-ghost use Rattle.sqlite.specs.State.{HasCleanDisk, IsLive, Shown, Executes, FailsToQuery, Survives, CommitsBy};
+ghost use Rattle.sqlite.specs.State.{HasCleanDisk, IsLive, Shown, Executes, FailsToQuery};
 ghost use Rattle.sqlite.specs.declared.error.Error.{Error as Refusal};
 ghost use Rattle.sqlite.specs.declared.error.Error.TheVariants.{SqliteFailure};
 ghost use Rattle.sqlite.specs.declared.error.ErrorCode.TheVariants.{OutOfMemory};
 ghost use Rattle.hall_store.specs.Store.{Fails};
 ghost use Rattle.hall_store.specs.declared.fault.StoreFault.TheVariants.{Failed};
-ghost use Rattle.hall_sql.specs.Standing.{IsHall, IsOver, KeptTables, KeptRows, KeptAnyTables, LeadsConnection};
+ghost use Rattle.hall_sql.specs.Standing.{IsHall, IsOver, KeptAnyTables};
 ghost use Rattle.hall_sql.specs.Asked.{ReturnsNothing};
-ghost use Rattle.hall_sql.specs.Inside.{LeadsUncommitted};
-ghost use Rattle.hall_sql.specs.WriteCause.{ExecutesOrRefuses, RefusesInside, RefusesToAsk};
+ghost use Rattle.hall_sql.specs.Inside.{LeadsUncommitted, RanInside};
+ghost use Rattle.hall_sql.specs.WriteCause.{InsideFails, IsRun, IsWritten, RefusesInside, RefusesToAsk, RunFails};
 
 use hall_store::StoreFault;
 use sqlite::types::ValueRef;
@@ -58,22 +58,20 @@ pub(crate) fn ask<S: Alter>(
     }
 }
 
-/// Runs a statement that is no query. Refused, it changes nothing.
+/// Runs a statement that writes rows. Refused, it changes nothing.
 pub(crate) fn run<S: Alter>(
     conn: &mut Connection<S>,
     sql: &str,
     params: &[ValueRef<'_>],
-) -> Result<usize, StoreFault>
+) -> Result<(), StoreFault>
     requires hall { IsHall (state S.Store conn.old) }
-    ensures lasts { LeadsConnection (state S.Store conn.old) (state S.Store conn.new) }
-    ensures refused { OnErr result (KeptRows (state S.Store conn.old) (state S.Store conn.new)) }
-    ensures survives { Survives (state S.Store conn.old) (state S.Store conn.new)
-        (CommitsBy sql.now (bound params.now) (state S.Store conn.old)) }
-    ensures runs { HasCleanDisk (state S.Store conn.new) →
-        ExecutesOrRefuses sql.now (bound params.now) (state S.Store conn.old) (state S.Store conn.new) result }
+    requires written { IsWritten sql.now (bound params.now) }
+    ensures calls { IsRun sql.now (bound params.now) (state S.Store conn.old) (state S.Store conn.new) result }
+    ensures cause { HasCleanDisk (state S.Store conn.new) → Fails (RunFails sql.now (bound params.now)
+        (state S.Store conn.old) (state S.Store conn.new)) result }
 {
     match conn.execute(sql, params) {
-        Ok(count) => Ok(count),
+        Ok(_) => Ok(()),
         Err(error) => Err(fault_of(&error)),
     }
 }
@@ -118,4 +116,23 @@ pub(crate) fn run_in<S: Alter>(
         Ok(count) => Ok(count),
         Err(error) => Err(fault_of(&error)),
     }
+}
+
+/// Runs a statement that writes rows inside a transaction.
+pub(crate) fn write_in<S: Alter>(
+    tx: &mut Transaction<'_, S>,
+    sql: &str,
+    params: &[ValueRef<'_>],
+) -> Result<(), StoreFault>
+    requires written { IsWritten sql.now (bound params.now) }
+    ensures same_reference { tx.new.conn.ghost_name ≡ tx.old.conn.ghost_name }
+    ensures carries { LeadsUncommitted (state S.Store tx.old.conn.now) (state S.Store tx.new.conn.now) }
+    ensures ran { HasCleanDisk (state S.Store tx.new.conn.now) → IsTrue (state S.Store tx.old.conn.now).in_transaction
+        → OnOk result (RanInside sql.now (bound params.now) (state S.Store tx.old.conn.now)
+        (state S.Store tx.new.conn.now)) }
+    ensures cause { InsideFails (state S.Store tx.old.conn.now) (state S.Store tx.new.conn.now)
+        (RunFails sql.now (bound params.now) (state S.Store tx.old.conn.now) (state S.Store tx.new.conn.now)) result }
+{
+    run_in(tx, sql, params)?;
+    Ok(())
 }

@@ -12,7 +12,7 @@ ghost use Rattle.hall_sql.specs.FillCause.{RefusesToAddPerson, RefusesToAddPlace
 ghost use Rattle.hall_sql.specs.FillCause.{RefusesToAddPuzzle};
 ghost use Rattle.hall_sql.specs.WriteCause.{InsideFails};
 ghost use Rattle.hall_sql.specs.Cause.{IsStoreCause};
-ghost use Rattle.hall_sql.specs.Inside.{LeadsUncommitted, MakesInside};
+ghost use Rattle.hall_sql.specs.Inside.{LeadsUncommitted, DoesInside};
 ghost use Rattle.hall_sql.specs.Standing.{AddsOutcomes, IsHall, KeptRows};
 ghost use Rattle.hall_sql.specs.Content.{content_of};
 
@@ -39,10 +39,8 @@ pub(crate) trait Added: Sized {
     fn add<S: Alter>(&self, tx: &mut Transaction<'_, S>, alloc: Global) -> Result<(), StoreFault>
         ensures same_reference { tx.new.conn.ghost_name ≡ tx.old.conn.ghost_name }
         ensures carries { LeadsUncommitted (state S.Store tx.old.conn.now) (state S.Store tx.new.conn.now) }
-        ensures done { HasCleanDisk (state S.Store tx.new.conn.now)
-            → IsTrue (state S.Store tx.old.conn.now).in_transaction
-            → OnOk result (MakesInside (λ a b. adds a self.now b) (state S.Store tx.old.conn.now)
-            (state S.Store tx.new.conn.now)) }
+        ensures done { DoesInside (state S.Store tx.old.conn.now) (state S.Store tx.new.conn.now)
+            (λ a b. adds a self.now b) result }
         ensures cause { InsideFails (state S.Store tx.old.conn.now) (state S.Store tx.new.conn.now)
             (IsStoreCause (state S.Store tx.old.conn.now) (state S.Store tx.new.conn.now)
             ⊎ refuses self.now (state S.Store tx.old.conn.now).now) result };
@@ -116,9 +114,8 @@ fn add_each<S: Alter, T: Added>(
 ) -> Result<(), StoreFault>
     ensures same_reference { tx.new.conn.ghost_name ≡ tx.old.conn.ghost_name }
     ensures carries { LeadsUncommitted (state S.Store tx.old.conn.now) (state S.Store tx.new.conn.now) }
-    ensures done { HasCleanDisk (state S.Store tx.new.conn.now) → IsTrue (state S.Store tx.old.conn.now).in_transaction
-        → OnOk result (MakesInside (λ a b. HasTaken T.adds a records.now b) (state S.Store tx.old.conn.now)
-        (state S.Store tx.new.conn.now)) }
+    ensures done { DoesInside (state S.Store tx.old.conn.now) (state S.Store tx.new.conn.now)
+        (λ a b. HasTaken T.adds a records.now b) result }
     ensures cause { InsideFails (state S.Store tx.old.conn.now) (state S.Store tx.new.conn.now)
         (IsStoreCause (state S.Store tx.old.conn.now) (state S.Store tx.new.conn.now)
         ⊎ IsNextRefused T.adds T.refuses records.now (state S.Store tx.old.conn.now).now) result }
@@ -137,8 +134,8 @@ fn fill_inside<S: Alter>(
 ) -> Result<(), StoreFault>
     ensures same_reference { tx.new.conn.ghost_name ≡ tx.old.conn.ghost_name }
     ensures carries { LeadsUncommitted (state S.Store tx.old.conn.now) (state S.Store tx.new.conn.now) }
-    ensures done { HasCleanDisk (state S.Store tx.new.conn.now) → IsTrue (state S.Store tx.old.conn.now).in_transaction
-        → OnOk result (MakesInside (Fills rows.now) (state S.Store tx.old.conn.now) (state S.Store tx.new.conn.now)) }
+    ensures done { DoesInside (state S.Store tx.old.conn.now) (state S.Store tx.new.conn.now)
+        (Fills rows.now) result }
     ensures cause { InsideFails (state S.Store tx.old.conn.now) (state S.Store tx.new.conn.now)
         (FillFails rows.now (state S.Store tx.old.conn.now) (state S.Store tx.new.conn.now)) result }
 {
@@ -164,7 +161,7 @@ pub(crate) fn fill<S: Alter>(
         × Fills rows.now (state S.Store conn.old).now (state S.Store conn.new).now) }
     ensures stops { IsTrue (state S.Store conn.old).is_open
         → AddsOutcomes (AreFilled rows.now (state S.Store conn.old).now) (state S.Store conn.old)
-            (state S.Store conn.new) }
+        (state S.Store conn.new) }
     ensures refused { OnErr result (KeptRows (state S.Store conn.old) (state S.Store conn.new)) }
     ensures cause { HasCleanDisk (state S.Store conn.new)
         → Fails (FillFails rows.now (state S.Store conn.old) (state S.Store conn.new)) result }

@@ -1,14 +1,15 @@
 //! The table of people.
-ghost use Rattle.std.specs.Prelude.{◌≡◌, ◌⊎◌, IsTrue, IfOk, OnOk, [], ◌∷◌};
+ghost use Rattle.std.specs.Prelude.{◌≡◌, ◌⊎◌, IsTrue, IfOk, [], ◌∷◌};
 ghost use Rattle.std.specs.FinMap.{get, values};
 ghost use Rattle.sqlite.specs.Held.{state};
 ghost use Rattle.sqlite.specs.State.{HasCleanDisk};
+ghost use Rattle.sqlite.specs.Values.{bound};
 ghost use Rattle.hall_store.specs.Store.{Fails};
 ghost use Rattle.hall_store.specs.declared.change.Change.TheVariants.{Import};
 ghost use Rattle.hall_sql.specs.Columns.{person_params, roles_code};
 ghost use Rattle.hall_sql.specs.Standing.{IsHall};
 ghost use Rattle.hall_sql.specs.Content.{MakesInTables};
-ghost use Rattle.hall_sql.specs.Inside.{LeadsUncommitted, MakesInside, Changes, ToldByQuery, AddsPerson};
+ghost use Rattle.hall_sql.specs.Inside.{LeadsUncommitted, MakesInside, Changes, ToldByQuery, AddsPerson, DoesInside};
 ghost use Rattle.hall_sql.specs.Rows.{person_in};
 ghost use Rattle.hall_sql.specs.Reads.{ReadsTable};
 ghost use Rattle.hall_sql.specs.Cause.{IsStoreCause};
@@ -16,11 +17,12 @@ ghost use Rattle.hall_sql.specs.Versions.{IsAnyHall};
 ghost use Rattle.hall_sql.specs.WriteCause.{RunFails, IsUnfound, ImportsOne, PersonIsRefused, ImportFails};
 ghost use Rattle.hall_sql.specs.WriteCause.{InsideFails};
 
-use crate::calls::{ask_in, fault_of, live, run_in};
+use crate::calls::{ask_in, fault_of, live, write_in};
 use crate::reads::read_any;
 use crate::record::{at_most_one, read_all};
 use hall_policy::{Name, People, Person, SomeRoles};
 use hall_store::StoreFault;
+use sqlite::types::{ToSql, ValueRef};
 use sqlite::{Alter, Connection, Transaction, params};
 use std::alloc::Global;
 
@@ -76,6 +78,17 @@ fn roles_code(roles: SomeRoles) -> u32
         + 8 * u32::from(roles.entrant)
 }
 
+/// The columns of a person.
+fn columns(person: &Person) -> [ValueRef<'_>; 3]
+    ensures { bound result ≡ person_params person.now }
+{
+    [
+        person.name.as_str().to_sql(),
+        person.key.as_str().to_sql(),
+        roles_code(person.roles).to_sql(),
+    ]
+}
+
 /// One more person.
 const ADD_PERSON: &str = "INSERT INTO people (name, pass, roles) VALUES (?1, ?2, ?3)";
 
@@ -86,24 +99,14 @@ pub(crate) fn add_person<S: Alter>(
 ) -> Result<(), StoreFault>
     ensures same_reference { tx.new.conn.ghost_name ≡ tx.old.conn.ghost_name }
     ensures carries { LeadsUncommitted (state S.Store tx.old.conn.now) (state S.Store tx.new.conn.now) }
-    ensures done { HasCleanDisk (state S.Store tx.new.conn.now) → IsTrue (state S.Store tx.old.conn.now).in_transaction
-        → OnOk result (MakesInside (AddsPerson person.now) (state S.Store tx.old.conn.now)
-        (state S.Store tx.new.conn.now)) }
+    ensures done { DoesInside (state S.Store tx.old.conn.now) (state S.Store tx.new.conn.now)
+        (AddsPerson person.now) result }
     ensures cause { InsideFails (state S.Store tx.old.conn.now) (state S.Store tx.new.conn.now)
         (RunFails ADD_PERSON.now (person_params person.now) (state S.Store tx.old.conn.now)
         (state S.Store tx.new.conn.now)) result }
 {
     person.in_range();
-    run_in(
-        tx,
-        ADD_PERSON,
-        params![
-            person.name.as_str(),
-            person.key.as_str(),
-            roles_code(person.roles)
-        ],
-    )?;
-    Ok(())
+    write_in(tx, ADD_PERSON, &columns(person))
 }
 
 /// Adds the person where the name is unknown.
@@ -114,12 +117,10 @@ fn import_one<S: Alter>(
 ) -> Result<(), StoreFault>
     ensures same_reference { tx.new.conn.ghost_name ≡ tx.old.conn.ghost_name }
     ensures carries { LeadsUncommitted (state S.Store tx.old.conn.now) (state S.Store tx.new.conn.now) }
-    ensures done { HasCleanDisk (state S.Store tx.new.conn.now) → IsTrue (state S.Store tx.old.conn.now).in_transaction
-        → OnOk result (MakesInside (Changes (Import (person.now ∷ [])))
-        (state S.Store tx.old.conn.now) (state S.Store tx.new.conn.now)) }
-    ensures row { HasCleanDisk (state S.Store tx.new.conn.now) → IsTrue (state S.Store tx.old.conn.now).in_transaction
-        → OnOk result (MakesInside (ImportsOne person.now)
-        (state S.Store tx.old.conn.now) (state S.Store tx.new.conn.now)) }
+    ensures done { DoesInside (state S.Store tx.old.conn.now) (state S.Store tx.new.conn.now)
+        (Changes (Import (person.now ∷ []))) result }
+    ensures row { DoesInside (state S.Store tx.old.conn.now) (state S.Store tx.new.conn.now)
+        (ImportsOne person.now) result }
     ensures cause { InsideFails (state S.Store tx.old.conn.now) (state S.Store tx.new.conn.now)
         (IsStoreCause (state S.Store tx.old.conn.now) (state S.Store tx.new.conn.now)
         ⊎ PersonIsRefused person.now (state S.Store tx.old.conn.now) (state S.Store tx.new.conn.now)) result }
@@ -138,9 +139,8 @@ fn import_all<S: Alter>(
 ) -> Result<(), StoreFault>
     ensures same_reference { tx.new.conn.ghost_name ≡ tx.old.conn.ghost_name }
     ensures carries { LeadsUncommitted (state S.Store tx.old.conn.now) (state S.Store tx.new.conn.now) }
-    ensures done { HasCleanDisk (state S.Store tx.new.conn.now) → IsTrue (state S.Store tx.old.conn.now).in_transaction
-        → OnOk result (MakesInside (Changes (Import people.now))
-        (state S.Store tx.old.conn.now) (state S.Store tx.new.conn.now)) }
+    ensures done { DoesInside (state S.Store tx.old.conn.now) (state S.Store tx.new.conn.now)
+        (Changes (Import people.now)) result }
     ensures cause { InsideFails (state S.Store tx.old.conn.now) (state S.Store tx.new.conn.now)
         (ImportFails S.Store people.now (state S.Store tx.old.conn.now) (state S.Store tx.new.conn.now)) result }
 {

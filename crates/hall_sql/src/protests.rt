@@ -1,8 +1,8 @@
 //! The table of protests.
-ghost use Rattle.std.specs.Prelude.{◌≡◌, ◌↔◌, IsTrue, IfOk, IfSome, OnOk, OnErr, Some, None, Contains, [], ◌∷◌};
+ghost use Rattle.std.specs.Prelude.{◌≡◌, ◌↔◌, IsTrue, IfOk, IfSome, Some, None, Contains, [], ◌∷◌};
 ghost use Rattle.std.specs.FinMap.{get, values};
 ghost use Rattle.sqlite.specs.Held.{state};
-ghost use Rattle.sqlite.specs.State.{HasCleanDisk, Survives, CommitsBy};
+ghost use Rattle.sqlite.specs.State.{HasCleanDisk};
 ghost use Rattle.hall_policy.specs.Ranges.{IsProtestRow, IsRuling};
 ghost use Rattle.hall_policy.specs.World.{ruling_points};
 ghost use Rattle.hall_store.specs.Store.{Served, Fails, IsProtestOpen, Asks, protests_in};
@@ -11,9 +11,9 @@ ghost use Rattle.hall_store.specs.Change.{CanAddProtest};
 ghost use Rattle.hall_store.specs.declared.change.Change.TheVariants.{AddProtest, RuleProtest};
 ghost use Rattle.sqlite.specs.Values.{bound};
 ghost use Rattle.hall_sql.specs.Fill.{AddsProtest};
-ghost use Rattle.hall_sql.specs.Inside.{LeadsUncommitted, MakesInside};
+ghost use Rattle.hall_sql.specs.Inside.{LeadsUncommitted, DoesInside};
 ghost use Rattle.hall_sql.specs.Columns.{protest_params, ruling_code, ruling_params, IsAlone};
-ghost use Rattle.hall_sql.specs.Standing.{IsHall, KeptTables, KeptRows, LeadsConnection};
+ghost use Rattle.hall_sql.specs.Standing.{IsHall};
 ghost use Rattle.hall_sql.specs.Content.{MakesInTables, content_of};
 ghost use Rattle.sqlite.specs.declared.types.Value.TheVariants.{Text};
 ghost use Rattle.hall_sql.specs.Rows.{protest_in};
@@ -21,9 +21,9 @@ ghost use Rattle.hall_sql.specs.Reads.{FindsRow, ReadsRows, ReadsTable};
 ghost use Rattle.hall_sql.specs.Whole.{AreRecords};
 ghost use Rattle.hall_sql.specs.Cause.{FindFails};
 ghost use Rattle.hall_sql.specs.Versions.{IsAnyHall};
-ghost use Rattle.hall_sql.specs.WriteCause.{ExecutesOrRefuses, InsideFails, RunFails, RuleFails};
+ghost use Rattle.hall_sql.specs.WriteCause.{InsideFails, RunFails, RuleFails};
 
-use crate::calls::{run, run_in};
+use crate::calls::{run, write_in};
 use crate::counts::count;
 use crate::reads::{find, read, read_any};
 use hall_policy::{ProtestKey, ProtestRow, RoundId, Ruling};
@@ -179,20 +179,6 @@ fn columns(row: &ProtestRow) -> [ValueRef<'_>; 7]
     ]
 }
 
-/// Writes the columns of a protest.
-fn write<S: Alter>(conn: &mut Connection<S>, row: &ProtestRow) -> Result<usize, StoreFault>
-    requires hall { IsHall (state S.Store conn.old) }
-    ensures lasts { LeadsConnection (state S.Store conn.old) (state S.Store conn.new) }
-    ensures refused { OnErr result (KeptRows (state S.Store conn.old) (state S.Store conn.new)) }
-    ensures survives { Survives (state S.Store conn.old) (state S.Store conn.new)
-        (CommitsBy ADD_PROTEST.now (protest_params row.now) (state S.Store conn.old)) }
-    ensures runs { HasCleanDisk (state S.Store conn.new) →
-        ExecutesOrRefuses ADD_PROTEST.now (protest_params row.now) (state S.Store conn.old) (state S.Store conn.new)
-        result }
-{
-    run(conn, ADD_PROTEST, &columns(row))
-}
-
 /// Adds a protest under a new key, inside a transaction.
 pub(crate) fn add_inside<S: Alter>(
     tx: &mut Transaction<'_, S>,
@@ -200,16 +186,14 @@ pub(crate) fn add_inside<S: Alter>(
 ) -> Result<(), StoreFault>
     ensures same_reference { tx.new.conn.ghost_name ≡ tx.old.conn.ghost_name }
     ensures carries { LeadsUncommitted (state S.Store tx.old.conn.now) (state S.Store tx.new.conn.now) }
-    ensures done { HasCleanDisk (state S.Store tx.new.conn.now) → IsTrue (state S.Store tx.old.conn.now).in_transaction
-        → OnOk result (MakesInside (λ a b. AddsProtest a row.now b) (state S.Store tx.old.conn.now)
-        (state S.Store tx.new.conn.now)) }
+    ensures done { DoesInside (state S.Store tx.old.conn.now) (state S.Store tx.new.conn.now)
+        (λ a b. AddsProtest a row.now b) result }
     ensures cause { InsideFails (state S.Store tx.old.conn.now) (state S.Store tx.new.conn.now)
         (RunFails ADD_PROTEST.now (protest_params row.now) (state S.Store tx.old.conn.now)
         (state S.Store tx.new.conn.now)) result }
 {
     in_range(row);
-    run_in(tx, ADD_PROTEST, &columns(row))?;
-    Ok(())
+    write_in(tx, ADD_PROTEST, &columns(row))
 }
 
 /// Stores one more protest.
@@ -224,43 +208,25 @@ pub(crate) fn add_protest<S: Alter>(
         (protest_params row.now) (state S.Store conn.old) (state S.Store conn.new)) result }
 {
     in_range(row);
-    match write(conn, row) {
-        Ok(_) => Ok(()),
-        Err(fault) => Err(fault),
-    }
+    run(conn, ADD_PROTEST, &columns(row))
 }
 
 /// The ruling of the protest under a key.
 const RULE_PROTEST: &str = "UPDATE protests SET ruling = ?4, points = ?5 WHERE entrant = ?1 \
     AND round = ?2 AND token = ?3";
 
-/// Writes the columns of a ruling under a protest's key.
-fn write_ruling<S: Alter>(
-    conn: &mut Connection<S>,
-    key: &ProtestKey,
-    ruling: &Option<Ruling>,
-) -> Result<usize, StoreFault>
-    requires hall { IsHall (state S.Store conn.old) }
+/// The columns of a ruling under a protest's key.
+fn ruling_columns<'a>(key: &'a ProtestKey, ruling: &Option<Ruling>) -> [ValueRef<'a>; 5]
+    ensures bound { bound result ≡ ruling_params key.now ruling.now }
     ensures in_range { IfSome ruling.now IsRuling }
-    ensures lasts { LeadsConnection (state S.Store conn.old) (state S.Store conn.new) }
-    ensures refused { OnErr result (KeptRows (state S.Store conn.old) (state S.Store conn.new)) }
-    ensures survives { Survives (state S.Store conn.old) (state S.Store conn.new)
-        (CommitsBy RULE_PROTEST.now (ruling_params key.now ruling.now) (state S.Store conn.old)) }
-    ensures runs { HasCleanDisk (state S.Store conn.new)
-        → ExecutesOrRefuses RULE_PROTEST.now (ruling_params key.now ruling.now)
-        (state S.Store conn.old) (state S.Store conn.new) result }
 {
-    run(
-        conn,
-        RULE_PROTEST,
-        params![
-            key.entrant.as_str(),
-            key.round.as_str(),
-            key.token.as_str(),
-            ruling_code(ruling),
-            points_of(ruling)
-        ],
-    )
+    [
+        key.entrant.as_str().to_sql(),
+        key.round.as_str().to_sql(),
+        key.token.as_str().to_sql(),
+        ruling_code(ruling).to_sql(),
+        points_of(ruling).to_sql(),
+    ]
 }
 
 /// Rules the protest that stands alone under its key.
@@ -278,10 +244,7 @@ fn rule_found<S: Alter>(
         (ruling_params key.now (Some ruling)) (state S.Store conn.old) (state S.Store conn.new)) result }
 {
     in_range(row);
-    match write_ruling(conn, key, &Some(ruling)) {
-        Ok(_) => Ok(()),
-        Err(fault) => Err(fault),
-    }
+    run(conn, RULE_PROTEST, &ruling_columns(key, &Some(ruling)))
 }
 
 /// Rules the protest under the key.

@@ -1,9 +1,9 @@
 //! The table of puzzles.
-ghost use Rattle.std.specs.Prelude.{◌≡◌, ◌⊎◌, IsTrue, IfOk, OnOk, OnErr, [], ◌∷◌};
+ghost use Rattle.std.specs.Prelude.{◌≡◌, ◌⊎◌, IsTrue, IfOk, OnOk, [], ◌∷◌};
 ghost use Rattle.std.specs.FinMap.{get, values};
 ghost use Rattle.sqlite.specs.Held.{state};
 ghost use Rattle.hall_store.specs.Store.{Fails, puzzles_of};
-ghost use Rattle.sqlite.specs.State.{HasCleanDisk, Survives, CommitsBy};
+ghost use Rattle.sqlite.specs.State.{HasCleanDisk};
 ghost use Rattle.hall_grid.specs.Text.{SpellsText};
 ghost use Rattle.hall_grid.specs.Canonical.{CanonicalText};
 ghost use Rattle.hall_policy.specs.Ranges.{IsPuzzleKey, IsState};
@@ -11,20 +11,20 @@ ghost use Rattle.hall_store.specs.declared.change.Change.TheVariants.{PutPuzzle,
 ghost use Rattle.sqlite.specs.Values.{bound};
 ghost use Rattle.hall_sql.specs.Fill.{AddsPuzzle};
 ghost use Rattle.hall_sql.specs.FillCause.{RefusesToAddPuzzle};
-ghost use Rattle.hall_sql.specs.Inside.{LeadsUncommitted, MakesInside};
+ghost use Rattle.hall_sql.specs.Inside.{LeadsUncommitted, DoesInside};
 ghost use Rattle.hall_sql.specs.PuzzleText.{HasPuzzleRow};
 ghost use Rattle.hall_sql.specs.Columns.{puzzle_params, HasSoMany, state_code, solution_of};
-ghost use Rattle.hall_sql.specs.Standing.{IsHall, KeptTables, KeptRows, LeadsConnection};
+ghost use Rattle.hall_sql.specs.Standing.{IsHall, KeptTables};
 ghost use Rattle.hall_sql.specs.Content.{MakesInTables};
 ghost use Rattle.sqlite.specs.declared.types.Value.TheVariants.{Text};
 ghost use Rattle.hall_sql.specs.Rows.{puzzle_row_in};
 ghost use Rattle.hall_sql.specs.Reads.{FindsRow, ReadsRows, ReadsTable};
 ghost use Rattle.hall_sql.specs.Cause.{IsStoreCause};
 ghost use Rattle.hall_sql.specs.Versions.{IsAnyHall};
-ghost use Rattle.hall_sql.specs.WriteCause.{ExecutesOrRefuses, RunFails, PuzzleIsRefused, PutPuzzleFails};
+ghost use Rattle.hall_sql.specs.WriteCause.{RunFails, PuzzleIsRefused, PutPuzzleFails};
 ghost use Rattle.hall_sql.specs.WriteCause.{InsideFails, SetStateFails};
 
-use crate::calls::{ask, run, run_in};
+use crate::calls::{ask, run, write_in};
 use crate::reads::{find, read, read_any};
 use hall_grid::write_puzzle;
 use hall_policy::{Name, PuzzleKey, PuzzleRow, PuzzleState};
@@ -168,26 +168,6 @@ fn columns<'a>(row: &'a PuzzleRow, text: &'a str) -> [ValueRef<'a>; 5]
     ]
 }
 
-/// Runs a statement over the columns of a puzzle.
-fn write<S: Alter>(
-    conn: &mut Connection<S>,
-    sql: &str,
-    row: &PuzzleRow,
-    text: &str,
-) -> Result<usize, StoreFault>
-    requires hall { IsHall (state S.Store conn.old) }
-    ensures in_range { IsState row.now.state }
-    ensures lasts { LeadsConnection (state S.Store conn.old) (state S.Store conn.new) }
-    ensures refused { OnErr result (KeptRows (state S.Store conn.old) (state S.Store conn.new)) }
-    ensures survives { Survives (state S.Store conn.old) (state S.Store conn.new)
-        (CommitsBy sql.now (puzzle_params text.now row.now) (state S.Store conn.old)) }
-    ensures runs { HasCleanDisk (state S.Store conn.new) →
-        ExecutesOrRefuses sql.now (puzzle_params text.now row.now) (state S.Store conn.old) (state S.Store conn.new)
-        result }
-{
-    run(conn, sql, &columns(row, text))
-}
-
 /// Adds a puzzle under a new key, inside a transaction.
 pub(crate) fn add_inside<S: Alter>(
     tx: &mut Transaction<'_, S>,
@@ -196,17 +176,15 @@ pub(crate) fn add_inside<S: Alter>(
 ) -> Result<(), StoreFault>
     ensures same_reference { tx.new.conn.ghost_name ≡ tx.old.conn.ghost_name }
     ensures carries { LeadsUncommitted (state S.Store tx.old.conn.now) (state S.Store tx.new.conn.now) }
-    ensures done { HasCleanDisk (state S.Store tx.new.conn.now) → IsTrue (state S.Store tx.old.conn.now).in_transaction
-        → OnOk result (MakesInside (λ a b. AddsPuzzle a row.now b) (state S.Store tx.old.conn.now)
-        (state S.Store tx.new.conn.now)) }
+    ensures done { DoesInside (state S.Store tx.old.conn.now) (state S.Store tx.new.conn.now)
+        (λ a b. AddsPuzzle a row.now b) result }
     ensures cause { InsideFails (state S.Store tx.old.conn.now) (state S.Store tx.new.conn.now)
         (IsStoreCause (state S.Store tx.old.conn.now) (state S.Store tx.new.conn.now)
         ⊎ RefusesToAddPuzzle row.now (state S.Store tx.old.conn.now).now) result }
 {
     in_range(&row.key);
     let text = write_puzzle(alloc, &row.puzzle)?;
-    run_in(tx, ADD_PUZZLE, &columns(row, text.as_str()))?;
-    Ok(())
+    write_in(tx, ADD_PUZZLE, &columns(row, text.as_str()))
 }
 
 /// Stores a puzzle under a new key.
@@ -226,10 +204,7 @@ fn put_new<S: Alter>(
         (puzzle_params text.now row.now) (state S.Store conn.old) (state S.Store conn.new)) result }
 {
     in_range(&row.key);
-    match write(conn, ADD_PUZZLE, row, text) {
-        Ok(_) => Ok(()),
-        Err(fault) => Err(fault),
-    }
+    run(conn, ADD_PUZZLE, &columns(row, text))
 }
 
 /// Stores a puzzle in the place of the one under its key.
@@ -249,10 +224,7 @@ fn put_over<S: Alter>(
         (puzzle_params text.now row.now) (state S.Store conn.old) (state S.Store conn.new)) result }
 {
     in_range(&row.key);
-    match write(conn, REPLACE_PUZZLE, row, text) {
-        Ok(_) => Ok(()),
-        Err(fault) => Err(fault),
-    }
+    run(conn, REPLACE_PUZZLE, &columns(row, text))
 }
 
 /// Stores the puzzle, whose text this is, under whose key so many rows stand.

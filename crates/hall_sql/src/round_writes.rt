@@ -1,15 +1,15 @@
 //! What is written to the tables of rounds, of their puzzles and of their testers.
-ghost use Rattle.std.specs.Prelude.{◌≡◌, ◌≤◌, ◌⊎◌, [], ◌∷◌, length, IsTrue, IfOk, IfSome, OnOk};
+ghost use Rattle.std.specs.Prelude.{◌≡◌, ◌≤◌, ◌⊎◌, [], ◌∷◌, length, IsTrue, IfOk, OnOk};
 ghost use Rattle.std.specs.FinMap.{get};
 ghost use Rattle.sqlite.specs.Held.{state};
 ghost use Rattle.sqlite.specs.Values.{bound};
 ghost use Rattle.sqlite.specs.State.{HasCleanDisk};
 ghost use Rattle.hall_policy.specs.Limits.{most_entries, most_number};
-ghost use Rattle.hall_policy.specs.Ranges.{IsRound, IsWithin, IsEntry};
+ghost use Rattle.hall_policy.specs.Ranges.{IsRound, IsRoundId, IsWithin, IsEntry};
 ghost use Rattle.hall_store.specs.Store.{Served};
 ghost use Rattle.hall_store.specs.Change.{flagged};
 ghost use Rattle.hall_store.specs.declared.change.Change.TheVariants.{PutRound, SetRoundFlag};
-ghost use Rattle.hall_sql.specs.Inside.{LeadsUncommitted, MakesInside, Changes};
+ghost use Rattle.hall_sql.specs.Inside.{LeadsUncommitted, MakesInside, Changes, DoesInside};
 ghost use Rattle.hall_sql.specs.Fill.{AddsHead};
 ghost use Rattle.hall_sql.specs.RoundColumns.{mode_code, head_params, place_params, IsHead};
 ghost use Rattle.hall_sql.specs.RoundPuts.{CountsHeads, PutsHead, PutsHeadOver, DropsPlaces, PutsPlace, PutsPlaces};
@@ -22,7 +22,7 @@ ghost use Rattle.hall_sql.specs.Cause.{IsStoreCause};
 ghost use Rattle.hall_sql.specs.WriteCause.{RunFails, SetFlagFails, PutRoundFails, InsideFails};
 ghost use Rattle.hall_sql.specs.WriteCause.{IsHeadRefused, PlaceIsRefused, ListIsRefused};
 
-use crate::calls::{ask_in, fault_of, live, run, run_in};
+use crate::calls::{ask_in, fault_of, live, run, write_in};
 use crate::rounds::head;
 use crate::testers::put_tester_list;
 use hall_policy::{Entry, Mode, Round, RoundId, RoundRow};
@@ -103,10 +103,7 @@ fn set_flag<S: Alter>(
 {
     let flagged = flagged(round, flag);
     in_range(&flagged);
-    match run(conn, REPLACE_HEAD, &columns(&flagged)) {
-        Ok(_) => Ok(()),
-        Err(fault) => Err(fault),
-    }
+    run(conn, REPLACE_HEAD, &columns(&flagged))
 }
 
 /// Sets a flag of the round.
@@ -158,16 +155,14 @@ pub(crate) fn put_new<S: Alter>(
     ensures done { HasCleanDisk (state S.Store tx.new.conn.now) → IsTrue (state S.Store tx.old.conn.now).in_transaction
         → OnOk result (PutsHeadOver 0 round.now (state S.Store tx.old.conn.now)
         (state S.Store tx.new.conn.now)) }
-    ensures added { HasCleanDisk (state S.Store tx.new.conn.now) → IsTrue (state S.Store tx.old.conn.now).in_transaction
-        → OnOk result (MakesInside (λ a b. AddsHead a round.now b) (state S.Store tx.old.conn.now)
-        (state S.Store tx.new.conn.now)) }
+    ensures added { DoesInside (state S.Store tx.old.conn.now) (state S.Store tx.new.conn.now)
+        (λ a b. AddsHead a round.now b) result }
     ensures cause { InsideFails (state S.Store tx.old.conn.now) (state S.Store tx.new.conn.now)
         (RunFails ADD_HEAD.now (head_params round.now) (state S.Store tx.old.conn.now)
         (state S.Store tx.new.conn.now)) result }
 {
     in_range(round);
-    run_in(tx, ADD_HEAD, &columns(round))?;
-    Ok(())
+    write_in(tx, ADD_HEAD, &columns(round))
 }
 
 /// Stores the round's head in the place of the one under its id.
@@ -182,17 +177,15 @@ fn put_over<S: Alter>(tx: &mut Transaction<'_, S>, round: &Round) -> Result<(), 
         (state S.Store tx.new.conn.now)) result }
 {
     in_range(round);
-    run_in(tx, REPLACE_HEAD, &columns(round))?;
-    Ok(())
+    write_in(tx, REPLACE_HEAD, &columns(round))
 }
 
 /// Stores the round's head, in the place of the one under its id.
 fn put_head<S: Alter>(tx: &mut Transaction<'_, S>, round: &Round) -> Result<(), StoreFault>
     ensures same_reference { tx.new.conn.ghost_name ≡ tx.old.conn.ghost_name }
     ensures carries { LeadsUncommitted (state S.Store tx.old.conn.now) (state S.Store tx.new.conn.now) }
-    ensures done { HasCleanDisk (state S.Store tx.new.conn.now) → IsTrue (state S.Store tx.old.conn.now).in_transaction
-        → OnOk result (MakesInside (PutsHead round.now) (state S.Store tx.old.conn.now)
-        (state S.Store tx.new.conn.now)) }
+    ensures done { DoesInside (state S.Store tx.old.conn.now) (state S.Store tx.new.conn.now)
+        (PutsHead round.now) result }
     ensures cause { InsideFails (state S.Store tx.old.conn.now) (state S.Store tx.new.conn.now)
         (IsStoreCause (state S.Store tx.old.conn.now) (state S.Store tx.new.conn.now)
         ⊎ IsHeadRefused round.now (state S.Store tx.old.conn.now).now) result }
@@ -211,15 +204,13 @@ const DROP_PLACES: &str = "DELETE FROM round_puzzles WHERE round = ?1";
 fn drop_places<S: Alter>(tx: &mut Transaction<'_, S>, id: &RoundId) -> Result<(), StoreFault>
     ensures same_reference { tx.new.conn.ghost_name ≡ tx.old.conn.ghost_name }
     ensures carries { LeadsUncommitted (state S.Store tx.old.conn.now) (state S.Store tx.new.conn.now) }
-    ensures done { HasCleanDisk (state S.Store tx.new.conn.now) → IsTrue (state S.Store tx.old.conn.now).in_transaction
-        → OnOk result (MakesInside (DropsPlaces id.now) (state S.Store tx.old.conn.now)
-        (state S.Store tx.new.conn.now)) }
+    ensures done { DoesInside (state S.Store tx.old.conn.now) (state S.Store tx.new.conn.now)
+        (DropsPlaces id.now) result }
     ensures cause { InsideFails (state S.Store tx.old.conn.now) (state S.Store tx.new.conn.now)
         (RunFails DROP_PLACES.now (Text id.now ∷ []) (state S.Store tx.old.conn.now)
         (state S.Store tx.new.conn.now)) result }
 {
-    run_in(tx, DROP_PLACES, params![id.as_str()])?;
-    Ok(())
+    write_in(tx, DROP_PLACES, params![id.as_str()])
 }
 
 /// Tells a proof that the entry lies in the ranges of its types.
@@ -235,6 +226,20 @@ fn entry_in_range(entry: &Entry)
 const ADD_PLACE: &str =
     "INSERT INTO round_puzzles (round, number, author, label, points) VALUES (?1, ?2, ?3, ?4, ?5)";
 
+/// The columns of an entry at its place in the round.
+fn place_columns<'a>(id: &'a RoundId, number: u32, entry: &'a Entry) -> [ValueRef<'a>; 5]
+    ensures bound { bound result ≡ place_params id.now number entry.now }
+    ensures in_range { IsRoundId id.now }
+{
+    [
+        id.as_str().to_sql(),
+        number.to_sql(),
+        entry.puzzle.author.as_str().to_sql(),
+        entry.puzzle.label.as_str().to_sql(),
+        (entry.points.get() as u32).to_sql(),
+    ]
+}
+
 /// Stores an entry at its place in the round.
 pub(crate) fn put_place<S: Alter>(
     tx: &mut Transaction<'_, S>,
@@ -245,26 +250,14 @@ pub(crate) fn put_place<S: Alter>(
     requires numbered { IsWithin 1 most_number number }
     ensures same_reference { tx.new.conn.ghost_name ≡ tx.old.conn.ghost_name }
     ensures carries { LeadsUncommitted (state S.Store tx.old.conn.now) (state S.Store tx.new.conn.now) }
-    ensures done { HasCleanDisk (state S.Store tx.new.conn.now) → IsTrue (state S.Store tx.old.conn.now).in_transaction
-        → OnOk result (MakesInside (PutsPlace id.now number entry.now) (state S.Store tx.old.conn.now)
-        (state S.Store tx.new.conn.now)) }
+    ensures done { DoesInside (state S.Store tx.old.conn.now) (state S.Store tx.new.conn.now)
+        (PutsPlace id.now number entry.now) result }
     ensures cause { InsideFails (state S.Store tx.old.conn.now) (state S.Store tx.new.conn.now)
         (RunFails ADD_PLACE.now (place_params id.now number entry.now)
         (state S.Store tx.old.conn.now) (state S.Store tx.new.conn.now)) result }
 {
     entry_in_range(entry);
-    run_in(
-        tx,
-        ADD_PLACE,
-        params![
-            id.as_str(),
-            number,
-            entry.puzzle.author.as_str(),
-            entry.puzzle.label.as_str(),
-            entry.points.get() as u32
-        ],
-    )?;
-    Ok(())
+    write_in(tx, ADD_PLACE, &place_columns(id, number, entry))
 }
 
 /// Stores the entries of a round that has no places, numbered from 1.
@@ -276,9 +269,8 @@ fn put_places<S: Alter>(
     requires few { length entries.now ≤ most_entries }
     ensures same_reference { tx.new.conn.ghost_name ≡ tx.old.conn.ghost_name }
     ensures carries { LeadsUncommitted (state S.Store tx.old.conn.now) (state S.Store tx.new.conn.now) }
-    ensures done { HasCleanDisk (state S.Store tx.new.conn.now) → IsTrue (state S.Store tx.old.conn.now).in_transaction
-        → OnOk result (MakesInside (PutsPlaces id.now entries.now) (state S.Store tx.old.conn.now)
-        (state S.Store tx.new.conn.now)) }
+    ensures done { DoesInside (state S.Store tx.old.conn.now) (state S.Store tx.new.conn.now)
+        (PutsPlaces id.now entries.now) result }
     ensures cause { InsideFails (state S.Store tx.old.conn.now) (state S.Store tx.new.conn.now)
         (IsStoreCause (state S.Store tx.old.conn.now) (state S.Store tx.new.conn.now)
         ⊎ PlaceIsRefused id.now entries.now (state S.Store tx.old.conn.now).now) result }
@@ -300,9 +292,8 @@ fn put_list<S: Alter>(
     requires few { length entries.now ≤ most_entries }
     ensures same_reference { tx.new.conn.ghost_name ≡ tx.old.conn.ghost_name }
     ensures carries { LeadsUncommitted (state S.Store tx.old.conn.now) (state S.Store tx.new.conn.now) }
-    ensures done { HasCleanDisk (state S.Store tx.new.conn.now) → IsTrue (state S.Store tx.old.conn.now).in_transaction
-        → OnOk result (MakesInside (PutsList id.now entries.now) (state S.Store tx.old.conn.now)
-        (state S.Store tx.new.conn.now)) }
+    ensures done { DoesInside (state S.Store tx.old.conn.now) (state S.Store tx.new.conn.now)
+        (PutsList id.now entries.now) result }
     ensures cause { InsideFails (state S.Store tx.old.conn.now) (state S.Store tx.new.conn.now)
         (IsStoreCause (state S.Store tx.old.conn.now) (state S.Store tx.new.conn.now)
         ⊎ ListIsRefused id.now entries.now (state S.Store tx.old.conn.now).now) result }
@@ -315,12 +306,10 @@ fn put_list<S: Alter>(
 fn put_inside<S: Alter>(tx: &mut Transaction<'_, S>, row: &RoundRow) -> Result<(), StoreFault>
     ensures same_reference { tx.new.conn.ghost_name ≡ tx.old.conn.ghost_name }
     ensures carries { LeadsUncommitted (state S.Store tx.old.conn.now) (state S.Store tx.new.conn.now) }
-    ensures done { HasCleanDisk (state S.Store tx.new.conn.now) → IsTrue (state S.Store tx.old.conn.now).in_transaction
-        → OnOk result (MakesInside (Changes (PutRound row.now)) (state S.Store tx.old.conn.now)
-        (state S.Store tx.new.conn.now)) }
-    ensures rows { HasCleanDisk (state S.Store tx.new.conn.now) → IsTrue (state S.Store tx.old.conn.now).in_transaction
-        → OnOk result (MakesInside (PutsRows row.now) (state S.Store tx.old.conn.now)
-        (state S.Store tx.new.conn.now)) }
+    ensures done { DoesInside (state S.Store tx.old.conn.now) (state S.Store tx.new.conn.now)
+        (Changes (PutRound row.now)) result }
+    ensures rows { DoesInside (state S.Store tx.old.conn.now) (state S.Store tx.new.conn.now)
+        (PutsRows row.now) result }
     ensures cause { InsideFails (state S.Store tx.old.conn.now) (state S.Store tx.new.conn.now)
         (PutRoundFails row.now (state S.Store tx.old.conn.now) (state S.Store tx.new.conn.now)) result }
 {

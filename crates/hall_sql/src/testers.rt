@@ -1,13 +1,12 @@
 //! The table of testers.
-ghost use Rattle.std.specs.Prelude.{◌≡◌, ◌↔◌, ◌⊎◌, false, [], ◌∷◌, map, AllPairs, IsTrue, IfOk, IfErr, OnOk};
+ghost use Rattle.std.specs.Prelude.{◌≡◌, ◌↔◌, ◌⊎◌, false, [], ◌∷◌, map, AllPairs, IfOk, IfErr};
 ghost use Rattle.std.specs.FinMap.{empty, entries};
 ghost use Rattle.sqlite.specs.Held.{state};
-ghost use Rattle.sqlite.specs.State.{HasCleanDisk};
 ghost use Rattle.sqlite.specs.declared.types.Value.TheVariants.{Text};
 ghost use Rattle.hall_store.specs.Store.{AreTestersOf};
 ghost use Rattle.hall_store.specs.declared.fault.StoreFault.TheVariants.{Memory};
 ghost use Rattle.hall_sql.specs.Cause.{IsStoreCause};
-ghost use Rattle.hall_sql.specs.Inside.{LeadsUncommitted, MakesInside};
+ghost use Rattle.hall_sql.specs.Inside.{LeadsUncommitted, DoesInside};
 ghost use Rattle.hall_sql.specs.RoundColumns.{tester_params};
 ghost use Rattle.hall_sql.specs.RoundPuts.{DropsTesters, PutsTester, PutsTesters, PutsTesterList};
 ghost use Rattle.hall_sql.specs.Rows.{tester_in};
@@ -16,7 +15,7 @@ ghost use Rattle.hall_sql.specs.Testers.{AreNamed};
 ghost use Rattle.hall_sql.specs.Reads.{ReadsRows};
 ghost use Rattle.hall_sql.specs.WriteCause.{RunFails, InsideFails, TesterIsRefused, TesterListIsRefused};
 
-use crate::calls::run_in;
+use crate::calls::write_in;
 use crate::reads::read;
 use crate::record::Tester;
 use hall_policy::{Name, RoundId};
@@ -104,15 +103,13 @@ const DROP_TESTERS: &str = "DELETE FROM testers WHERE round = ?1";
 fn drop_testers<S: Alter>(tx: &mut Transaction<'_, S>, round: &RoundId) -> Result<(), StoreFault>
     ensures same_reference { tx.new.conn.ghost_name ≡ tx.old.conn.ghost_name }
     ensures carries { LeadsUncommitted (state S.Store tx.old.conn.now) (state S.Store tx.new.conn.now) }
-    ensures done { HasCleanDisk (state S.Store tx.new.conn.now) → IsTrue (state S.Store tx.old.conn.now).in_transaction
-        → OnOk result (MakesInside (DropsTesters round.now) (state S.Store tx.old.conn.now)
-        (state S.Store tx.new.conn.now)) }
+    ensures done { DoesInside (state S.Store tx.old.conn.now) (state S.Store tx.new.conn.now)
+        (DropsTesters round.now) result }
     ensures cause { InsideFails (state S.Store tx.old.conn.now) (state S.Store tx.new.conn.now)
         (RunFails DROP_TESTERS.now (Text round.now ∷ []) (state S.Store tx.old.conn.now)
         (state S.Store tx.new.conn.now)) result }
 {
-    run_in(tx, DROP_TESTERS, params![round.as_str()])?;
-    Ok(())
+    write_in(tx, DROP_TESTERS, params![round.as_str()])
 }
 
 /// One more tester of a round.
@@ -126,15 +123,13 @@ fn put_tester<S: Alter>(
 ) -> Result<(), StoreFault>
     ensures same_reference { tx.new.conn.ghost_name ≡ tx.old.conn.ghost_name }
     ensures carries { LeadsUncommitted (state S.Store tx.old.conn.now) (state S.Store tx.new.conn.now) }
-    ensures done { HasCleanDisk (state S.Store tx.new.conn.now) → IsTrue (state S.Store tx.old.conn.now).in_transaction
-        → OnOk result (MakesInside (PutsTester round.now name.now) (state S.Store tx.old.conn.now)
-        (state S.Store tx.new.conn.now)) }
+    ensures done { DoesInside (state S.Store tx.old.conn.now) (state S.Store tx.new.conn.now)
+        (PutsTester round.now name.now) result }
     ensures cause { InsideFails (state S.Store tx.old.conn.now) (state S.Store tx.new.conn.now)
         (RunFails ADD_TESTER.now (tester_params round.now name.now)
         (state S.Store tx.old.conn.now) (state S.Store tx.new.conn.now)) result }
 {
-    run_in(tx, ADD_TESTER, params![round.as_str(), name.as_str()])?;
-    Ok(())
+    write_in(tx, ADD_TESTER, params![round.as_str(), name.as_str()])
 }
 
 /// Stores the testers of a round that has none.
@@ -146,9 +141,8 @@ fn put_testers<S: Alter>(
     requires different { AllPairs (λ a b. ¬ (a ≡ b)) names.now }
     ensures same_reference { tx.new.conn.ghost_name ≡ tx.old.conn.ghost_name }
     ensures carries { LeadsUncommitted (state S.Store tx.old.conn.now) (state S.Store tx.new.conn.now) }
-    ensures done { HasCleanDisk (state S.Store tx.new.conn.now) → IsTrue (state S.Store tx.old.conn.now).in_transaction
-        → OnOk result (MakesInside (PutsTesters round.now names.now) (state S.Store tx.old.conn.now)
-        (state S.Store tx.new.conn.now)) }
+    ensures done { DoesInside (state S.Store tx.old.conn.now) (state S.Store tx.new.conn.now)
+        (PutsTesters round.now names.now) result }
     ensures cause { InsideFails (state S.Store tx.old.conn.now) (state S.Store tx.new.conn.now)
         (IsStoreCause (state S.Store tx.old.conn.now) (state S.Store tx.new.conn.now)
         ⊎ TesterIsRefused round.now names.now (state S.Store tx.old.conn.now).now) result }
@@ -168,9 +162,8 @@ pub(crate) fn put_tester_list<S: Alter>(
     requires different { AllPairs (λ a b. ¬ (a ≡ b)) names.now }
     ensures same_reference { tx.new.conn.ghost_name ≡ tx.old.conn.ghost_name }
     ensures carries { LeadsUncommitted (state S.Store tx.old.conn.now) (state S.Store tx.new.conn.now) }
-    ensures done { HasCleanDisk (state S.Store tx.new.conn.now) → IsTrue (state S.Store tx.old.conn.now).in_transaction
-        → OnOk result (MakesInside (PutsTesterList round.now names.now) (state S.Store tx.old.conn.now)
-        (state S.Store tx.new.conn.now)) }
+    ensures done { DoesInside (state S.Store tx.old.conn.now) (state S.Store tx.new.conn.now)
+        (PutsTesterList round.now names.now) result }
     ensures cause { InsideFails (state S.Store tx.old.conn.now) (state S.Store tx.new.conn.now)
         (IsStoreCause (state S.Store tx.old.conn.now) (state S.Store tx.new.conn.now)
         ⊎ TesterListIsRefused round.now names.now (state S.Store tx.old.conn.now).now) result }

@@ -1,36 +1,20 @@
 use Rattle.sqlite.specs.Held.{state}
 use Rattle.hall_store.specs.declared.change.Change.TheVariants.{AddAnswer}
-use Rattle.hall_sql.proofs.AnswerWrites.{answer_added}
-use Rattle.hall_sql.proofs.WriteLemmas.{made_wrote, stayed_wrote}
-use Rattle.hall_sql.proofs.SoundLemmas.{IsRowWrite}
-use Rattle.hall_sql.proofs.StopLemmas.{stops_made}
-use Rattle.hall_sql.proofs.AnswerTexts.{add_answer_is}
-use Rattle.std.proofs.Common.{arith, sym, subst}
-use Rattle.sqlite.specs.State.{HasCleanDisk}
-use Rattle.hall_sql.proofs.Written.{add_answer_written}
-use Rattle.hall_sql.proofs.WriteCauseLemmas.{refused_cause}
 use Rattle.hall_sql.specs.declared.answers.TheConstants.{ADD_ANSWER}
 use Rattle.hall_sql.specs.Columns.{answer_params}
+use Rattle.hall_sql.proofs.AnswerWrites.{answer_added}
+use Rattle.hall_sql.proofs.StopLemmas.{run_wrote}
+use Rattle.hall_sql.proofs.Written.{add_answer_written}
 use Rattle.hall_sql.proofs.answers.add_answer.Goals as goal
 
-pub returns-in-Ok-clause-wrote : goal.returns-in-Ok-clause-wrote
-returns-in-Ok-clause-wrote g c =
-    made_wrote (AddAnswer c.args.row.now) (state g.S.Store c.args.conn.now) (state g.S.Store c.write.new.conn) tt c.requires.hall c.write.ensures.lasts
-    (stops_made (AddAnswer c.args.row.now) ADD_ANSWER.now (answer_params c.args.row.now) (state g.S.Store c.args.conn.now) (state g.S.Store c.write.new.conn) c.requires.hall (λ u. (add_answer_is u).1) (λ u. subst IsRowWrite (sym (add_answer_is u).0) tt)
-    (λ was opened run count ran. answer_added c.args.row.now c.in_range.ensures (state g.S.Store c.args.conn.now) run count c.requires.hall was (λ opened. (c.requires.can was opened).fresh) ran)
-    c.write.ensures.survives)
-    (λ was clean. answer_added c.args.row.now c.in_range.ensures _ _ _ c.requires.hall was (λ opened. (c.requires.can was opened).fresh) (c.in-Ok.ensures.runs clean))
+pub run-requires-clause-written : goal.run-requires-clause-written
+run-requires-clause-written g c = rw c.columns.ensures (add_answer_written c.args.row.now)
 
-pub returns-in-Err-clause-cause : goal.returns-in-Err-clause-cause
-returns-in-Err-clause-cause g c clean failed =
-    let was : HasCleanDisk (state g.S.Store c.args.conn.now) = omega (arith, c.write.ensures.lasts.clean, clean) in
-    refused_cause ADD_ANSWER.now (answer_params c.args.row.now) (state g.S.Store c.args.conn.now) (state g.S.Store c.write.new.conn) (add_answer_written c.args.row.now) c.requires.hall was
-    (c.in-Err.ensures.runs clean failed)
-
-pub returns-in-Err-clause-wrote : goal.returns-in-Err-clause-wrote
-returns-in-Err-clause-wrote g c =
-    stayed_wrote (AddAnswer c.args.row.now) (state g.S.Store c.args.conn.now) (state g.S.Store c.write.new.conn) c.in-Err.fault
-    (stops_made (AddAnswer c.args.row.now) ADD_ANSWER.now (answer_params c.args.row.now) (state g.S.Store c.args.conn.now) (state g.S.Store c.write.new.conn) c.requires.hall (λ u. (add_answer_is u).1) (λ u. subst IsRowWrite (sym (add_answer_is u).0) tt)
-    (λ was opened run count ran. answer_added c.args.row.now c.in_range.ensures (state g.S.Store c.args.conn.now) run count c.requires.hall was (λ opened. (c.requires.can was opened).fresh) ran)
-    c.write.ensures.survives)
-    c.in-Err.ensures.refused
+pub returns-clause-wrote : goal.returns-clause-wrote
+returns-clause-wrote g c =
+    let old = state g.S.Store c.args.conn.now in
+    run_wrote (AddAnswer c.args.row.now) ADD_ANSWER.now (answer_params c.args.row.now) old
+    (state g.S.Store c.run.new.conn) c.run.result c.requires.hall
+    (add_answer_written c.args.row.now) (λ was opened new count ran.
+    answer_added c.args.row.now c.in_range.ensures old new count ran c.requires.hall was
+    (λ opened. (c.requires.can was opened).fresh)) (rw c.columns.ensures at c.run.ensures.calls)

@@ -1,40 +1,28 @@
-use Rattle.std.proofs.Common.{arith, inl, inr}
-use Rattle.std.proofs.lemmas.Result.{IfErr-weaker}
+use Rattle.std.proofs.Common.{inr}
 use Rattle.sqlite.specs.Held.{state}
-use Rattle.sqlite.specs.State.{HasCleanDisk}
 use Rattle.hall_sql.specs.RoundPuts.{DropsPlaces, PutsPlaces, PutsList}
-use Rattle.hall_sql.proofs.CauseLemmas.{fails_as}
 use Rattle.hall_sql.proofs.InsideLemmas.{two_did}
 use Rattle.hall_sql.proofs.PlaceWrites.{list_put}
-use Rattle.hall_sql.proofs.WriteCauseLemmas.{goes_on, cause_over}
+use Rattle.hall_sql.proofs.WriteCauseLemmas.{fails_first, then_fails}
 use Rattle.hall_sql.proofs.round_writes.put_list.Goals as goal
 
 pub returns-clause-done : goal.returns-clause-done
 returns-clause-done g c =
     let id = c.args.id.now in
     let items = c.args.entries.now in
-    two_did (DropsPlaces id) (PutsPlaces id items) (PutsList id items) c.put_places.result _ _ _ (list_put id items _ _ _)
+    two_did (DropsPlaces id) (PutsPlaces id items) (PutsList id items) c.put_places.result _ _ _
+    (list_put id items _ _ _)
     c.put_places.ensures.carries.lasts c.in_ok-drop_places.ensures.done c.put_places.ensures.done
 
 pub returns-in_err-drop_places-clause-cause : goal.returns-in_err-drop_places-clause-cause
 returns-in_err-drop_places-clause-cause g c clean goes =
-    fails_as c.from_residual.result _ _ c.from_residual.ensures.1 (λ failed.
-    elim (c.in_err-drop_places.ensures.cause clean goes failed) [
-      | inl cause ↦ inl cause
-      | inr refused ↦ inr (inl refused)
-    ])
+    fails_first _ c.from_residual.result _ c.from_residual.ensures.1 (c.in_err-drop_places.ensures.cause clean goes)
 
 pub returns-clause-cause : goal.returns-clause-cause
-returns-clause-cause g c clean goes =
-    let old = state g.S.Store c.args.tx.now.conn.now in
+returns-clause-cause g c =
     let bare = state g.S.Store c.drop_places.new.tx.conn.now in
-    let new = state g.S.Store c.put_places.new.tx.conn.now in
-    let to_bare = c.drop_places.ensures.carries.lasts in
-    let to_new = c.put_places.ensures.carries.lasts in
-    let was : HasCleanDisk bare = omega (arith, to_new.clean, clean) in
-    let dropped = c.in_ok-drop_places.ensures.done was goes.mode in
-    let on = goes_on old bare goes to_bare dropped.steps in
-    IfErr-weaker c.put_places.result _ _ (λ fault why failed. elim (why failed) [
-      | inl cause ↦ inl (cause_over old bare new to_bare was to_new cause)
-      | inr refused ↦ inr (inr (record { bare = bare.now; hall = on.hall; drops = dropped.does goes.hall; refused = refused }))
-    ]) (c.put_places.ensures.cause clean on)
+    then_fails (DropsPlaces c.args.id.now) (state g.S.Store c.args.tx.now.conn.now) bare
+    (state g.S.Store c.put_places.new.tx.conn.now)
+    c.drop_places.ensures.carries.lasts c.put_places.ensures.carries.lasts c.in_ok-drop_places.ensures.done
+    (λ hall drops refused. inr (record { bare = bare.now; hall = hall; drops = drops; refused = refused }))
+    c.put_places.result c.put_places.ensures.cause

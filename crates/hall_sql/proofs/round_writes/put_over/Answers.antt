@@ -1,28 +1,15 @@
-use Rattle.std.proofs.Common.{sym, subst}
-use Rattle.hall_sql.proofs.HeadTexts.{replace_head_is}
-use Rattle.hall_sql.proofs.SoundLemmas.{IsRowWrite, ran_sound}
+use Rattle.std.proofs.lemmas.Result.{on_ok_weaker}
 use Rattle.hall_sql.proofs.RoundWrites.{head_replaced}
-use Rattle.sqlite.specs.Held.{state}
-use Rattle.hall_sql.specs.declared.round_writes.TheConstants.{REPLACE_HEAD}
-use Rattle.hall_sql.proofs.CauseLemmas.{fails_as}
 use Rattle.hall_sql.proofs.Written.{replace_head_written}
-use Rattle.hall_sql.proofs.WriteCauseLemmas.{inside_cause}
-use Rattle.hall_sql.specs.RoundColumns.{head_params}
 use Rattle.hall_sql.proofs.round_writes.put_over.Goals as goal
+
+pub write_in-requires : goal.write_in-requires
+write_in-requires g c = record { written = rw c.columns.ensures (replace_head_written c.args.round.now) }
 
 pub returns-clause-done : goal.returns-clause-done
 returns-clause-done g c clean inside =
-    let it = c.in_ok-run_in.ensures in
-    let ran = rw c.columns.ensures at (it.runs clean inside) in
-    record {
-      mode = it.mode clean inside;
-      sound = λ held. ran_sound REPLACE_HEAD.now (head_params c.args.round.now) (state g.S.Store c.args.tx.now.conn.now) (state g.S.Store c.run_in.new.tx.conn.now) _ held.schema
-          (λ u. (replace_head_is u).1) (λ u. subst IsRowWrite (sym (replace_head_is u).0) tt) ran;
-      puts = λ held. head_replaced c.args.round.now c.in_range.ensures _ _ _ held ran;
-    }
-
-pub returns-in_err-run_in-clause-cause : goal.returns-in_err-run_in-clause-cause
-returns-in_err-run_in-clause-cause g c clean goes =
-    fails_as c.from_residual.result _ _ c.from_residual.ensures.1 (λ failed.
-    inside_cause REPLACE_HEAD.now (head_params c.args.round.now) (state g.S.Store c.args.tx.now.conn.now) (state g.S.Store c.run_in.new.tx.conn.now) (replace_head_written c.args.round.now) goes
-    (rw c.columns.ensures at (c.in_err-run_in.ensures.cause clean goes.mode failed)))
+    on_ok_weaker c.write_in.result (λ it. record {
+      mode = it.mode;
+      sound = it.sound;
+      puts = λ held. head_replaced c.args.round.now c.in_range.ensures _ _ it.count held it.ran;
+    }) ((rw c.columns.ensures at c.write_in.ensures.ran) clean inside)

@@ -1,4 +1,4 @@
-use Rattle.std.proofs.Common.{ap, ◌≡◌, inr, Some, sym, ◌∙◌, subst}
+use Rattle.std.proofs.Common.{ap, sym, ◌∙◌}
 use Rattle.sqlite.specs.Held.{state}
 use Rattle.hall_store.specs.declared.change.Change.TheVariants.{SetRoundFlag}
 use Rattle.hall_sql.specs.Rows.{world_of}
@@ -6,13 +6,12 @@ use Rattle.hall_sql.specs.Spared.{may_write}
 use Rattle.hall_store.specs.Change.{changed, flagged}
 use Rattle.hall_sql.proofs.RoundWrites.{head_own, head_under}
 use Rattle.hall_sql.proofs.WriteLemmas.{rested_then, wrote_too}
-use Rattle.sqlite.specs.State.{HasCleanDisk}
 use Rattle.std.specs.FinMap.{get}
-use Rattle.sqlite.specs.Effect.{Database}
-use Rattle.std.proofs.lemmas.Result.{IfErr-weaker}
 use Rattle.hall_sql.specs.declared.round_writes.TheConstants.{REPLACE_HEAD}
 use Rattle.hall_sql.specs.RoundColumns.{head_params}
-use Rattle.hall_sql.proofs.WriteCauseLemmas.{run_served}
+use Rattle.hall_sql.proofs.WriteCauseLemmas.{found_fails, run_served}
+use Rattle.hall_sql.specs.WriteCause.{RunFails}
+use Rattle.hall_policy.specs.declared.record.Round.{Round}
 use Rattle.hall_sql.proofs.round_writes.set_round_flag.Goals as goal
 
 pub set_flag-requires-clause-found : goal.set_flag-requires-clause-found
@@ -38,21 +37,13 @@ returns-in-Some-clause-wrote g c =
     c.set_flag.ensures.wrote)
 
 pub returns-in-Some-clause-cause : goal.returns-in-Some-clause-cause
-returns-in-Some-clause-cause g c clean =
+returns-in-Some-clause-cause g c =
     let old = state g.S.Store c.args.conn.now in
     let mid = state g.S.Store c.head.new.conn in
-    let was : HasCleanDisk mid = c.set_flag.ensures.wrote.makes.leads.honest clean in
-    let served = c.in_ok-round.ensures.reads.served was in
-    let same = c.head.ensures.reads.rested.same was served.0 in
-    let there : get (world_of mid.now.trees).rounds c.args.id.now ≡ Some c.in-Some.round = sym served.1 ∙
-    c.in-Some.is in
-    let found = subst (λ (d : Database). get (world_of d.trees).rounds c.args.id.now ≡ Some c.in-Some.round) same
-    there in
-    IfErr-weaker c.set_flag.result _ _ (λ fault why failed.
-    inr (
-      c.in-Some.round,
-      found,
-      run_served REPLACE_HEAD.now (head_params (flagged c.args.flag c.in-Some.round)) old mid
-          (state g.S.Store c.set_flag.new.conn)
-          c.head.ensures.reads.rested.follows.lasts.counts served.0 same (why failed),
-    )) (c.set_flag.ensures.cause clean)
+    let new = state g.S.Store c.set_flag.new.conn in
+    let put = λ (round : Round). head_params (flagged c.args.flag round) in
+    found_fails _ (λ round. RunFails REPLACE_HEAD.now (put round) old new) (λ world. get world.rounds c.args.id.now)
+    c.in-Some.round
+    old mid new c.set_flag.result c.head.ensures.reads.rested c.set_flag.ensures.wrote.makes.leads.honest
+    (λ was. let it = c.in_ok-round.ensures.reads.served was in (it.0, sym it.1 ∙ c.in-Some.is))
+    (run_served REPLACE_HEAD.now (put c.in-Some.round) old mid new) c.set_flag.ensures.cause
