@@ -24,16 +24,27 @@ use Rattle.hall_sql.proofs.TransactionLemmas.{commit_refused}
 use Rattle.hall_sql.proofs.Wordings.{like_itself}
 
 -- tables with no rows hold nobody and nothing
-pub bare_world : (trees : Trees) → AllByRecursion (λ table. trees table.tree ≡ []) hall_schema.tables → world_of trees ≡ empty_world
+pub bare_world : (trees : Trees) → AllByRecursion (λ table. trees table.tree ≡ []) hall_schema.tables
+    → world_of trees ≡ empty_world
 bare_world trees all = rw (all.0, all.1.0, all.1.1.0, all.1.1.1.0, all.1.1.1.1.0, all.1.1.1.1.1.0, all.1.1.1.1.1.1.0)
 
 bare_keyed : (rows : _) → rows ≡ [] → AreKeyed rows
 bare_keyed rows none = subst AreKeyed (sym none) (record { ints = tt; distinct = tt })
 
-all_bare_keyed : (trees : Trees) → AllByRecursion (λ table. trees table.tree ≡ []) hall_schema.tables → AreAllKeyed trees
+all_bare_keyed : (trees : Trees) → AllByRecursion (λ table. trees table.tree ≡ []) hall_schema.tables
+    → AreAllKeyed trees
 all_bare_keyed trees all = (
   bare_keyed _ all.0,
-  (bare_keyed _ all.1.0, (bare_keyed _ all.1.1.0, (bare_keyed _ all.1.1.1.0, (bare_keyed _ all.1.1.1.1.0, (bare_keyed _ all.1.1.1.1.1.0, (bare_keyed _ all.1.1.1.1.1.1.0, tt)))))),
+  (
+    bare_keyed _ all.1.0,
+    (
+      bare_keyed _ all.1.1.0,
+      (
+        bare_keyed _ all.1.1.1.0,
+        (bare_keyed _ all.1.1.1.1.0, (bare_keyed _ all.1.1.1.1.1.0, (bare_keyed _ all.1.1.1.1.1.1.0, tt))),
+      ),
+    ),
+  ),
 )
 
 -- with no table at all, all seven are to be made
@@ -62,7 +73,8 @@ none_open : (s : State) → s.in_transaction ≡ false → IsTrue s.in_transacti
 none_open s alone inside = let no : false ≡ true = sym alone ∙ inside in cc
 
 -- what rests is refused
-pub rests_declined : (old new : State) → old.in_transaction ≡ false → (IsTrue old.is_open → old.now ≡ old.committed) → LeadsConnection old new
+pub rests_declined : (old new : State) → old.in_transaction ≡ false → (IsTrue old.is_open → old.now ≡ old.committed)
+    → LeadsConnection old new
     → (HasCleanDisk new → KeptOrRolledBack old new) → HasDeclined old new
 rests_declined old new alone settled lasts rests = record {
   follows = record { lasts = lasts; opened = λ clean opens. was (rests clean) opens };
@@ -84,8 +96,10 @@ rests_declined old new alone settled lasts rests = record {
     same (inr back) opens = ((back.undone opens).0 ∙ sym (settled (back.was_open opens)), (back.undone opens).1)
 
 -- the hall's tables stood
-pub scanned_adopted : (old new : State) → old.in_transaction ≡ false → (IsTrue old.is_open → old.now ≡ old.committed) → IsHallSchema old.now.schema
-    → LeadsConnection old new → AddsNoOutcome old new → (HasCleanDisk new → AreScanned all_tables old new) → HasAdopted old (without_limit new)
+pub scanned_adopted : (old new : State) → old.in_transaction ≡ false → (IsTrue old.is_open → old.now ≡ old.committed)
+    → IsHallSchema old.now.schema
+    → LeadsConnection old new → AddsNoOutcome old new → (HasCleanDisk new → AreScanned all_tables old new)
+    → HasAdopted old (without_limit new)
 scanned_adopted old new alone settled has lasts quiets scanned =
     let left = λ (clean : HasCleanDisk new). (scanned clean).left in
     let was = λ (clean : HasCleanDisk new). sym (left clean).is_open ∙ (scanned clean).serves in
@@ -94,8 +108,14 @@ scanned_adopted old new alone settled has lasts quiets scanned =
       hall = record {
         unlimited = refl;
         autocommit = λ clean. (left clean).mode ∙ alone;
-        settled = λ clean opens. ((left clean).now_is ∙ settled (was clean) ∙ sym (left clean).committed_is, subst (λ (d : Database). IsHallSchema d.schema) (sym (left clean).now_is) has);
-        keyed = λ clean opens. subst (λ (d : Database). AreAllKeyed d.trees) (sym (left clean).now_is) (scanned clean).keyed;
+        settled = λ clean opens. (
+          (left clean).now_is ∙ settled (was clean)
+              ∙ sym (left clean).committed_is,
+          subst (λ (d : Database). IsHallSchema d.schema) (sym (left clean).now_is)
+              has,
+        );
+        keyed = λ clean opens. subst (λ (d : Database). AreAllKeyed d.trees) (sym (left clean).now_is)
+            (scanned clean).keyed;
       };
       follows = record { lasts = last_lifted old new lasts; opened = λ clean opens. was clean };
       serves = λ clean. (scanned clean).serves;
@@ -103,26 +123,35 @@ scanned_adopted old new alone settled has lasts quiets scanned =
       stops = λ clean db may. inl (quiets clean db may);
     }
 
-module _ {S : Type 0} (g : Ghosts S) (held : Held S) (settled : IsTrue (state g held).is_open → (state g held).now ≡ (state g held).committed) where
+module _ {S : Type 0} (g : Ghosts S) (held : Held S) (settled : IsTrue (state g held).is_open
+    → (state g held).now ≡ (state g held).committed) where
   -- where the transaction began
   abbrev pub base : State
   base = state g (record held { in_transaction = true })
 
   -- rolled back, the tables are as they were
-  pub rolled_declined : held.in_transaction ≡ false → (mid end : State) → LeadsUncommitted base mid → LeadsConnection mid end
+  pub rolled_declined : held.in_transaction ≡ false → (mid end : State) → LeadsUncommitted base mid
+      → LeadsConnection mid end
       → (HasCleanDisk end → IsRolledBack mid end) → HasDeclined (state g held) end
   rolled_declined alone mid end carries lasts rolled =
-      let now : HasCleanDisk end → HasCleanDisk mid = λ (clean : HasCleanDisk end). let was : HasCleanDisk mid = omega (arith, lasts.clean, clean) in was in
+      let now : HasCleanDisk end → HasCleanDisk mid = λ (clean : HasCleanDisk end). let was : HasCleanDisk mid = omega
+      (arith, lasts.clean, clean) in was in
       let keeps = λ (clean : HasCleanDisk end). carries.kept (now clean) refl in
       let opens_mid = λ (clean : HasCleanDisk end) (opens : IsTrue end.is_open). (rolled clean).was_open opens in
-      let opens_old = λ (clean : HasCleanDisk end) (opens : IsTrue end.is_open). (keeps clean).was_open (opens_mid clean opens) in
+      let opens_old = λ (clean : HasCleanDisk end) (opens : IsTrue end.is_open). (keeps clean).was_open
+      (opens_mid clean opens) in
       record {
-        follows = record { lasts = last_then (state g held) mid end (last_begun g held mid carries.lasts) lasts; opened = opens_old };
+        follows = record {
+          lasts = last_then (state g held) mid end (last_begun g held mid carries.lasts) lasts;
+          opened = opens_old;
+        };
         mode = λ clean. (rolled clean).autocommit ∙ sym alone;
         marks = λ clean inside. absurd (none_open (state g held) alone inside);
         same = λ clean opens.
-            let committed = (keeps clean).committed (opens_mid clean opens) in
-            (((rolled clean).undone opens).0 ∙ committed ∙ sym (settled (opens_old clean opens)), ((rolled clean).undone opens).1 ∙ committed);
+            let committed = (keeps clean).committed (opens_mid clean opens) in (
+              ((rolled clean).undone opens).0 ∙ committed ∙ sym (settled (opens_old clean opens)),
+              ((rolled clean).undone opens).1 ∙ committed,
+            );
       }
 
   -- so they are where the commit was refused
@@ -150,33 +179,54 @@ module _ {S : Type 0} (g : Ghosts S) (held : Held S) (settled : IsTrue (state g 
               | inl same ↦ absurd (let count = ap length same in cc)
               | inr holds ↦ holds
             ] in
-            inr (none, subst IsBareHall (sym is) (subst (λ (schema : Schema). IsSound schema mid.now.trees) bare.is sound, bare.empty))
+            inr (
+              none,
+              subst IsBareHall (sym is) (
+                subst (λ (schema : Schema). IsSound schema mid.now.trees) bare.is
+                    sound,
+                bare.empty,
+              ),
+            )
       ]
 
   -- and where nothing was committed
-  pub rolled_stops : (mid end : State) → LeadsUncommitted base mid → Survives mid end (λ _. ⊥) → MakesAtMost (state g held) end
+  pub rolled_stops : (mid end : State) → LeadsUncommitted base mid → Survives mid end (λ _. ⊥)
+      → MakesAtMost (state g held) end
   rolled_stops mid end carries survives clean db may =
       let clean_mid : HasCleanDisk mid = omega (arith, survives.clean, clean) in
       inl (carries.stops clean_mid db (quiet mid end survives clean db may))
 
   -- committed, the hall stands with an empty world
-  pub committed_adopted : held.in_transaction ≡ false → (mid end : State) → held.schema ≡ no_schema → LeadsUncommitted base mid → (HasCleanDisk mid → IsTrue base.in_transaction → HasGrown all_tables [] base mid)
+  pub committed_adopted : held.in_transaction ≡ false → (mid end : State) → held.schema ≡ no_schema
+      → LeadsUncommitted base mid → (HasCleanDisk mid → IsTrue base.in_transaction → HasGrown all_tables [] base mid)
       → LeadsConnection mid end → MakesAtMost (state g held) end → end.in_transaction ≡ false
-      → (HasCleanDisk end → IsTrue mid.in_transaction × Shows mid end mid.now mid.now false × KeepsCounts mid end × (end.marks ≡ []))
+      → (HasCleanDisk end → IsTrue mid.in_transaction × Shows mid end mid.now mid.now false × KeepsCounts mid end
+      × (end.marks ≡ []))
       → HasAdopted (state g held) (without_limit end)
   committed_adopted alone mid end none carries grown lasts stops ended ok =
-      let now : HasCleanDisk end → HasCleanDisk mid = λ (clean : HasCleanDisk end). let was : HasCleanDisk mid = omega (arith, lasts.clean, clean) in was in
+      let now : HasCleanDisk end → HasCleanDisk mid = λ (clean : HasCleanDisk end). let was : HasCleanDisk mid = omega
+      (arith, lasts.clean, clean) in was in
       let bare : HasCleanDisk end → IsBareDatabase hall_schema end.now = λ (clean : HasCleanDisk end).
-      subst (IsBareDatabase hall_schema) (sym (ok clean).1.now_is) (bare_hall mid.now ((grown (now clean) refl).made (awaits_all base.now none))) in
+      subst (IsBareDatabase hall_schema) (sym (ok clean).1.now_is)
+      (bare_hall mid.now ((grown (now clean) refl).made (awaits_all base.now none))) in
       record {
         alone = alone;
         hall = record {
           unlimited = refl;
           autocommit = λ clean. ended;
-          settled = λ clean opens. ((ok clean).1.now_is ∙ sym (ok clean).1.committed_is, subst IsHallSchema (sym (bare clean).is) (like_itself hall_schema));
+          settled = λ clean opens. (
+            (ok clean).1.now_is ∙ sym (ok clean).1.committed_is,
+            subst IsHallSchema
+                (sym (bare clean).is) (like_itself hall_schema),
+          );
           keyed = λ clean opens. all_bare_keyed end.now.trees (bare clean).empty;
         };
-        follows = record { lasts = last_lifted (state g held) end (last_then (state g held) mid end (last_begun g held mid carries.lasts) lasts); opened = λ clean opens. (carries.kept (now clean) refl).was_open (ok clean).1.was_open };
+        follows = record {
+          lasts = last_lifted (state g held) end
+              (last_then (state g held) mid end (last_begun g held mid carries.lasts) lasts);
+          opened = λ clean opens.
+              (carries.kept (now clean) refl).was_open (ok clean).1.was_open;
+        };
         serves = λ clean. (ok clean).1.is_open;
         stood = λ clean. inr (none, bare clean);
         stops = stops;

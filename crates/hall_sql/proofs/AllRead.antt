@@ -1,5 +1,6 @@
 -- Tables of which each row is a record: what is asked of them, what one row more leaves, and tables with no row.
-use Rattle.std.proofs.Common.{◌≡◌, ◌≢◌, ◌⊎◌, ◌==◌, ◌++◌, inl, inr, ℕ, List, [], ◌∷◌, map, flat_map, true, is_some, option_to_list, Option, Some, None, IsTrue, refl, sym, ap, subst, ◌∙◌}
+use Rattle.std.proofs.Common.{◌≡◌, ◌≢◌, ◌⊎◌, ◌==◌, ◌++◌, inl, inr, ℕ, List, [], ◌∷◌, map, flat_map, true, is_some}
+use Rattle.std.proofs.Common.{option_to_list, Option, Some, None, IsTrue, refl, sym, ap, subst, ◌∙◌}
 use Rattle.std.proofs.lemmas.Bool.{cases_Bool}
 use Rattle.std.specs.Cmp.{IsTotalOrder}
 use Rattle.std.specs.FinMap.{empty, from_entries, get, get-empty, get-from_entries}
@@ -71,9 +72,12 @@ all_some read (r ∷ rows) (x ∷ out) is =
     (ap is_some here, all_some read rows out more)
 
 -- a query asks for all rows of a table
-module _ {Fits : Schema → Type 0} {text : List ℕ} {tree : ℕ} {project : List Term} {order : List (Term × Key)} {names : List (List ℕ)}
-    (asks : (schema : Schema) → Fits schema → AsksAll text tree project order names schema) {X : Type 0} (read : Row → Option X) (count : ℕ)
-    (apart : (db : Trees) → overlay db [] tree ≡ db tree) (shows : (r : Row) → eval_all project ([] ∷ r ∷ []) ≡ columns_from 1 count r)
+module _ {Fits : Schema → Type 0} {text : List ℕ} {tree : ℕ} {project : List Term} {order : List (Term × Key)}
+    {names : List (List ℕ)}
+    (asks : (schema : Schema) → Fits schema → AsksAll text tree project order names schema) {X : Type 0}
+    (read : Row → Option X) (count : ℕ)
+    (apart : (db : Trees) → overlay db [] tree ≡ db tree) (shows : (r : Row)
+    → eval_all project ([] ∷ r ∷ []) ≡ columns_from 1 count r)
     (is_read : (r : Row) → is_record tree r ≡ is_some (read (columns_from 1 count r)))
     (old new : State) (hall : IsOver Fits old) (clean : HasCleanDisk old) where
   abbrev Reads : Row → Type 0
@@ -88,27 +92,33 @@ module _ {Fits : Schema → Type 0} {text : List ℕ} {tree : ℕ} {project : Li
 
     selection : IsSelection (plain_query tree [] project order) (old.now.trees tree) [] rows
     selection =
-        answers_selection text [] old new tree [] project order names all.is all.unlisted all.plain (apart old.now.trees)
+        answers_selection text [] old new tree [] project order names all.is all.unlisted all.plain
+        (apart old.now.trees)
         refl rows shown
 
     same : IsPermutation (old.now.trees tree) selection.found
-    same = subst (λ l. IsPermutation l selection.found) (filter_all (λ _. true) (old.now.trees tree) (all_of (λ _. true ≡ true) (λ _. refl) _)) selection.same
+    same = subst (λ l. IsPermutation l selection.found) (filter_all (λ _. true) (old.now.trees tree)
+        (all_of (λ _. true ≡ true) (λ _. refl) _)) selection.same
 
     shown_are : rows ≡ map (columns_from 1 count) selection.found
     shown_are = selection.shown ∙ (λ i. map (λ r. shows r i) selection.found)
 
     to_table : AllByRecursion Reads rows → IsRead old.now.trees tree
     to_table each =
-        let found = all_from_map Reads (columns_from 1 count) selection.found (subst (AllByRecursion Reads) shown_are each) in
-        all-permutation (λ r. IsTrue (is_record tree r)) selection.found (old.now.trees tree) (IsPermutation-sym _ _ same)
-        (all_weaker (λ r. Reads (columns_from 1 count r)) (λ r. IsTrue (is_record tree r)) (λ r h. is_read r ∙ h) selection.found found)
+        let found = all_from_map Reads (columns_from 1 count) selection.found
+        (subst (AllByRecursion Reads) shown_are each) in
+        all-permutation (λ r. IsTrue (is_record tree r)) selection.found (old.now.trees tree)
+        (IsPermutation-sym _ _ same)
+        (all_weaker (λ r. Reads (columns_from 1 count r)) (λ r. IsTrue (is_record tree r)) (λ r h. is_read r ∙ h)
+        selection.found found)
 
     from_table : IsRead old.now.trees tree → AllByRecursion Reads rows
     from_table each =
         let found = all-permutation (λ r. IsTrue (is_record tree r)) (old.now.trees tree) selection.found same each in
         subst (AllByRecursion Reads) (sym shown_are)
         (all-map Reads (columns_from 1 count) selection.found
-        (all_weaker (λ r. IsTrue (is_record tree r)) (λ r. Reads (columns_from 1 count r)) (λ r h. sym (is_read r) ∙ h) selection.found found))
+        (all_weaker (λ r. IsTrue (is_record tree r)) (λ r. Reads (columns_from 1 count r)) (λ r h. sym (is_read r) ∙ h)
+        selection.found found))
 
   -- where all that it answers are records, each row of the table is one
   read_all : AreRecords read text [] old new → IsRead old.now.trees tree
@@ -142,29 +152,38 @@ module _ (old new : State) (clean : HasCleanDisk old) where
   testers_read hall =
       read_all all_testers_are tester_in 2 (λ db. refl) (λ r. refl) (λ r. refl) old new hall clean
 
-  pub people_fails : IsAnyHall old → ReadFails person_in ALL_PEOPLE.now [] old new → IsStoreCause old new ⊎ (¬ IsRead old.now.trees 0)
+  pub people_fails : IsAnyHall old → ReadFails person_in ALL_PEOPLE.now [] old new → IsStoreCause old new
+      ⊎ (¬ IsRead old.now.trees 0)
   people_fails hall = read_fails all_people_are person_in 3 (λ db. refl) (λ r. refl) (λ r. refl) old new hall clean
 
-  pub puzzles_fails : IsAnyHall old → ReadFails puzzle_row_in ALL_PUZZLES.now [] old new → IsStoreCause old new ⊎ (¬ IsRead old.now.trees 3)
-  puzzles_fails hall = read_fails all_puzzles_are puzzle_row_in 5 (λ db. refl) (λ r. refl) (λ r. refl) old new hall clean
+  pub puzzles_fails : IsAnyHall old → ReadFails puzzle_row_in ALL_PUZZLES.now [] old new → IsStoreCause old new
+      ⊎ (¬ IsRead old.now.trees 3)
+  puzzles_fails hall = read_fails all_puzzles_are puzzle_row_in 5 (λ db. refl) (λ r. refl) (λ r. refl) old new hall
+      clean
 
-  pub rounds_fails : IsAnyHall old → ReadFails round_in ALL_ROUNDS.now [] old new → IsStoreCause old new ⊎ (¬ IsRead old.now.trees 5)
+  pub rounds_fails : IsAnyHall old → ReadFails round_in ALL_ROUNDS.now [] old new → IsStoreCause old new
+      ⊎ (¬ IsRead old.now.trees 5)
   rounds_fails hall = read_fails all_rounds_are round_in 10 (λ db. refl) (λ r. refl) (λ r. refl) old new hall clean
 
-  pub places_fails : IsAnyHall old → ReadFails place_in ALL_PLACES.now [] old new → IsStoreCause old new ⊎ (¬ IsRead old.now.trees 7)
+  pub places_fails : IsAnyHall old → ReadFails place_in ALL_PLACES.now [] old new → IsStoreCause old new
+      ⊎ (¬ IsRead old.now.trees 7)
   places_fails hall = read_fails all_places_are place_in 5 (λ db. refl) (λ r. refl) (λ r. refl) old new hall clean
 
-  pub answers_fails : IsAnyHall old → ReadFails answer_in ALL_ANSWERS.now [] old new → IsStoreCause old new ⊎ (¬ IsRead old.now.trees 9)
+  pub answers_fails : IsAnyHall old → ReadFails answer_in ALL_ANSWERS.now [] old new → IsStoreCause old new
+      ⊎ (¬ IsRead old.now.trees 9)
   answers_fails hall = read_fails all_answers_are answer_in 8 (λ db. refl) (λ r. refl) (λ r. refl) old new hall clean
 
-  pub protests_fails : IsAnyHall old → ReadFails protest_in ALL_PROTESTS.now [] old new → IsStoreCause old new ⊎ (¬ IsRead old.now.trees 12)
+  pub protests_fails : IsAnyHall old → ReadFails protest_in ALL_PROTESTS.now [] old new → IsStoreCause old new
+      ⊎ (¬ IsRead old.now.trees 12)
   protests_fails hall = read_fails all_protests_are protest_in 7 (λ db. refl) (λ r. refl) (λ r. refl) old new hall clean
 
-  pub testers_fails : IsOver IsHallSchema old → ReadFails tester_in ALL_TESTERS.now [] old new → IsStoreCause old new ⊎ (¬ IsRead old.now.trees 14)
+  pub testers_fails : IsOver IsHallSchema old → ReadFails tester_in ALL_TESTERS.now [] old new → IsStoreCause old new
+      ⊎ (¬ IsRead old.now.trees 14)
   testers_fails hall = read_fails all_testers_are tester_in 2 (λ db. refl) (λ r. refl) (λ r. refl) old new hall clean
 
 -- a table that rests was read before, where it is
-pub read_before : (tree : ℕ) (old new : State) → IsAnyHall old → KeptAnyTables old new → HasCleanDisk new → IsTrue new.is_open
+pub read_before : (tree : ℕ) (old new : State) → IsAnyHall old → KeptAnyTables old new → HasCleanDisk new
+    → IsTrue new.is_open
     → IsRead new.now.trees tree → IsRead old.now.trees tree
 read_before tree old new hall rested clean opens =
     subst (λ (d : Database). IsRead d.trees tree) ((rested hall.schema hall.tabled).same clean opens)
@@ -173,24 +192,28 @@ read_before tree old new hall rested clean opens =
 
 read_after : (tree : ℕ) (old new : Trees) (tables : List Table) → IsRead new tree
     → AllByRecursion (λ (t : Table). t.tree ≢ tree → new t.tree ≡ old t.tree) tables
-    → AllByRecursion (λ (t : Table). IsRead old t.tree) tables → AllByRecursion (λ (t : Table). IsRead new t.tree) tables
+    → AllByRecursion (λ (t : Table). IsRead old t.tree) tables → AllByRecursion (λ (t : Table). IsRead new t.tree)
+    tables
 read_after tree old new [] here others each = tt
 read_after tree old new (t ∷ tables) here others each = (
   elim (cases_Bool (t.tree == tree)) [
     | inl is ↦ subst (IsRead new) (sym (same_tree t.tree tree is)) here
-    | inr differs ↦ subst (AllByRecursion (λ r. IsTrue (is_record t.tree r))) (sym (others.0 (other_tree t.tree tree differs))) each.0
+    | inr differs ↦ subst (AllByRecursion (λ r. IsTrue (is_record t.tree r)))
+        (sym (others.0 (other_tree t.tree tree differs))) each.0
   ],
   read_after tree old new tables here others.1 each.1,
 )
 
 -- a row that is a record was added to a table of which each row was one
 pub added_read : (tree : ℕ) (values : Row) (old new : Database) → HasAdded hall_schema tree values old new
-    → IsTrue (is_record tree (Int (next_rowid (old.trees tree)) ∷ values)) → (AreAllRead hall_schema old.trees → IsRead old.trees tree) → StaysRead old new
+    → IsTrue (is_record tree (Int (next_rowid (old.trees tree)) ∷ values))
+    → (AreAllRead hall_schema old.trees → IsRead old.trees tree) → StaysRead old new
 added_read tree values old new it own before each =
     let row = Int (next_rowid (old.trees tree)) ∷ values in
     let P = λ (r : Row). IsTrue (is_record tree r) in
     let here : IsRead new.trees tree = subst (AllByRecursion P) (sym it.put)
-    (all-permutation P (row ∷ old.trees tree) (put_row row (old.trees tree)) (put_permutes row (old.trees tree) it.free) (own, before each)) in
+    (all-permutation P (row ∷ old.trees tree) (put_row row (old.trees tree)) (put_permutes row (old.trees tree) it.free)
+    (own, before each)) in
     read_after tree old.trees new.trees hall_schema.tables here it.others each
 
 -- ---- no row
@@ -199,7 +222,8 @@ module _ {K X : Type 0} {R : K → K → Ordering} (total : IsTotalOrder R) wher
   -- a map with an entry in front is not empty
   not_none : (k : K) (x : X) (es : List (K × X)) → from_entries {R = R} ((k, x) ∷ es) ≡ empty → ⊥
   not_none k x es none =
-      let there : get (from_entries {R = R} ((k, x) ∷ es)) k ≡ Some x = get-from_entries total ((k, x) ∷ es) k ∙ rw (own_key total k) refl in
+      let there : get (from_entries {R = R} ((k, x) ∷ es)) k ≡ Some x = get-from_entries total ((k, x) ∷ es) k
+      ∙ rw (own_key total k) refl in
       let no : None ≡ Some x = sym (get-empty R k) ∙ ap (λ m. get m k) (sym none) ∙ there in cc
 
   none_kept : (key : X → K) (read : Row → Option X) (rows : List Row) → kept R key read rows ≡ empty
@@ -213,7 +237,8 @@ module _ {K X : Type 0} {R : K → K → Ordering} (total : IsTotalOrder R) wher
           not_none (key x) x (flat_map (λ r. entry key (read r)) rows)
           (subst (λ o. from_entries {R = R} (entry key o ++ flat_map (λ r. entry key (read r)) rows) ≡ empty) is none)
 
-  none_listed : (read : Row → Option (K × X)) (rows : List Row) → from_entries {R = R} (flat_map (λ r. option_to_list (read r)) rows) ≡ empty
+  none_listed : (read : Row → Option (K × X)) (rows : List Row)
+      → from_entries {R = R} (flat_map (λ r. option_to_list (read r)) rows) ≡ empty
       → AllByRecursion (λ r. IsTrue (is_some (read r))) rows → rows ≡ []
   none_listed read [] none each = refl
   none_listed read (r ∷ rows) none each = absurd (go (read r) refl each.0)
@@ -222,20 +247,28 @@ module _ {K X : Type 0} {R : K → K → Ordering} (total : IsTotalOrder R) wher
       go None is some = absurd cc
       go (Some e) is some =
           not_none e.0 e.1 (flat_map (λ r. option_to_list (read r)) rows)
-          (subst (λ o. from_entries {R = R} (option_to_list o ++ flat_map (λ r. option_to_list (read r)) rows) ≡ empty) is none)
+          (subst (λ o. from_entries {R = R} (option_to_list o ++ flat_map (λ r. option_to_list (read r)) rows) ≡ empty)
+          is none)
 
 -- tables that hold nothing, and no row that is no record, have no row
-pub all_bare : (held : Database) → IsHallSchema held.schema → world_of held.trees ≡ empty_world → AreAllRead hall_schema held.trees → IsBareLike hall_schema held
+pub all_bare : (held : Database) → IsHallSchema held.schema → world_of held.trees ≡ empty_world
+    → AreAllRead hall_schema held.trees → IsBareLike hall_schema held
 all_bare held has none each = record {
   is = has;
   empty =
-      let n0 = none_kept text_total (λ (p : Person). p.name) person_of_row (held.trees 0) (ap (λ (w : World). w.people) none) each.0 in
-      let n1 = none_kept puzzle_total (λ (p : PuzzleRow). p.key) puzzle_of_row (held.trees 3) (ap (λ (w : World). w.puzzles) none) each.1.0 in
-      let n2 = none_kept text_total (λ (r : Round). r.id) round_of_row (held.trees 5) (ap (λ (w : World). w.rounds) none) each.1.1.0 in
+      let n0 = none_kept text_total (λ (p : Person). p.name) person_of_row (held.trees 0)
+      (ap (λ (w : World). w.people) none) each.0 in
+      let n1 = none_kept puzzle_total (λ (p : PuzzleRow). p.key) puzzle_of_row (held.trees 3)
+      (ap (λ (w : World). w.puzzles) none) each.1.0 in
+      let n2 = none_kept text_total (λ (r : Round). r.id) round_of_row (held.trees 5)
+      (ap (λ (w : World). w.rounds) none) each.1.1.0 in
       let n3 = none_listed place_total place_of_row (held.trees 7) (ap (λ (w : World). w.places) none) each.1.1.1.0 in
-      let n4 = none_kept answer_total (λ (a : AnswerRow). a.key) answer_of_row (held.trees 9) (ap (λ (w : World). w.answers) none) each.1.1.1.1.0 in
-      let n5 = none_kept protest_total (λ (p : ProtestRow). p.key) protest_of_row (held.trees 12) (ap (λ (w : World). w.protests) none) each.1.1.1.1.1.0 in
-      let n6 = none_listed tester_total tester_of_row (held.trees 14) (ap (λ (w : World). w.testers) none) each.1.1.1.1.1.1.0 in
+      let n4 = none_kept answer_total (λ (a : AnswerRow). a.key) answer_of_row (held.trees 9)
+      (ap (λ (w : World). w.answers) none) each.1.1.1.1.0 in
+      let n5 = none_kept protest_total (λ (p : ProtestRow). p.key) protest_of_row (held.trees 12)
+      (ap (λ (w : World). w.protests) none) each.1.1.1.1.1.0 in
+      let n6 = none_listed tester_total tester_of_row (held.trees 14) (ap (λ (w : World). w.testers) none)
+      each.1.1.1.1.1.1.0 in
       (n0, (n1, (n2, (n3, (n4, (n5, (n6, tt)))))));
 }
 
@@ -243,4 +276,5 @@ all_bare held has none each = record {
 pub bare_read : (held : Database) → IsBareLike hall_schema held → AreAllRead hall_schema held.trees
 bare_read held bare =
     let all = bare.empty in
-    rw (all.0, all.1.0, all.1.1.0, all.1.1.1.0, all.1.1.1.1.0, all.1.1.1.1.1.0, all.1.1.1.1.1.1.0) (tt, (tt, (tt, (tt, (tt, (tt, (tt, tt)))))))
+    rw (all.0, all.1.0, all.1.1.0, all.1.1.1.0, all.1.1.1.1.0, all.1.1.1.1.1.0, all.1.1.1.1.1.1.0)
+    (tt, (tt, (tt, (tt, (tt, (tt, (tt, tt)))))))

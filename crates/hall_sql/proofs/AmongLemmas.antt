@@ -1,5 +1,7 @@
 -- The values of a table's map, what a query leaves of them, and whether it leaves any.
-use Rattle.std.proofs.Common.{◌≡◌, ◌≤◌, ◌↔◌, ◌==◌, not, ℕ, zero, suc, length, List, [], ◌∷◌, map, filter, find, Bool, true, false, cond, IsTrue, Option, Some, None, option_map, Contains, slice_get, refl, sym, ap, subst, ◌∙◌, arith}
+use Rattle.std.proofs.Common.{◌≡◌, ◌≤◌, ◌↔◌, ◌==◌, not, ℕ, zero, suc, length, List, [], ◌∷◌, map, filter, find, Bool}
+use Rattle.std.proofs.Common.{true, false, cond, IsTrue, Option, Some, None, option_map, Contains, slice_get, refl, sym}
+use Rattle.std.proofs.Common.{ap, subst, ◌∙◌, arith}
 use Rattle.std.proofs.lemmas.Bool.Decides.{nat_tests}
 use Rattle.std.proofs.lemmas.Option.{slice_get-map}
 use Rattle.std.specs.Cmp.{IsTotalOrder}
@@ -66,9 +68,11 @@ pub only_found : {X : Type 0} (test : X → Bool) (xs out : List X) → IsPermut
     → slice_get out 0 ≡ find test xs
 only_found test xs out same short = go out same short ∙ sym (first_found test xs)
   where
-    go : (out : List _) → IsPermutation (filter test xs) out → length out ≤ 1 → slice_get out 0 ≡ slice_get (filter test xs) 0
+    go : (out : List _) → IsPermutation (filter test xs) out → length out ≤ 1
+        → slice_get out 0 ≡ slice_get (filter test xs) 0
     go [] same short =
-        let none : filter test xs ≡ [] = no_more (filter test xs) (sym (length_permutation (filter test xs) [] same)) in rw none
+        let none : filter test xs ≡ [] = no_more (filter test xs) (sym (length_permutation (filter test xs) [] same)) in
+        rw none
     go (x ∷ []) same short =
         let one : filter test xs ≡ x ∷ [] = one_permutation x (filter test xs) (IsPermutation-sym _ _ same) in rw one
     go (x ∷ y ∷ out) same short = absurd (omega (arith, short))

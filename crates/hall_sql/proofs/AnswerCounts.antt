@@ -1,5 +1,6 @@
 -- How many answers an entrant gave to a puzzle, whether one of them is the n-th, and whether a round has any.
-use Rattle.std.proofs.Common.{◌≡◌, ◌==◌, ◌↔◌, ◌&&◌, inr, ℕ, pos, List, [], ◌∷◌, length, map, flat_map, option_to_list, Bool, true, not, IsTrue, Some, Contains, refl, ap, ap₂, subst, ◌∙◌, arith}
+use Rattle.std.proofs.Common.{◌≡◌, ◌==◌, ◌↔◌, ◌&&◌, inr, ℕ, pos, List, [], ◌∷◌, length, map, flat_map, option_to_list}
+use Rattle.std.proofs.Common.{Bool, true, not, IsTrue, Some, Contains, refl, ap, ap₂, subst, ◌∙◌, arith}
 use Rattle.std.proofs.lemmas.Bool.Decides.{nat_tests}
 use Rattle.std.specs.List.{list_all}
 use Rattle.std.specs.List.Sorted.{IsPermutation}
@@ -100,7 +101,12 @@ module _ (db : Trees) where
       let at : row.key.round ≡ round = (text_decides row.key.round round).0 (and_first _ _ passes) in
       let by : row.key.entrant ≡ entrant =
       (text_decides row.key.entrant entrant).0 (and_second (same_text row.key.round round) _ passes) in
-      let own : row.key ≡ (let k : AnswerKey = record { entrant = entrant; round = round; number = row.key.number; token = row.key.token } in k) =
+      let own : row.key ≡ (let k : AnswerKey = record {
+        entrant = entrant;
+        round = round;
+        number = row.key.number;
+        token = row.key.token;
+      } in k) =
       λ i. record { entrant = by i; round = at i; number = row.key.number; token = row.key.token } in (
         row.key.number,
         row.key.token,
@@ -121,7 +127,8 @@ module _ (db : Trees) where
 
   -- so the listing tells whether the entrant has an answer in the round
   pub listing_tells : (entrant round : List ℕ) (rows : List AnswerRow) (empty : Bool) → empty ≡ (length rows == 0)
-      → IsListing (world_of db) (is_of entrant round) rows → IsTrue (not empty) ↔ HasSubmitted (world_of db) entrant round
+      → IsListing (world_of db) (is_of entrant round) rows → IsTrue (not empty)
+      ↔ HasSubmitted (world_of db) entrant round
   listing_tells entrant round rows empty is listing =
       any_is (length rows) empty _ is
       (λ some. let one = one_passes (is_of entrant round) answers rows listing.whole some in
@@ -130,18 +137,21 @@ module _ (db : Trees) where
       any_there (is_of entrant round) answers rows listing.whole has.2 there.0 there.1)
 
 -- what a query gives of the world's answers
-module _ (old new : State) (has : IsHallSchema old.now.schema) (keyed : AreKeyed (old.now.trees 9)) (sound : IsDatabase old.now)
+module _ (old new : State) (has : IsHallSchema old.now.schema) (keyed : AreKeyed (old.now.trees 9))
+    (sound : IsDatabase old.now)
     (rows : List Row) (out : List AnswerRow) (is : map answer_in rows ≡ map Some out) where
   said : (u : Wording) × (old.now.schema ≡ hall_in u)
   said = worded old.now.schema has
 
-  whole : IsPermutation (flat_map (λ r. option_to_list (answer_of_row r)) (old.now.trees 9)) (values (world_of old.now.trees).answers)
+  whole : IsPermutation (flat_map (λ r. option_to_list (answer_of_row r)) (old.now.trees 9))
+      (values (world_of old.now.trees).answers)
   whole =
       let db = old.now.trees in
       answers_listed {schema = old.now.schema} (inr has) db keyed sound
 
   to_agrees : (entrant round : List ℕ) (number : ℕ) (r : Row) (x : AnswerRow) → answer_of_row r ≡ Some x
-      → list_all (holds ((Text entrant ∷ Text round ∷ Int (pos number) ∷ []) ∷ r ∷ [])) place_terms ≡ is_to entrant round number x
+      → list_all (holds ((Text entrant ∷ Text round ∷ Int (pos number) ∷ []) ∷ r ∷ [])) place_terms ≡ is_to entrant
+      round number x
   to_agrees entrant round number r x h =
       let it = has_columns r x h in
       ap₂ ◌&&◌ (column_same (column r 1) x.key.entrant entrant it.entrant)
@@ -154,7 +164,8 @@ module _ (old new : State) (has : IsHallSchema old.now.schema) (keyed : AreKeyed
   answers_counted entrant round number shown =
       counted (is_to entrant round number) (values (world_of old.now.trees).answers) out
       (records_asked answer_in 8 ANSWERS_GIVEN.now (Text entrant ∷ Text round ∷ Int (pos number) ∷ []) 9 place_terms
-      answer_columns [] _ (answers_given_is said.0).0 (answers_given_is said.0).1 (answers_given_is said.0).2 (λ db. refl) (λ r. refl)
+      answer_columns [] _ (answers_given_is said.0).0 (answers_given_is said.0).1 (answers_given_is said.0).2
+      (λ db. refl) (λ r. refl)
       (is_to entrant round number) (to_agrees entrant round number) old new rows out said.1 shown is _ whole)
 
   nth_agrees : (entrant round : List ℕ) (number n : ℕ) (r : Row) (x : AnswerRow) → answer_of_row r ≡ Some x
@@ -173,10 +184,13 @@ module _ (old new : State) (has : IsHallSchema old.now.schema) (keyed : AreKeyed
   number_told entrant round number n empty none shown =
       let db = old.now.trees in
       let test = is_nth entrant round number n in
-      let same = records_asked answer_in 8 NUMBER_TAKEN.now (Text entrant ∷ Text round ∷ Int (pos number) ∷ Int (pos n) ∷ []) 9
-      nth_terms answer_columns [] _ (number_taken_is said.0).0 (number_taken_is said.0).1 (number_taken_is said.0).2 (λ db. refl) (λ r. refl) test
+      let same = records_asked answer_in 8 NUMBER_TAKEN.now (Text entrant ∷ Text round ∷ Int (pos number) ∷ Int (pos n)
+      ∷ []) 9
+      nth_terms answer_columns [] _ (number_taken_is said.0).0 (number_taken_is said.0).1 (number_taken_is said.0).2
+      (λ db. refl) (λ r. refl) test
       (nth_agrees entrant round number n) old new rows out said.1 shown is (values (world_of db).answers) whole in
       any_is (length out) empty _ none
-      (λ some. let one = one_passes test (answers db) out same some in passes_taken db entrant round number n one.0 one.1 one.2)
+      (λ some. let one = one_passes test (answers db) out same some in passes_taken db entrant round number n one.0
+      one.1 one.2)
       (λ taken. let there = taken_passes db entrant round number n taken in
       any_there test (answers db) out same taken.1 there.0 there.1)

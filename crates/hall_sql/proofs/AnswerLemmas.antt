@@ -1,5 +1,6 @@
 -- What the statements on answers say of the world.
-use Rattle.std.proofs.Common.{◌&&◌, inr, flat_map, option_to_list, Bool, true, sym, subst, ◌∙◌, ◌≡◌, ◌≤◌, ℕ, pos, List, [], ◌∷◌, length, map, slice_get, Some, refl, ap}
+use Rattle.std.proofs.Common.{◌&&◌, inr, flat_map, option_to_list, Bool, true, sym, subst, ◌∙◌, ◌≡◌, ◌≤◌, ℕ, pos, List}
+use Rattle.std.proofs.Common.{[], ◌∷◌, length, map, slice_get, Some, refl, ap}
 use Rattle.std.specs.List.{list_all}
 use Rattle.std.specs.Ordering.{eq_by_cmp}
 use Rattle.std.specs.FinMap.{get}
@@ -64,7 +65,8 @@ pub record HasColumns (r : Row) (row : AnswerRow) : Type 0 where
 
 pub has_columns : (r : Row) (row : AnswerRow) → answer_of_row r ≡ Some row → HasColumns r row
 has_columns r row is =
-    let it = answer_parts_of (name_in (column r 1)) (name_in (column r 2)) (within 1 most_number (column r 3)) (token_in (column r 4)) (within 1 most_answers (column r 5))
+    let it = answer_parts_of (name_in (column r 1)) (name_in (column r 2)) (within 1 most_number (column r 3))
+    (token_in (column r 4)) (within 1 most_answers (column r 5))
     (within 0 last_second (column r 6)) (kind_in 0 4000 is_printable (column r 7)) (verdict_in (column r 8)) row is in
     record {
       entrant = kind_column 1 24 is_word_byte (column r 1) row.key.entrant it.entrant;
@@ -87,12 +89,14 @@ agrees key r row is =
     (more_equal _ _ _ _ (column_is (column r 3) row.key.number key.number it.number)
     (last_equal _ _ (column_equals (column r 4) row.key.token key.token it.token))))
 
-pub answer_found : (key : AnswerKey) (old new : State) (rows : List Row) (out : List AnswerRow) → IsHallSchema old.now.schema
+pub answer_found : (key : AnswerKey) (old new : State) (rows : List Row) (out : List AnswerRow)
+    → IsHallSchema old.now.schema
     → Shown ANSWER.now (key_params key) old new rows → map answer_in rows ≡ map Some out → length out ≤ 1
     → slice_get out 0 ≡ get (world_of old.now.trees).answers key
 answer_found key old new rows out has =
     let (u, words) = worded old.now.schema has in
-    asked_found answer_total same_answer_keys (λ (row : AnswerRow). row.key) answer_in 8 key ANSWER.now (key_params key) 9 key_terms answer_columns _
+    asked_found answer_total same_answer_keys (λ (row : AnswerRow). row.key) answer_in 8 key ANSWER.now (key_params key)
+    9 key_terms answer_columns _
     (answer_is u).0 (answer_is u).1 (answer_is u).2 (λ db. refl) (λ r. refl) (agrees key) old new rows out words
 
 -- ---- listings
@@ -123,11 +127,13 @@ abbrev pub answers_there : Table
 answers_there = table_at Answers
 
 -- the table's records are the world's answers, each once
-pub answers_listed : {schema : Schema} → IsVersion schema → (db : Trees) → AreKeyed (db 9) → IsDatabase (record { schema = schema; trees = db })
+pub answers_listed : {schema : Schema} → IsVersion schema → (db : Trees) → AreKeyed (db 9)
+    → IsDatabase (record { schema = schema; trees = db })
     → IsPermutation (flat_map (λ r. option_to_list (answer_of_row r)) (db 9)) (values (world_of db).answers)
 answers_listed {schema} version db keyed sound =
     let rule = unique_in schema Answers db version sound in
-    records_listed answer_total same_answer_keys (λ (row : AnswerRow). row.key) answer_of_row (1 ∷ 2 ∷ 3 ∷ 4 ∷ []) (db 9) keyed agreeing
+    records_listed answer_total same_answer_keys (λ (row : AnswerRow). row.key) answer_of_row (1 ∷ 2 ∷ 3 ∷ 4 ∷ [])
+    (db 9) keyed agreeing
     (λ r h. all_has _ (db 9) r rule h)
 
 -- ORDER BY entrant, number, n, token
@@ -137,7 +143,8 @@ by_order params terms a b =
     output_cmp q (output q (params ∷ a ∷ [])) (output q (params ∷ b ∷ []))
 
 -- it is the order of listings
-pub same_order : (params : Row) (terms : List Term) (a b : Row) (x y : AnswerRow) → answer_of_row a ≡ Some x → answer_of_row b ≡ Some y
+pub same_order : (params : Row) (terms : List Term) (a b : Row) (x y : AnswerRow) → answer_of_row a ≡ Some x
+    → answer_of_row b ≡ Some y
     → by_order params terms a b ≡ listing_cmp x y
 same_order params terms a b x y p q =
     let one = has_columns a x p in
@@ -183,31 +190,40 @@ by_key a b x y p q =
       then-Equal (slice_cmp nat_cmp x.key.token y.key.token),
     )
 
-pub all_answers_listed : (schema : Schema) → IsVersion schema → (old new : State) → old.now.schema ≡ schema → AreKeyedIn schema old.now.trees
-    → IsDatabase old.now → (rows : List Row) (out : List AnswerRow) → map answer_in rows ≡ map Some out → Shown ALL_ANSWERS.now [] old new rows
+pub all_answers_listed : (schema : Schema) → IsVersion schema → (old new : State) → old.now.schema ≡ schema
+    → AreKeyedIn schema old.now.trees
+    → IsDatabase old.now → (rows : List Row) (out : List AnswerRow) → map answer_in rows ≡ map Some out
+    → Shown ALL_ANSWERS.now [] old new rows
     → out ≡ values (world_of old.now.trees).answers
 all_answers_listed schema version old new has keyed sound =
     let db = old.now.trees in
-    let whole = answers_listed version db (keyed_in schema Answers db version keyed) (subst (λ s. IsDatabase (record { schema = s; trees = db })) has sound) in
-    all_listed (all_answers_are schema version) answer_total same_answer_keys (λ (row : AnswerRow). row.key) answer_in 8 (λ db. refl) (λ r. refl)
+    let whole = answers_listed version db (keyed_in schema Answers db version keyed)
+    (subst (λ s. IsDatabase (record { schema = s; trees = db })) has sound) in
+    all_listed (all_answers_are schema version) answer_total same_answer_keys (λ (row : AnswerRow). row.key) answer_in 8
+    (λ db. refl) (λ r. refl)
     by_key old new has whole
 
 -- what a query in the order of listings gives of the world's answers
-module _ (old new : State) (has : IsHallSchema old.now.schema) (keyed : AreKeyed (old.now.trees 9)) (sound : IsDatabase old.now)
+module _ (old new : State) (has : IsHallSchema old.now.schema) (keyed : AreKeyed (old.now.trees 9))
+    (sound : IsDatabase old.now)
     (rows : List Row) (out : List AnswerRow) (is : map answer_in rows ≡ map Some out) where
   said : (u : Wording) × (old.now.schema ≡ hall_in u)
   said = worded old.now.schema has
 
   listed_by : (params : Row) (terms : List Term) (test : AnswerRow → Bool)
       → ((r : Row) (x : AnswerRow) → answer_of_row r ≡ Some x → list_all (holds (params ∷ r ∷ [])) terms ≡ test x)
-      → IsSelection (plain_query 9 terms answer_columns listing_order) (old.now.trees 9) params rows → IsListing (world_of old.now.trees) test out
+      → IsSelection (plain_query 9 terms answer_columns listing_order) (old.now.trees 9) params rows
+      → IsListing (world_of old.now.trees) test out
   listed_by params terms test agrees sel =
-      let shown : map answer_in (map (columns_from 1 8) sel.found) ≡ map Some out = subst (λ l. map answer_in l ≡ map Some out) sel.shown is in
+      let shown : map answer_in (map (columns_from 1 8) sel.found) ≡ map Some out = subst
+      (λ l. map answer_in l ≡ map Some out) sel.shown is in
       let db = old.now.trees in
       let whole = answers_listed {schema = old.now.schema} (inr has) db keyed sound in
       record {
-        whole = selection_of_values answer_in (columns_from 1 8) (λ r. list_all (holds (params ∷ r ∷ [])) terms) test agrees (db 9) sel.found out (values (world_of db).answers) sel.same shown whole;
-        in_order = sorted_records answer_of_row (by_order params terms) listing_cmp (same_order params terms) sel.found out (read_through sel.found ∙ shown) sel.sorted;
+        whole = selection_of_values answer_in (columns_from 1 8) (λ r. list_all (holds (params ∷ r ∷ [])) terms) test
+            agrees (db 9) sel.found out (values (world_of db).answers) sel.same shown whole;
+        in_order = sorted_records answer_of_row (by_order params terms) listing_cmp (same_order params terms) sel.found
+            out (read_through sel.found ∙ shown) sel.sorted;
       }
     where
       read_through : (l : List Row) → map answer_of_row l ≡ map answer_in (map (columns_from 1 8) l)
@@ -219,20 +235,26 @@ module _ (old new : State) (has : IsHallSchema old.now.schema) (keyed : AreKeyed
   in_agrees round r x h = and_true _ ∙ column_same (column r 2) x.key.round round (has_columns r x h).round
 
   of_agrees : (entrant round : List ℕ) (r : Row) (x : AnswerRow) → answer_of_row r ≡ Some x
-      → list_all (holds ((Text entrant ∷ Text round ∷ []) ∷ r ∷ [])) (equals 2 1 ∷ equals 1 0 ∷ []) ≡ is_of entrant round x
+      → list_all (holds ((Text entrant ∷ Text round ∷ []) ∷ r ∷ [])) (equals 2 1 ∷ equals 1 0 ∷ []) ≡ is_of entrant
+      round x
   of_agrees entrant round r x h =
       let it = has_columns r x h in
-      ap (λ b. b && (list_all (holds ((Text entrant ∷ Text round ∷ []) ∷ r ∷ [])) (equals 1 0 ∷ []))) (column_same (column r 2) x.key.round round it.round)
+      ap (λ b. b && (list_all (holds ((Text entrant ∷ Text round ∷ []) ∷ r ∷ [])) (equals 1 0 ∷ [])))
+      (column_same (column r 2) x.key.round round it.round)
       ∙ ap (λ b. is_in round x && b) (and_true _ ∙ column_same (column r 1) x.key.entrant entrant it.entrant)
 
   pub answers_in_listed : (round : List ℕ) → Shown ANSWERS_IN.now (Text round ∷ []) old new rows
       → IsListing (world_of old.now.trees) (is_in round) out
   answers_in_listed round shown =
       listed_by (Text round ∷ []) (equals 2 0 ∷ []) (is_in round) (in_agrees round)
-      (answers_selection ANSWERS_IN.now (Text round ∷ []) old new 9 (equals 2 0 ∷ []) answer_columns listing_order _ (answers_in_is said.0).0 (answers_in_is said.0).1 (answers_in_is said.0).2 refl said.1 rows shown)
+      (answers_selection ANSWERS_IN.now (Text round ∷ []) old new 9 (equals 2 0 ∷ []) answer_columns listing_order _
+      (answers_in_is said.0).0 (answers_in_is said.0).1 (answers_in_is said.0).2 refl said.1 rows shown)
 
   pub answers_of_listed : (entrant round : List ℕ) → Shown ANSWERS_OF.now (Text entrant ∷ Text round ∷ []) old new rows
       → IsListing (world_of old.now.trees) (is_of entrant round) out
   answers_of_listed entrant round shown =
-      listed_by (Text entrant ∷ Text round ∷ []) (equals 2 1 ∷ equals 1 0 ∷ []) (is_of entrant round) (of_agrees entrant round)
-      (answers_selection ANSWERS_OF.now (Text entrant ∷ Text round ∷ []) old new 9 (equals 2 1 ∷ equals 1 0 ∷ []) answer_columns listing_order _ (answers_of_is said.0).0 (answers_of_is said.0).1 (answers_of_is said.0).2 refl said.1 rows shown)
+      listed_by (Text entrant ∷ Text round ∷ []) (equals 2 1 ∷ equals 1 0 ∷ []) (is_of entrant round)
+      (of_agrees entrant round)
+      (answers_selection ANSWERS_OF.now (Text entrant ∷ Text round ∷ []) old new 9 (equals 2 1 ∷ equals 1 0 ∷ [])
+      answer_columns listing_order _ (answers_of_is said.0).0 (answers_of_is said.0).1 (answers_of_is said.0).2 refl
+      said.1 rows shown)

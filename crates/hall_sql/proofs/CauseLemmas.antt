@@ -4,13 +4,15 @@ use Rattle.hall_store.specs.declared.fault.StoreFault.{StoreFault}
 use Rattle.hall_store.specs.declared.fault.StoreFault.TheVariants.{Failed}
 
 -- a call fails as what it called did
-pub fails_as : {R : Type 0} (result : Result R StoreFault) (Why : Type 0) (fault : StoreFault) → IsErrAnd result (λ e. e ≡ fault)
+pub fails_as : {R : Type 0} (result : Result R StoreFault) (Why : Type 0) (fault : StoreFault)
+    → IsErrAnd result (λ e. e ≡ fault)
     → (fault ≡ Failed → Why) → IfErr result (λ e. e ≡ Failed → Why)
 fails_as (Ok x) Why fault is why = tt
 fails_as (Err e) Why fault is why = λ failed. why (sym is ∙ failed)
 
 -- and where nothing was found
-pub fails_on : {R : Type 0} (found : Option R) (result : Result R StoreFault) (P Why : Type 0) → result ≡ ok_or found Failed
+pub fails_on : {R : Type 0} (found : Option R) (result : Result R StoreFault) (P Why : Type 0)
+    → result ≡ ok_or found Failed
     → IfNone found P → (P → Why) → IfErr result (λ e. e ≡ Failed → Why)
 fails_on None result P Why is none why = rw is (λ failed. why none)
 fails_on (Some x) result P Why is none why = rw is tt

@@ -1,5 +1,6 @@
 -- Rows that are looked at are records, and as many as are counted.
-use Rattle.std.proofs.Common.{◌≡◌, ◌<◌, ◌+◌, ℕ, List, [], ◌∷◌, ◌++◌, map, take, get_or, length, Bool, Option, Some, None, refl, sym, ap, ◌∙◌}
+use Rattle.std.proofs.Common.{◌≡◌, ◌<◌, ◌+◌, ℕ, List, [], ◌∷◌, ◌++◌, map, take, get_or, length, Bool, Option, Some}
+use Rattle.std.proofs.Common.{None, refl, sym, ap, ◌∙◌}
 use Rattle.std.proofs.lemmas.List.{take_more}
 use Rattle.sqlite.specs.declared.types.Value.TheVariants.{Text}
 use Rattle.sqlite.specs.Order.{Row}
@@ -22,7 +23,8 @@ module _ (least most : ℕ) (allows : ℕ → Bool) (text : List ℕ) where
   kind_unread other = other_kind least most allows (Text text) text refl other
 
 -- an answer is read where its columns are
-pub answer_read : (row : Row) → (key : AnswerKey) × IsAnswerKeyIn row key → IsRead (within 1 most_answers (column row 4))
+pub answer_read : (row : Row) → (key : AnswerKey) × IsAnswerKeyIn row key
+    → IsRead (within 1 most_answers (column row 4))
     → IsRead (within 0 last_second (column row 5)) → IsRead (as_answer kind_in (column row 6))
     → IsRead (verdict_in (column row 7)) → IsRead (answer_in row)
 answer_read row key n moment answer verdict = (
@@ -31,7 +33,8 @@ answer_read row key n moment answer verdict = (
 )
 
 -- so is a key
-pub key_read : (row : Row) → IsRead (name_in (column row 0)) → IsRead (name_in (column row 1)) → IsRead (within 1 most_number (column row 2))
+pub key_read : (row : Row) → IsRead (name_in (column row 0)) → IsRead (name_in (column row 1))
+    → IsRead (within 1 most_number (column row 2))
     → IsRead (token_in (column row 3)) → (key : AnswerKey) × IsAnswerKeyIn row key
 key_read row entrant round number token = (
   record { entrant = entrant.0; round = round.0; number = number.0; token = token.0 },
@@ -39,7 +42,8 @@ key_read row entrant round number token = (
 )
 
 -- and a protest
-pub protest_read : (row : Row) → IsRead (name_in (column row 0)) → IsRead (name_in (column row 1)) → IsRead (token_in (column row 2))
+pub protest_read : (row : Row) → IsRead (name_in (column row 0)) → IsRead (name_in (column row 1))
+    → IsRead (token_in (column row 2))
     → IsRead (within 1 most_number (column row 3)) → IsRead (as_protest_text kind_in (column row 4))
     → IsRead (ruling_in (column row 5) (column row 6)) → IsRead (protest_in row)
 protest_read row entrant round token number text ruling = (
@@ -58,7 +62,8 @@ mapped_more : {A B : Type 0} (f : A → B) (xs : List A) (x : A) → map f (xs +
 mapped_more f [] x = refl
 mapped_more f (y ∷ xs) x = ap (λ l. f y ∷ l) (mapped_more f xs x)
 
-pub more_read : {X : Type 0} (read : Row → Option X) (rows : List Row) (i : ℕ) (row : Row) → i < length rows → row ≡ get_or rows i row
+pub more_read : {X : Type 0} (read : Row → Option X) (rows : List Row) (i : ℕ) (row : Row) → i < length rows
+    → row ≡ get_or rows i row
     → AreReadAs read (take i rows) → IsRead (read row) → AreReadAs read (take (i + 1) rows)
 more_read read rows i row low is before one = (
   before.0 ++ one.0 ∷ [],

@@ -1,5 +1,7 @@
 -- Why a call was refused, as the state that it leaves tells.
-use Rattle.std.proofs.Common.{◌≡◌, ◌⊎◌, ◌<◌, inl, inr, ℕ, suc, nat_eq, Bool, true, false, List, [], ◌∷◌, ◌++◌, append_assoc, length, option_to_list, filter, Option, Some, None, Result, Ok, Err, IsTrue, IfErr, OnErr, refl, sym, ap, subst, ◌∙◌, arith}
+use Rattle.std.proofs.Common.{◌≡◌, ◌⊎◌, ◌<◌, inl, inr, ℕ, suc, nat_eq, Bool, true, false, List, [], ◌∷◌, ◌++◌}
+use Rattle.std.proofs.Common.{append_assoc, length, option_to_list, filter, Option, Some, None, Result, Ok, Err, IsTrue}
+use Rattle.std.proofs.Common.{IfErr, OnErr, refl, sym, ap, subst, ◌∙◌, arith}
 use Rattle.std.proofs.lemmas.Bool.{cases_Bool, eq-eqb, eqb-true}
 use Rattle.std.proofs.lemmas.Grind.{flat_map-append}
 use Rattle.std.specs.Prelude.{Contains}
@@ -29,7 +31,8 @@ use Rattle.hall_policy.specs.declared.record.RoundRow.{RoundRow}
 use Rattle.hall_policy.specs.declared.record.Ruling.{Ruling}
 use Rattle.hall_store.specs.Store.{Fails, IsRefusedNext}
 use Rattle.hall_store.specs.declared.change.Change.{Change}
-use Rattle.hall_store.specs.declared.change.Change.TheVariants.{Import, PutPuzzle, SetState, PutRound, SetRoundFlag, AddAnswer, AddProtest, RuleProtest}
+use Rattle.hall_store.specs.declared.change.Change.TheVariants.{Import, PutPuzzle, SetState, PutRound, SetRoundFlag}
+use Rattle.hall_store.specs.declared.change.Change.TheVariants.{AddAnswer, AddProtest, RuleProtest}
 use Rattle.hall_store.specs.declared.change.RoundFlag.{RoundFlag}
 use Rattle.hall_store.specs.declared.fault.StoreFault.{StoreFault}
 use Rattle.hall_store.specs.declared.fault.StoreFault.TheVariants.{Failed}
@@ -55,7 +58,9 @@ use Rattle.hall_sql.proofs.ContentLemmas.{all_read}
 use Rattle.hall_sql.proofs.FeedLemmas.{Lists, records}
 use Rattle.hall_sql.proofs.Selections.{selected}
 use Rattle.hall_sql.proofs.StoreLemmas.{rested_stayed}
-use Rattle.hall_sql.proofs.UnreadRows.{BeginsUnread, TellsTwice, TellsUnread, head_twice, head_unread, person_twice, person_unread, places_of_unread, protest_twice, protest_unread, puzzle_twice, puzzle_unread, testers_of_unread}
+use Rattle.hall_sql.proofs.UnreadRows.{BeginsUnread, TellsTwice, TellsUnread, head_twice, head_unread, person_twice}
+use Rattle.hall_sql.proofs.UnreadRows.{person_unread, places_of_unread, protest_twice, protest_unread, puzzle_twice}
+use Rattle.hall_sql.proofs.UnreadRows.{puzzle_unread, testers_of_unread}
 use Rattle.hall_sql.proofs.Wordings.{Wording, hall_in, worded}
 
 -- ---- reasons
@@ -72,7 +77,8 @@ module _ (Bad : Database → Type 0) (old new : State) (stayed : KeptRows old ne
   by_store : IsStoreCause old new → HasReason Bad new
   by_store (inl (inl more)) = inl (omega (arith, more))
   by_store (inl (inr many)) = inl (omega (arith, many))
-  by_store (inr shut) = while_open Bad new (λ opens. absurd (let no : false ≡ true = sym shut ∙ stayed.follows.opened clean opens in cc))
+  by_store (inr shut) = while_open Bad new (λ opens. absurd (let no : false ≡ true = sym shut
+      ∙ stayed.follows.opened clean opens in cc))
 
   by_tables : Bad old.now → HasReason Bad new
   by_tables bad = while_open Bad new (λ opens. inr (inr (subst Bad (sym (stayed.same clean opens)) bad)))
@@ -82,7 +88,8 @@ abbrev KeepsNone : Database → Type 0
 KeepsNone db = KeepsNoWorld db.trees
 
 -- where a call failed, the state says why
-by_reason : {R : Type 0} (result : Result R StoreFault) (Why : Type 0) (new : State) → (HasCleanDisk new → Fails Why result)
+by_reason : {R : Type 0} (result : Result R StoreFault) (Why : Type 0) (new : State)
+    → (HasCleanDisk new → Fails Why result)
     → (HasCleanDisk new → Why → HasReason KeepsNone new) → Fails (CanFail new) result
 by_reason (Ok x) Why new cause why = tt
 by_reason (Err e) Why new cause why = λ failed clean. why clean (cause clean failed)
@@ -117,36 +124,46 @@ module _ {X : Type 0} (read : Row → Option X) (sql : List ℕ) (params : Row) 
       inr (inr (inl (twice old new it.0 has it.1 it.2)))
 
 of_round : (id : List ℕ) (old new : State) → IsHall old → HasCleanDisk old → RoundFails id old new → IsRead old new
-of_round id old new hall clean (inl head) = of_find round_in HEAD.now (Text id ∷ []) (head_unread id) old new hall clean (head_twice id) head
-of_round id old new hall clean (inr (inl places)) = of_read place_in PLACES_OF.now (Text id ∷ []) (places_of_unread id) old new hall clean places
-of_round id old new hall clean (inr (inr (inl testers))) = of_read tester_in TESTERS_OF.now (Text id ∷ []) (testers_of_unread id) old new hall clean testers
+of_round id old new hall clean (inl head) = of_find round_in HEAD.now (Text id ∷ []) (head_unread id) old new hall clean
+    (head_twice id) head
+of_round id old new hall clean (inr (inl places)) = of_read place_in PLACES_OF.now (Text id ∷ []) (places_of_unread id)
+    old new hall clean places
+of_round id old new hall clean (inr (inr (inl testers))) = of_read tester_in TESTERS_OF.now (Text id ∷ [])
+    (testers_of_unread id) old new hall clean testers
 of_round id old new hall clean (inr (inr (inr none))) = inr (inr (inr (id, none)))
 
 by_read : (old new : State) → KeptRows old new → HasCleanDisk new → IsRead old new → HasReason KeepsNone new
 by_read old new stayed clean (inl cause) = by_store KeepsNone old new stayed clean cause
 by_read old new stayed clean (inr bad) = by_tables KeepsNone old new stayed clean bad
 
-module _ {R : Type 0} (result : Result R StoreFault) {old new : State} (hall : IsHall old) (rested : KeptTables old new) where
-  by_rest : (Why : Type 0) → (HasCleanDisk old → Why → IsRead old new) → (HasCleanDisk new → Fails Why result) → Fails (CanFail new) result
-  by_rest Why told cause =
-      by_reason result Why new cause
-      (λ clean why.
-      let was : HasCleanDisk old = omega (arith, rested.follows.lasts.clean, clean) in
-      by_read old new (rested_stayed rested) clean (told was why))
+module _ {R : Type 0} (result : Result R StoreFault) {old new : State} (hall : IsHall old) (rested : KeptTables old new)
+  where
+    by_rest : (Why : Type 0) → (HasCleanDisk old → Why → IsRead old new) → (HasCleanDisk new → Fails Why result)
+        → Fails (CanFail new) result
+    by_rest Why told cause =
+        by_reason result Why new cause
+        (λ clean why.
+        let was : HasCleanDisk old = omega (arith, rested.follows.lasts.clean, clean) in
+        by_read old new (rested_stayed rested) clean (told was why))
 
-  pub read_fault : {X : Type 0} (read : Row → Option X) (sql : List ℕ) (params : Row) → TellsUnread read sql params
-      → (HasCleanDisk new → Fails (ReadFails read sql params old new) result) → Fails (CanFail new) result
-  read_fault read sql params unread cause =
-      by_rest (ReadFails read sql params old new) (λ was why. of_read read sql params unread old new hall was why) cause
+    pub read_fault : {X : Type 0} (read : Row → Option X) (sql : List ℕ) (params : Row) → TellsUnread read sql params
+        → (HasCleanDisk new → Fails (ReadFails read sql params old new) result) → Fails (CanFail new) result
+    read_fault read sql params unread cause =
+        by_rest (ReadFails read sql params old new) (λ was why. of_read read sql params unread old new hall was why)
+        cause
 
-  pub find_fault : {X : Type 0} (read : Row → Option X) (sql : List ℕ) (params : Row) → TellsUnread read sql params → TellsTwice sql params
-      → (HasCleanDisk new → Fails (FindFails read sql params old new) result) → Fails (CanFail new) result
-  find_fault read sql params unread twice cause =
-      by_rest (FindFails read sql params old new) (λ was why. of_find read sql params unread old new hall was twice why) cause
+    pub find_fault : {X : Type 0} (read : Row → Option X) (sql : List ℕ) (params : Row) → TellsUnread read sql params
+        → TellsTwice sql params
+        → (HasCleanDisk new → Fails (FindFails read sql params old new) result) → Fails (CanFail new) result
+    find_fault read sql params unread twice cause =
+        by_rest (FindFails read sql params old new) (λ was why. of_find read sql params unread old new hall was twice
+        why)
+        cause
 
-  pub round_fault : (id : List ℕ) → (HasCleanDisk new → Fails (RoundFails id old new) result) → Fails (CanFail new) result
-  round_fault id cause =
-      by_rest (RoundFails id old new) (λ was why. of_round id old new hall was why) cause
+    pub round_fault : (id : List ℕ) → (HasCleanDisk new → Fails (RoundFails id old new) result)
+        → Fails (CanFail new) result
+    round_fault id cause =
+        by_rest (RoundFails id old new) (λ was why. of_round id old new hall was why) cause
 
 -- ---- rows that are fed
 
@@ -157,18 +174,21 @@ last_there (r ∷ rows) row = let it = last_there rows row in (suc it.0, omega (
 doubtful : (s : State) → HasCleanDisk s ⊎ (¬ (HasCleanDisk s))
 doubtful s = elim (cases_Bool (nat_eq (doubt s.is_clean) 0)) [
   | inl same ↦ inl (eqb-true (doubt s.is_clean) 0 same)
-  | inr differs ↦ inr (λ is. absurd (let same : nat_eq (doubt s.is_clean) 0 ≡ true = eq-eqb (doubt s.is_clean) 0 is in cc))
+  | inr differs ↦ inr (λ is. absurd (let same : nat_eq (doubt s.is_clean) 0 ≡ true = eq-eqb (doubt s.is_clean) 0 is in
+      cc))
 ]
 
 module _ {X : Type 0} (read : Row → Option X) (sql : List ℕ) (params : Row) (tree : ℕ)
     (terms project : List Term) (order : List (Term × Key)) (names : List (List ℕ))
     (is : (u : Wording) → command_of (understood (hall_in u) sql)
     ≡ Select (record { lets = []; body = plain_query tree terms project order }) names)
-    (unlisted : (u : Wording) → reads_listing (hall_in u) sql ≡ false) (plain : (u : Wording) → IsPlain (understood (hall_in u) sql))
+    (unlisted : (u : Wording) → reads_listing (hall_in u) sql ≡ false)
+    (plain : (u : Wording) → IsPlain (understood (hall_in u) sql))
     (apart : (db : Trees) → overlay db [] tree ≡ db tree) (unread : BeginsUnread read sql params) where
   module _ {K : Type 0} (Takes : K → X → K → Type 0) (Refuses : K → X → Type 0) (AreRows : World → List X → Type 0)
       {old new : State} (before after : K) (hall : IsHall old) (rested : KeptTables old new)
-      (sound : IsTrue old.is_open → IsDatabase old.now) (lists : Lists read tree terms project order params old.now AreRows) where
+      (sound : IsTrue old.is_open → IsDatabase old.now) (lists : Lists read tree terms project order params old.now
+      AreRows) where
     -- the answer goes on after the row at which the sink stopped
     goes_on : IsHallSchema old.now.schema → HasCleanDisk old → IsTrue old.is_open
         → (it : StopsAtRow read Takes Refuses sql params old before after) → (x : X) → read it.row ≡ Some x
@@ -178,17 +198,20 @@ module _ {X : Type 0} (read : Row → Option X) (sql : List ℕ) (params : Row) 
         let rows = it.rows ++ it.row ∷ [] in
         let begun = begins_as sql params old old (hall_in u) words _ (is u) (plain u) (unlisted u) rows it.begun in
         let tail = begun.1.0 in
-        let sel = subst (λ t. IsSelection (plain_query tree terms project order) t params (rows ++ tail)) (apart old.now.trees)
+        let sel = subst (λ t. IsSelection (plain_query tree terms project order) t params (rows ++ tail))
+        (apart old.now.trees)
         (selected tree terms project order (overlay old.now.trees []) params (rows ++ tail) (begun.1.1 Null)) in
         let last : records read (it.row ∷ []) ≡ x ∷ [] = rw is_x refl in
         let first : records read rows ≡ it.taken ++ x ∷ [] =
         flat_map-append (λ r. option_to_list (read r)) it.rows (it.row ∷ [])
-        ∙ ap (λ l. l ++ records read (it.row ∷ [])) (all_read read it.rows it.taken it.reads) ∙ ap (λ l. it.taken ++ l) last in
+        ∙ ap (λ l. l ++ records read (it.row ∷ [])) (all_read read it.rows it.taken it.reads)
+        ∙ ap (λ l. it.taken ++ l) last in
         let all : records read (rows ++ tail) ≡ it.taken ++ x ∷ records read tail =
         flat_map-append (λ r. option_to_list (read r)) rows tail ∙ ap (λ l. l ++ records read tail) first
         ∙ append_assoc it.taken (x ∷ []) (records read tail) in (
           records read tail,
-          subst (AreRows (world_of old.now.trees)) all (lists has (hall.keyed clean opens) (sound opens) (rows ++ tail) sel),
+          subst (AreRows (world_of old.now.trees)) all (lists has (hall.keyed clean opens) (sound opens) (rows ++ tail)
+              sel),
         )
 
     of_feed : HasCleanDisk new → FeedFails read Takes Refuses sql params old new before after
@@ -208,15 +231,24 @@ module _ {X : Type 0} (read : Row → Option X) (sql : List ℕ) (params : Row) 
         turned opens (inr refused) =
             let opened = rested.follows.opened clean opens in
             let has = of_hall old hall was opened in
-            inr (it.taken, refused.0, it.took, refused.2, λ late. (opens, goes_on has was opened it refused.0 refused.1))
+            inr (
+              it.taken,
+              refused.0,
+              it.took,
+              refused.2,
+              λ late.
+                  (opens, goes_on has was opened it refused.0 refused.1),
+            )
 
-        at_open : (b : Bool) → new.is_open ≡ b → CanFail new ⊎ IsRefusedNext Takes Refuses AreRows (content_of old) (content_of new) before after
+        at_open : (b : Bool) → new.is_open ≡ b → CanFail new ⊎ IsRefusedNext Takes Refuses AreRows (content_of old)
+            (content_of new) before after
         at_open true is = turned is it.stops
         at_open false is = inl (λ late. inr (inl is))
 
     pub fed_fault : (result : Result (Unit {0}) StoreFault)
         → (HasCleanDisk new → Fails (FeedFails read Takes Refuses sql params old new before after) result)
-        → IfErr result (λ fault. fault ≡ Failed → CanFail new ⊎ IsRefusedNext Takes Refuses AreRows (content_of old) (content_of new) before after)
+        → IfErr result (λ fault. fault ≡ Failed → CanFail new ⊎ IsRefusedNext Takes Refuses AreRows (content_of old)
+        (content_of new) before after)
     fed_fault (Ok done) cause = tt
     fed_fault (Err e) cause = λ failed. elim (doubtful new) [
       | inl clean ↦ of_feed clean (cause clean failed)
@@ -249,7 +281,8 @@ refused_told : {A B C : Type 0} → A ⊎ C → A ⊎ (B ⊎ C)
 refused_told (inl cause) = inl cause
 refused_told (inr refused) = inr (inr refused)
 
-put_told : (row : PuzzleRow) (old new : State) → PutPuzzleFails row old new → IsStoreCause old new ⊎ RefusesPuzzle row old.now
+put_told : (row : PuzzleRow) (old new : State) → PutPuzzleFails row old new → IsStoreCause old new
+    ⊎ RefusesPuzzle row old.now
 put_told row old new (inl cause) = inl cause
 put_told row old new (inr it) = inr (subst (λ n. PuzzleIsRefused row n old.now) (sym it.1) it.2)
 
@@ -258,7 +291,8 @@ read_told (inl cause) = inl cause
 read_told (inr bad) = inr (inl bad)
 
 person_told : (person : Person) (mid left : State) → IsHallSchema mid.now.schema → PersonIsRefused person mid left
-    → KeepsNoWorld mid.now.trees ⊎ (IsUnknown person.name mid.now × IsStatementRefused ADD_PERSON.now (person_params person) mid.now)
+    → KeepsNoWorld mid.now.trees ⊎ (IsUnknown person.name mid.now
+    × IsStatementRefused ADD_PERSON.now (person_params person) mid.now)
 person_told person mid left has (inl it) = inl (go it.2)
   where
     go : IsAnyUnread person_in it.0 ⊎ (1 < length it.0) → KeepsNoWorld mid.now.trees
@@ -268,7 +302,8 @@ person_told person mid left has (inr it) = inr it
 
 module _ {R : Type 0} (old new : State) (result : Result R StoreFault) (hall : IsHall old) where
   pub import_fault : {S : Type 0} (g : Ghosts S) (people : List Person)
-      → OnErr result (KeptRows old new) → (HasCleanDisk new → Fails (ImportFails g people old new) result) → Fails (CanRefuse (Import people) new) result
+      → OnErr result (KeptRows old new) → (HasCleanDisk new → Fails (ImportFails g people old new) result)
+      → Fails (CanRefuse (Import people) new) result
   import_fault g people stayed cause =
       change_fault (Import people) old new result (ImportFails g people old new) stayed cause (λ was. go)
     where
@@ -285,58 +320,73 @@ module _ {R : Type 0} (old new : State) (result : Result R StoreFault) (hall : I
       }))
 
   pub puzzle_fault : (row : PuzzleRow)
-      → OnErr result (KeptRows old new) → (HasCleanDisk new → Fails (PutPuzzleFails row old new) result) → Fails (CanRefuse (PutPuzzle row) new) result
+      → OnErr result (KeptRows old new) → (HasCleanDisk new → Fails (PutPuzzleFails row old new) result)
+      → Fails (CanRefuse (PutPuzzle row) new) result
   puzzle_fault row stayed cause =
-      change_fault (PutPuzzle row) old new result (PutPuzzleFails row old new) stayed cause (λ was why. refused_told (put_told row old new why))
+      change_fault (PutPuzzle row) old new result (PutPuzzleFails row old new) stayed cause
+      (λ was why. refused_told (put_told row old new why))
 
   pub state_fault : (key : PuzzleKey) (known : PuzzleState)
-      → OnErr result (KeptRows old new) → (HasCleanDisk new → Fails (SetStateFails key known old new) result) → Fails (CanRefuse (SetState key known) new) result
+      → OnErr result (KeptRows old new) → (HasCleanDisk new → Fails (SetStateFails key known old new) result)
+      → Fails (CanRefuse (SetState key known) new) result
   state_fault key known stayed cause =
       change_fault (SetState key known) old new result (SetStateFails key known old new) stayed cause go
     where
       go : HasCleanDisk old → SetStateFails key known old new → IsTold (SetState key known) old new
       go was (inl find) =
-          read_told (of_find puzzle_row_in PUZZLE.now (Text key.author ∷ Text key.label ∷ []) (puzzle_unread key.author key.label) old new hall was (puzzle_twice key.author key.label) find)
+          read_told (of_find puzzle_row_in PUZZLE.now (Text key.author ∷ Text key.label ∷ [])
+          (puzzle_unread key.author key.label) old new hall was (puzzle_twice key.author key.label) find)
       go was (inr it) = put (put_told (record it.0 { state = known }) old new it.2)
         where
-          put : IsStoreCause old new ⊎ RefusesPuzzle (record it.0 { state = known }) old.now → IsTold (SetState key known) old new
+          put : IsStoreCause old new ⊎ RefusesPuzzle (record it.0 { state = known }) old.now
+              → IsTold (SetState key known) old new
           put (inl cause) = inl cause
           put (inr refused) = inr (inr (it.0, it.1, refused))
 
   pub put_round_fault : (row : RoundRow)
-      → OnErr result (KeptRows old new) → (HasCleanDisk new → Fails (PutRoundFails row old new) result) → Fails (CanRefuse (PutRound row) new) result
+      → OnErr result (KeptRows old new) → (HasCleanDisk new → Fails (PutRoundFails row old new) result)
+      → Fails (CanRefuse (PutRound row) new) result
   put_round_fault row stayed cause =
       change_fault (PutRound row) old new result (PutRoundFails row old new) stayed cause (λ was. refused_told)
 
   pub flag_fault : (id : List ℕ) (flag : RoundFlag)
-      → OnErr result (KeptRows old new) → (HasCleanDisk new → Fails (SetFlagFails id flag old new) result) → Fails (CanRefuse (SetRoundFlag id flag) new) result
+      → OnErr result (KeptRows old new) → (HasCleanDisk new → Fails (SetFlagFails id flag old new) result)
+      → Fails (CanRefuse (SetRoundFlag id flag) new) result
   flag_fault id flag stayed cause =
       change_fault (SetRoundFlag id flag) old new result (SetFlagFails id flag old new) stayed cause go
     where
       go : HasCleanDisk old → SetFlagFails id flag old new → IsTold (SetRoundFlag id flag) old new
-      go was (inl find) = read_told (of_find round_in HEAD.now (Text id ∷ []) (head_unread id) old new hall was (head_twice id) find)
+      go was (inl find) = read_told (of_find round_in HEAD.now (Text id ∷ []) (head_unread id) old new hall was
+          (head_twice id) find)
       go was (inr (round, kept, inl cause)) = inl cause
       go was (inr (round, kept, inr refused)) = inr (inr (round, kept, refused))
 
   pub answer_fault : (row : AnswerRow)
-      → OnErr result (KeptRows old new) → (HasCleanDisk new → Fails (RunFails ADD_ANSWER.now (answer_params row) old new) result)
+      → OnErr result (KeptRows old new) → (HasCleanDisk new → Fails
+      (RunFails ADD_ANSWER.now (answer_params row) old new) result)
       → Fails (CanRefuse (AddAnswer row) new) result
   answer_fault row stayed cause =
-      change_fault (AddAnswer row) old new result (RunFails ADD_ANSWER.now (answer_params row) old new) stayed cause (λ was. refused_told)
+      change_fault (AddAnswer row) old new result (RunFails ADD_ANSWER.now (answer_params row) old new) stayed cause
+      (λ was. refused_told)
 
   pub protest_fault : (row : ProtestRow)
-      → OnErr result (KeptRows old new) → (HasCleanDisk new → Fails (RunFails ADD_PROTEST.now (protest_params row) old new) result)
+      → OnErr result (KeptRows old new) → (HasCleanDisk new → Fails
+      (RunFails ADD_PROTEST.now (protest_params row) old new) result)
       → Fails (CanRefuse (AddProtest row) new) result
   protest_fault row stayed cause =
-      change_fault (AddProtest row) old new result (RunFails ADD_PROTEST.now (protest_params row) old new) stayed cause (λ was. refused_told)
+      change_fault (AddProtest row) old new result (RunFails ADD_PROTEST.now (protest_params row) old new) stayed cause
+      (λ was. refused_told)
 
   pub ruling_fault : (key : ProtestKey) (ruling : Ruling)
-      → OnErr result (KeptRows old new) → (HasCleanDisk new → Fails (RuleFails key ruling old new) result) → Fails (CanRefuse (RuleProtest key ruling) new) result
+      → OnErr result (KeptRows old new) → (HasCleanDisk new → Fails (RuleFails key ruling old new) result)
+      → Fails (CanRefuse (RuleProtest key ruling) new) result
   ruling_fault key ruling stayed cause =
       change_fault (RuleProtest key ruling) old new result (RuleFails key ruling old new) stayed cause go
     where
       go : HasCleanDisk old → RuleFails key ruling old new → IsTold (RuleProtest key ruling) old new
       go was (inl find) =
-          read_told (of_find protest_in PROTEST.now (Text key.entrant ∷ Text key.round ∷ Text key.token ∷ []) (protest_unread key.entrant key.round key.token) old new hall was (protest_twice key.entrant key.round key.token) find)
+          read_told (of_find protest_in PROTEST.now (Text key.entrant ∷ Text key.round ∷ Text key.token ∷ [])
+          (protest_unread key.entrant key.round key.token) old new hall was
+          (protest_twice key.entrant key.round key.token) find)
       go was (inr (row, kept, inl cause)) = inl cause
       go was (inr (row, kept, inr refused)) = inr (inr (row, kept, refused))

@@ -1,5 +1,6 @@
 -- What a sink has taken of the rows that a query gives.
-use Rattle.std.proofs.Common.{◌≡◌, ◌⊎◌, inl, inr, ℕ, List, [], ◌∷◌, ◌++◌, map, flat_map, false, Option, Some, None, Result, Ok, Err, IfOk, IsTrue, option_to_list, refl, sym, ap, subst, ◌∙◌, arith}
+use Rattle.std.proofs.Common.{◌≡◌, ◌⊎◌, inl, inr, ℕ, List, [], ◌∷◌, ◌++◌, map, flat_map, false, Option, Some, None}
+use Rattle.std.proofs.Common.{Result, Ok, Err, IfOk, IsTrue, option_to_list, refl, sym, ap, subst, ◌∙◌, arith}
 use Rattle.std.proofs.lemmas.Grind.{flat_map-append}
 use Rattle.std.specs.Result.{IsErrAnd}
 use Rattle.sqlite_trees.specs.declared.store.Store.{Ghosts}
@@ -46,11 +47,13 @@ rests_then a b c p (inr q) = inr (record {
 })
 
 -- what a query answers of a connection that was left, it answers of it as it was
-pub shown_since : (sql : List ℕ) (params : Row) (first old new : State) (rows : List Row) → IsPlain (understood first.now.schema sql)
+pub shown_since : (sql : List ℕ) (params : Row) (first old new : State) (rows : List Row)
+    → IsPlain (understood first.now.schema sql)
     → IsUnchanged first old → Shown sql params old new rows → Shown sql params first new rows
 unfolding Shown
 shown_since sql params first old new rows plain same h =
-    let is : understood first.now.schema sql ≡ Ok h.0 = ap (λ (d : Database). understood d.schema sql) (sym same.0.now_is) ∙ h.1.is in
+    let is : understood first.now.schema sql ≡ Ok h.0 = ap (λ (d : Database). understood d.schema sql)
+    (sym same.0.now_is) ∙ h.1.is in
     let none = (subst IsPlain is plain).0 in
     let full = timed params h.0.formats h.1.now in
     let it = subst (ShowsRows old new sql h.0 full rows) none h.2 in (
@@ -64,7 +67,8 @@ shown_since sql params first old new rows plain same h =
       ),
     )
 
-begun_open : {S : Type 0} (g : Ghosts S) (sql : List ℕ) (params : Row) (old new : Held S) → HasBegun g sql params old new
+begun_open : {S : Type 0} (g : Ghosts S) (sql : List ℕ) (params : Row) (old new : Held S)
+    → HasBegun g sql params old new
     → IsTrue (state g old).is_open
 begun_open g sql params old new (inl h) = h.1.0.was_open
 begun_open g sql params old new (inr h) = shown_was_open sql params (state g old) (state g new) _ h.1
@@ -82,7 +86,8 @@ taken_more Takes a b c (y ∷ xs) x more t = (more.0, more.1, taken_more Takes m
 
 module _ {S X : Type 0} (g : Ghosts S) (read : Row → Option X) (sql : List ℕ) (params : Row) where
   -- a query that has begun has given no row
-  pub read_none : (old new : Held S) → ((schema : Schema) → IsHallSchema schema → IsPlain (understood schema sql)) → IsHall (state g old)
+  pub read_none : (old new : Held S) → ((schema : Schema) → IsHallSchema schema → IsPlain (understood schema sql))
+      → IsHall (state g old)
       → HasCleanDisk (state g old) → HasBegun g sql params old new → HasRead g read sql params (state g old) new []
   read_none old new plain hall clean begun =
       let has = (hall.settled clean (begun_open g sql params old new begun)).1 in
@@ -102,7 +107,8 @@ module _ {S X : Type 0} (g : Ghosts S) (read : Row → Option X) (sql : List ℕ
     }
 
     -- there is no row more
-    pub read_all : ((schema : Schema) → IsHallSchema schema → IsPlain (understood schema sql)) → IsHall first → HasCleanDisk first → Advances g old new None
+    pub read_all : ((schema : Schema) → IsHallSchema schema → IsPlain (understood schema sql)) → IsHall first
+        → HasCleanDisk first → Advances g old new None
         → AreAll read sql params first (state g new) taken
     read_all plain hall clean advances =
         let has = (hall.settled clean so.same.0.was_open).1 in
@@ -143,7 +149,8 @@ module _ {S X : Type 0} (g : Ghosts S) (read : Row → Option X) (sql : List ℕ
     (terms project : List Term) (order : List (Term × Key)) (names : List (List ℕ))
     (is : (u : Wording) → command_of (understood (hall_in u) sql)
     ≡ Select (record { lets = []; body = plain_query tree terms project order }) names)
-    (unlisted : (u : Wording) → reads_listing (hall_in u) sql ≡ false) (plain : (u : Wording) → IsPlain (understood (hall_in u) sql))
+    (unlisted : (u : Wording) → reads_listing (hall_in u) sql ≡ false)
+    (plain : (u : Wording) → IsPlain (understood (hall_in u) sql))
     (apart : (db : Trees) → overlay db [] tree ≡ db tree) where
   module _ (AreRows : World → List X → Type 0) (s : State) (has : IsHallSchema s.now.schema)
       (keyed : AreAllKeyed s.now.trees) (sound : IsDatabase s.now)
@@ -153,13 +160,15 @@ module _ {S X : Type 0} (g : Ghosts S) (read : Row → Option X) (sql : List ℕ
         let (u, words) = worded s.now.schema has in
         let sel = answers_selection sql params s new tree terms project order names (is u) (unlisted u) (plain u)
         (apart s.now.trees) words all.rows all.shown in
-        subst (AreRows (world_of s.now.trees)) (all_read read all.rows taken all.reads) (lists has keyed sound all.rows sel)
+        subst (AreRows (world_of s.now.trees)) (all_read read all.rows taken all.reads)
+        (lists has keyed sound all.rows sel)
 
     first_listed : AreFirst g read sql params s taken → (left : List X) × AreRows (world_of s.now.trees) (taken ++ left)
     first_listed first =
         let at = state g first.from in
         let (u, words) = worded s.now.schema has in
-        let begun = begins_as sql params at at (hall_in u) (ap (λ (d : Database). d.schema) first.same ∙ words) _ (is u) (plain u)
+        let begun = begins_as sql params at at (hall_in u) (ap (λ (d : Database). d.schema) first.same ∙ words) _ (is u)
+        (plain u)
         (unlisted u) first.rows first.begun in
         let tail = begun.1.0 in
         let answer = subst (λ t. IsSelection (plain_query tree terms project order) t params (first.rows ++ tail))
@@ -182,21 +191,27 @@ module _ {S X : Type 0} (g : Ghosts S) (read : Row → Option X) (sql : List ℕ
       let was : HasCleanDisk old = omega (arith, rested.follows.lasts.clean, clean) in
       let it = fed.2 clean in
       let opened = it.1.served in
-      let all = all_listed AreRows old (hall.settled was opened).1 (hall.keyed was opened) (sound opened) lists fed.0 new it.1 in
+      let all = all_listed AreRows old (hall.settled was opened).1 (hall.keyed was opened) (sound opened) lists fed.0
+      new it.1 in
       (it.0, (fed.0, all, fed.1))
   fed_rows {K} {E} Takes AreRows old new before after (Err fault) hall rested sound lists fed = (fed.0, fed.1, go fed.2)
     where
       go : ((fed.0 ≡ []) ⊎ (HasCleanDisk new → AreFirst g read sql params old fed.0))
-          → (fed.0 ≡ []) ⊎ (HasCleanDisk new → IsTrue old.is_open × ((left : List X) × AreRows (world_of old.now.trees) (fed.0 ++ left)))
+          → (fed.0 ≡ []) ⊎ (HasCleanDisk new → IsTrue old.is_open
+          × ((left : List X) × AreRows (world_of old.now.trees) (fed.0 ++ left)))
       go (inl none) = inl none
       go (inr part) = inr (λ clean.
           let was : HasCleanDisk old = omega (arith, rested.follows.lasts.clean, clean) in
           let it = part clean in
-          let opened = it.served in
-          (opened, first_listed AreRows old (hall.settled was opened).1 (hall.keyed was opened) (sound opened) lists fed.0 it))
+          let opened = it.served in (
+            opened,
+            first_listed AreRows old (hall.settled was opened).1 (hall.keyed was opened) (sound opened) lists
+                fed.0 it,
+          ))
 
 -- a call that is refused after the first rows
-pub fed_first : {S K X E : Type 0} (g : Ghosts S) (read : Row → Option X) (Takes : K → X → K → Type 0) (sql : List ℕ) (params : Row)
+pub fed_first : {S K X E : Type 0} (g : Ghosts S) (read : Row → Option X) (Takes : K → X → K → Type 0) (sql : List ℕ)
+    (params : Row)
     (old new : State) (before after : K) (result : Result (Unit {0}) E) (P : E → Type 0) → IsErrAnd result P
     → (taken : List X) → HasTaken Takes before taken after → (HasCleanDisk new → AreFirst g read sql params old taken)
     → FedRows g read Takes sql params old new before result after
@@ -204,9 +219,11 @@ fed_first g read Takes sql params old new before after (Ok done) P is taken took
 fed_first g read Takes sql params old new before after (Err fault) P is taken took part = (taken, took, inr part)
 
 -- where a sink was given all, each row of the query is a record
-pub fed_whole : {S K X E : Type 0} (g : Ghosts S) (read : Row → Option X) (Takes : K → X → K → Type 0) (sql : List ℕ) (params : Row)
+pub fed_whole : {S K X E : Type 0} (g : Ghosts S) (read : Row → Option X) (Takes : K → X → K → Type 0) (sql : List ℕ)
+    (params : Row)
     (old new : State) (before after : K) (result : Result (Unit {0}) E) → HasCleanDisk new
-    → FedRows g read Takes sql params old new before result after → IfOk result (λ _. AreRecords read sql params old new)
+    → FedRows g read Takes sql params old new before result after
+    → IfOk result (λ _. AreRecords read sql params old new)
 fed_whole g read Takes sql params old new before after (Ok done) clean fed =
     let all = (fed.2 clean).1 in
     record { rows = all.rows; records = fed.0; reads = all.reads; shown = all.shown }

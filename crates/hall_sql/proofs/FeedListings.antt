@@ -22,9 +22,11 @@ module _ (s : State) (round : List ℕ) where
       let at = keyed.1.1.1.1.0 in
       let agrees = answers.in_agrees s s has at sound [] [] refl round in
       record {
-        whole = records_selected answer_in 8 (Text round ∷ []) 9 (equals 2 0 ∷ []) answer_columns listing_order (λ r. refl) (db 9) rows sel
+        whole = records_selected answer_in 8 (Text round ∷ []) 9 (equals 2 0 ∷ []) answer_columns listing_order
+            (λ r. refl) (db 9) rows sel
             (is_in round) agrees _ (answers.answers_listed {schema = s.now.schema} (inr has) db at sound);
-        in_order = records_in_order answer_in 8 (Text round ∷ []) 9 (equals 2 0 ∷ []) answer_columns listing_order (λ r. refl) (db 9) rows sel
+        in_order = records_in_order answer_in 8 (Text round ∷ []) 9 (equals 2 0 ∷ []) answer_columns listing_order
+            (λ r. refl) (db 9) rows sel
             listing_cmp (answers.same_order (Text round ∷ []) (equals 2 0 ∷ []));
       }
 
@@ -33,7 +35,8 @@ module _ (s : State) (round : List ℕ) where
   protests_in_selected has keyed sound rows sel =
       let db = s.now.trees in
       let at = keyed.1.1.1.1.1.0 in
-      values_selected protest_in 7 (Text round ∷ []) 12 (equals 2 0 ∷ []) protest_columns key_order (λ r. refl) (db 12) rows sel
+      values_selected protest_in 7 (Text round ∷ []) 12 (equals 2 0 ∷ []) protest_columns key_order (λ r. refl) (db 12)
+      rows sel
       protest_total same_protest_keys (λ (row : ProtestRow). row.key)
       (protests.protests_listed {schema = s.now.schema} (inr has) db at sound)
       (is_protest_in round) (protests.in_agrees s s has at sound [] [] refl round)

@@ -26,9 +26,12 @@ by_first (inl cause) = inl cause
 by_first (inr refused) = inr (inl refused)
 
 -- what is refused after the records were added
-pub by_later : {X B : Type 0} (Adds : Database → X → Database → Type 0) (Refused : Database → Type 0) (records : List X) (a b c : State)
-    → IsUnderWay a → LeadsUncommitted a b → HasCleanDisk b → MakesInside (λ x y. HasTaken Adds x records y) a b → LeadsConnection b c
-    → (IsUnderWay b → IsStoreCause b c ⊎ Refused b.now) → IsStoreCause a c ⊎ (B ⊎ IsRefusedAfter Adds Refused records a.now)
+pub by_later : {X B : Type 0} (Adds : Database → X → Database → Type 0) (Refused : Database → Type 0) (records : List X)
+    (a b c : State)
+    → IsUnderWay a → LeadsUncommitted a b → HasCleanDisk b → MakesInside (λ x y. HasTaken Adds x records y) a b
+    → LeadsConnection b c
+    → (IsUnderWay b → IsStoreCause b c ⊎ Refused b.now) → IsStoreCause a c
+    ⊎ (B ⊎ IsRefusedAfter Adds Refused records a.now)
 by_later Adds Refused records a b c goes carries clean did after why =
     let on = goes_on a b goes carries.lasts did.steps in
     elim (why on) [

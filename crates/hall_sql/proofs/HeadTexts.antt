@@ -38,7 +38,8 @@ head_is u = (refl, refl, (refl, refl), refl)
 
 pub head_asked : (id : List ℕ) → IsAsked HEAD.now (Text id ∷ [])
 head_asked id =
-    by_hall (IsAskedIn HEAD.now (Text id ∷ [])) (λ u. asked HEAD.now (Text id ∷ []) 5 id_terms round_columns [] _ (head_is u).0 (head_is u).1 (head_is u).2 (head_is u).3 refl)
+    by_hall (IsAskedIn HEAD.now (Text id ∷ [])) (λ u. asked HEAD.now (Text id ∷ []) 5 id_terms round_columns [] _
+    (head_is u).0 (head_is u).1 (head_is u).2 (head_is u).3 refl)
 
 pub look_head_is : (u : Wording) → (command_of (understood (hall_in u) LOOK_HEAD.now)
     ≡ Select (record { lets = []; body = plain_query 5 id_terms (col 1 1 ∷ []) [] }) (codes "id" ∷ []))

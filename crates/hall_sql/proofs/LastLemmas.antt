@@ -1,5 +1,6 @@
 -- What calls leave of a connection, one after another.
-use Rattle.std.proofs.Common.{◌≡◌, true, false, inl, inr, ℕ, List, IsSome, subst, ◌+◌, ◌-◌, ◌^◌, ◌≤◌, min, refl, ◌∙◌, arith}
+use Rattle.std.proofs.Common.{◌≡◌, true, false, inl, inr, ℕ, List, IsSome, subst, ◌+◌, ◌-◌, ◌^◌, ◌≤◌, min, refl, ◌∙◌}
+use Rattle.std.proofs.Common.{arith}
 use Rattle.std.proofs.lemmas.Bool.{cases_lt}
 use Rattle.sqlite_trees.specs.declared.store.Store.{Ghosts}
 use Rattle.sqlite.specs.Tree.{Trees}
@@ -35,11 +36,13 @@ pub quiet : (old new : State) → Survives old new (λ _. ⊥) → AddsNoOutcome
 quiet old new it clean db may = elim (it.crash clean db may) [ inl earlier ↦ earlier | inr none ↦ absurd none ]
 
 -- nor does a query
-pub quiet_query : (sql : List ℕ) (params : Row) (old new : State) → ReturnsNothing sql → Survives old new (CommitsShowing sql params old) → AddsNoOutcome old new
+pub quiet_query : (sql : List ℕ) (params : Row) (old new : State) → ReturnsNothing sql
+    → Survives old new (CommitsShowing sql params old) → AddsNoOutcome old new
 unfolding CommitsShowing
 quiet_query sql params old new nothing it clean db may = elim (it.crash clean db may) [
   | inl earlier ↦ earlier
-  | inr shown ↦ absurd (let none = subst HasNoReturning shown.1.is (nothing old.now.schema) in let no : false ≡ true = subst IsSome none shown.2 in cc)
+  | inr shown ↦ absurd (let none = subst HasNoReturning shown.1.is (nothing old.now.schema) in let no : false ≡ true =
+      subst IsSome none shown.2 in cc)
 ]
 
 -- nor do two calls, one after the other
@@ -53,13 +56,15 @@ pub quiet_none : (s : State) → AddsNoOutcome s s
 quiet_none s clean db may = may
 
 -- what may be left after a call that added no outcome is what was added by the one before
-pub outcomes_then : (Among : Trees → Type 0) (a b c : State) → AddsOutcomes Among a b → LeadsConnection b c → AddsNoOutcome b c → AddsOutcomes Among a c
+pub outcomes_then : (Among : Trees → Type 0) (a b c : State) → AddsOutcomes Among a b → LeadsConnection b c
+    → AddsNoOutcome b c → AddsOutcomes Among a c
 outcomes_then Among a b c first lasts second clean db may =
     let mid : HasCleanDisk b = omega (arith, lasts.clean, clean) in
     first mid db (second clean db may)
 
 -- and what may be left before it
-pub outcomes_after : (Among : Trees → Type 0) (a b c : State) → AddsNoOutcome a b → LeadsConnection b c → AddsOutcomes Among b c → AddsOutcomes Among a c
+pub outcomes_after : (Among : Trees → Type 0) (a b c : State) → AddsNoOutcome a b → LeadsConnection b c
+    → AddsOutcomes Among b c → AddsOutcomes Among a c
 outcomes_after Among a b c first lasts second clean db may = elim (second clean db may) [
   | inl earlier ↦ inl (let mid : HasCleanDisk b = omega (arith, lasts.clean, clean) in first mid db earlier)
   | inr made ↦ inr made
@@ -74,12 +79,14 @@ last_then a b c first second = record {
   counts = omega (arith, first.counts, second.counts);
   closes = λ clean.
       let mid : HasCleanDisk b = omega (arith, second.clean, clean) in
-      lasts_then (content_of a) (content_of b) (content_of c) first.counts second.counts (first.closes mid) (second.closes clean);
+      lasts_then (content_of a) (content_of b) (content_of c) first.counts second.counts (first.closes mid)
+      (second.closes clean);
   limit = second.limit ∙ first.limit;
 }
 
 -- a transaction that begins leaves what a connection shows, but for its mode
-pub last_begun : {S : Type 0} (g : Ghosts S) (held : Held S) (mid : State) → LeadsConnection (state g (record held { in_transaction = true })) mid → LeadsConnection (state g held) mid
+pub last_begun : {S : Type 0} (g : Ghosts S) (held : Held S) (mid : State)
+    → LeadsConnection (state g (record held { in_transaction = true })) mid → LeadsConnection (state g held) mid
 last_begun g held mid it = record { clean = it.clean; counts = it.counts; closes = it.closes; limit = it.limit }
 
 -- so does one whose limit is lifted

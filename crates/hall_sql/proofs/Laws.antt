@@ -29,78 +29,200 @@ use Rattle.hall_sql.proofs.Written.{drop_places_whole, add_tester_whole, drop_te
 use Rattle.hall_sql.proofs.Written.{add_protest_whole, rule_protest_whole}
 
 -- what was computed of a text that lists a table
-listing : {text : List ℕ} {tree : ℕ} {project : List Term} {order : List (Term × Key)} {names : List (List ℕ)} {schema : Schema}
+listing : {text : List ℕ} {tree : ℕ} {project : List Term} {order : List (Term × Key)} {names : List (List ℕ)}
+    {schema : Schema}
     → AsksAll text tree project order names schema
     → IsCommand schema text 0 (Select (record { lets = []; body = plain_query tree [] project order }) names)
 listing all = record { is = all.is; plain = all.plain; whole = all.whole }
 
 -- a statement in any words of a hall's tables
-over_halls : {sql : List ℕ} {parameters : ℕ} {command : Command} → ((u : Wording) → IsCommand (hall_in u) sql parameters command) → Is sql parameters command
+over_halls : {sql : List ℕ} {parameters : ℕ} {command : Command}
+    → ((u : Wording) → IsCommand (hall_in u) sql parameters command) → Is sql parameters command
 over_halls {sql} {parameters} {command} = by_hall (λ schema. IsCommand schema sql parameters command)
 
 pub asks_of_people : AskOfPeople
 asks_of_people = record {
   person = over_halls (λ u. record { is = (person_is u).0; plain = (person_is u).2; whole = (person_is u).3 });
-  person_by_key = over_halls (λ u. record { is = (person_by_key_is u).0; plain = (person_by_key_is u).2; whole = (person_by_key_is u).3 });
+  person_by_key = over_halls (λ u. record {
+    is = (person_by_key_is u).0;
+    plain = (person_by_key_is u).2;
+    whole =
+        (person_by_key_is u).3;
+  });
   all_people = λ schema has. listing (all_people_are schema has);
-  add_person = over_halls (λ u. record { is = (add_person_is u).0; plain = (add_person_is u).1; whole = add_person_whole u });
+  add_person = over_halls (λ u. record {
+    is = (add_person_is u).0;
+    plain = (add_person_is u).1;
+    whole = add_person_whole
+        u;
+  });
 }
 
 pub asks_of_puzzles : AskOfPuzzles
 asks_of_puzzles = record {
   puzzle = over_halls (λ u. record { is = (puzzle_is u).0; plain = (puzzle_is u).2; whole = (puzzle_is u).3 });
-  puzzles_of = over_halls (λ u. record { is = (puzzles_of_is u).0; plain = (puzzles_of_is u).2; whole = (puzzles_of_is u).3 });
+  puzzles_of = over_halls (λ u. record {
+    is = (puzzles_of_is u).0;
+    plain = (puzzles_of_is u).2;
+    whole =
+        (puzzles_of_is u).3;
+  });
   all_puzzles = λ schema has. listing (all_puzzles_are schema has);
-  look_puzzle = over_halls (λ u. record { is = (look_puzzle_is u).0; plain = (look_puzzle_is u).2; whole = look_puzzle_whole u });
-  add_puzzle = over_halls (λ u. record { is = (add_puzzle_is u).0; plain = (add_puzzle_is u).1; whole = add_puzzle_whole u });
-  replace_puzzle = over_halls (λ u. record { is = (replace_puzzle_is u).0; plain = (replace_puzzle_is u).1; whole = replace_puzzle_whole u });
+  look_puzzle = over_halls (λ u. record {
+    is = (look_puzzle_is u).0;
+    plain = (look_puzzle_is u).2;
+    whole =
+        look_puzzle_whole u;
+  });
+  add_puzzle = over_halls (λ u. record {
+    is = (add_puzzle_is u).0;
+    plain = (add_puzzle_is u).1;
+    whole = add_puzzle_whole
+        u;
+  });
+  replace_puzzle = over_halls (λ u. record {
+    is = (replace_puzzle_is u).0;
+    plain = (replace_puzzle_is u).1;
+    whole =
+        replace_puzzle_whole u;
+  });
 }
 
 pub asks_of_rounds : AskOfRounds
 asks_of_rounds = record {
   head = over_halls (λ u. record { is = (head_is u).0; plain = (head_is u).2; whole = (head_is u).3 });
   all_rounds = λ schema has. listing (all_rounds_are schema has);
-  look_head = over_halls (λ u. record { is = (look_head_is u).0; plain = (look_head_is u).2; whole = look_head_whole u });
+  look_head = over_halls (λ u. record {
+    is = (look_head_is u).0;
+    plain = (look_head_is u).2;
+    whole = look_head_whole
+        u;
+  });
   add_head = over_halls (λ u. record { is = (add_head_is u).0; plain = (add_head_is u).1; whole = add_head_whole u });
-  replace_head = over_halls (λ u. record { is = (replace_head_is u).0; plain = (replace_head_is u).1; whole = replace_head_whole u });
+  replace_head = over_halls (λ u. record {
+    is = (replace_head_is u).0;
+    plain = (replace_head_is u).1;
+    whole =
+        replace_head_whole u;
+  });
 }
 
 pub asks_of_places : AskOfPlaces
 asks_of_places = record {
-  places_of = over_halls (λ u. record { is = (places_of_is u).0; plain = (places_of_is u).2; whole = (places_of_is u).3 });
-  places_with = over_halls (λ u. record { is = (places_with_is u).0; plain = (places_with_is u).2; whole = (places_with_is u).3 });
+  places_of = over_halls (λ u. record {
+    is = (places_of_is u).0;
+    plain = (places_of_is u).2;
+    whole =
+        (places_of_is u).3;
+  });
+  places_with = over_halls (λ u. record {
+    is = (places_with_is u).0;
+    plain = (places_with_is u).2;
+    whole =
+        (places_with_is u).3;
+  });
   all_places = λ schema has. listing (all_places_are schema has);
-  add_place = over_halls (λ u. record { is = (add_place_is u).0; plain = (add_place_is u).1; whole = add_place_whole u });
-  drop_places = over_halls (λ u. record { is = (drop_places_is u).0; plain = (drop_places_is u).1; whole = drop_places_whole u });
+  add_place = over_halls (λ u. record {
+    is = (add_place_is u).0;
+    plain = (add_place_is u).1;
+    whole = add_place_whole
+        u;
+  });
+  drop_places = over_halls (λ u. record {
+    is = (drop_places_is u).0;
+    plain = (drop_places_is u).1;
+    whole =
+        drop_places_whole u;
+  });
 }
 
 pub asks_of_testers : AskOfTesters
 asks_of_testers = record {
-  testers_of = over_halls (λ u. record { is = (testers_of_is u).0; plain = (testers_of_is u).2; whole = (testers_of_is u).3 });
+  testers_of = over_halls (λ u. record {
+    is = (testers_of_is u).0;
+    plain = (testers_of_is u).2;
+    whole =
+        (testers_of_is u).3;
+  });
   all_testers = λ schema has. listing (all_testers_are schema has);
-  add_tester = over_halls (λ u. record { is = (add_tester_is u).0; plain = (add_tester_is u).1; whole = add_tester_whole u });
-  drop_testers = over_halls (λ u. record { is = (drop_testers_is u).0; plain = (drop_testers_is u).1; whole = drop_testers_whole u });
+  add_tester = over_halls (λ u. record {
+    is = (add_tester_is u).0;
+    plain = (add_tester_is u).1;
+    whole = add_tester_whole
+        u;
+  });
+  drop_testers = over_halls (λ u. record {
+    is = (drop_testers_is u).0;
+    plain = (drop_testers_is u).1;
+    whole =
+        drop_testers_whole u;
+  });
 }
 
 pub asks_of_answers : AskOfAnswers
 asks_of_answers = record {
   answer = over_halls (λ u. record { is = (answer_is u).0; plain = (answer_is u).2; whole = (answer_is u).3 });
-  answers_of = over_halls (λ u. record { is = (answers_of_is u).0; plain = (answers_of_is u).2; whole = (answers_of_is u).3 });
-  answers_in = over_halls (λ u. record { is = (answers_in_is u).0; plain = (answers_in_is u).2; whole = (answers_in_is u).3 });
-  answers_given = over_halls (λ u. record { is = (answers_given_is u).0; plain = (answers_given_is u).2; whole = (answers_given_is u).3 });
-  number_taken = over_halls (λ u. record { is = (number_taken_is u).0; plain = (number_taken_is u).2; whole = (number_taken_is u).3 });
+  answers_of = over_halls (λ u. record {
+    is = (answers_of_is u).0;
+    plain = (answers_of_is u).2;
+    whole =
+        (answers_of_is u).3;
+  });
+  answers_in = over_halls (λ u. record {
+    is = (answers_in_is u).0;
+    plain = (answers_in_is u).2;
+    whole =
+        (answers_in_is u).3;
+  });
+  answers_given = over_halls (λ u. record {
+    is = (answers_given_is u).0;
+    plain = (answers_given_is u).2;
+    whole =
+        (answers_given_is u).3;
+  });
+  number_taken = over_halls (λ u. record {
+    is = (number_taken_is u).0;
+    plain = (number_taken_is u).2;
+    whole =
+        (number_taken_is u).3;
+  });
   all_answers = λ schema has. listing (all_answers_are schema has);
-  add_answer = over_halls (λ u. record { is = (add_answer_is u).0; plain = (add_answer_is u).1; whole = add_answer_whole u });
+  add_answer = over_halls (λ u. record {
+    is = (add_answer_is u).0;
+    plain = (add_answer_is u).1;
+    whole = add_answer_whole
+        u;
+  });
 }
 
 pub asks_of_protests : AskOfProtests
 asks_of_protests = record {
   protest = over_halls (λ u. record { is = (protest_is u).0; plain = (protest_is u).2; whole = (protest_is u).3 });
-  protests_of = over_halls (λ u. record { is = (protests_of_is u).0; plain = (protests_of_is u).2; whole = (protests_of_is u).3 });
-  protests_in = over_halls (λ u. record { is = (protests_in_is u).0; plain = (protests_in_is u).2; whole = (protests_in_is u).3 });
+  protests_of = over_halls (λ u. record {
+    is = (protests_of_is u).0;
+    plain = (protests_of_is u).2;
+    whole =
+        (protests_of_is u).3;
+  });
+  protests_in = over_halls (λ u. record {
+    is = (protests_in_is u).0;
+    plain = (protests_in_is u).2;
+    whole =
+        (protests_in_is u).3;
+  });
   all_protests = λ schema has. listing (all_protests_are schema has);
-  add_protest = over_halls (λ u. record { is = (add_protest_is u).0; plain = (add_protest_is u).1; whole = add_protest_whole u });
-  rule_protest = over_halls (λ u. record { is = (rule_protest_is u).0; plain = (rule_protest_is u).1; whole = rule_protest_whole u });
+  add_protest = over_halls (λ u. record {
+    is = (add_protest_is u).0;
+    plain = (add_protest_is u).1;
+    whole =
+        add_protest_whole u;
+  });
+  rule_protest = over_halls (λ u. record {
+    is = (rule_protest_is u).0;
+    plain = (rule_protest_is u).1;
+    whole =
+        rule_protest_whole u;
+  });
 }
 
 pub asks_for_rowids : AskForRowids

@@ -1,5 +1,6 @@
 -- What a query of a table's rows gives of the records, and of the map that the table stands for.
-use Rattle.std.proofs.Common.{◌≡◌, ℕ, List, [], ◌∷◌, map, filter, flat_map, Bool, false, Option, Some, option_to_list, sym, ap, ◌∙◌}
+use Rattle.std.proofs.Common.{◌≡◌, ℕ, List, [], ◌∷◌, map, filter, flat_map, Bool, false, Option, Some, option_to_list}
+use Rattle.std.proofs.Common.{sym, ap, ◌∙◌}
 use Rattle.std.specs.List.{list_all}
 use Rattle.std.specs.List.Sorted.{IsPermutation, IsSorted}
 use Rattle.std.specs.Cmp.{IsTotalOrder}
@@ -47,7 +48,8 @@ module _ {schema : Schema} {X : Type 0} (read : Row → Option X) (count : ℕ) 
         (apart old.now.trees) has rows shown
 
     found_read : map read (map (columns_from 1 count) selection.found) ≡ map Some out
-    found_read = sym (λ i. map read (map (λ r. shows r i) selection.found)) ∙ ap (map read) (sym selection.shown) ∙ reads
+    found_read = sym (λ i. map read (map (λ r. shows r i) selection.found)) ∙ ap (map read) (sym selection.shown)
+        ∙ reads
 
     abbrev records : List X
     records = flat_map (λ r. option_to_list (read (columns_from 1 count r))) (old.now.trees tree)
@@ -72,7 +74,8 @@ module _ {schema : Schema} {X : Type 0} (read : Row → Option X) (count : ℕ) 
         (keyed : (a b : Row) (x y : X) → read (columns_from 1 count a) ≡ Some x → read (columns_from 1 count b) ≡ Some y
         → by_order tree terms project order params a b ≡ R (key x) (key y)) where
       -- the map's values that pass, where ORDER BY is the order of keys
-      pub values_asked : out ≡ filter test (values (kept R key (λ r. read (columns_from 1 count r)) (old.now.trees tree)))
+      pub values_asked : out ≡ filter test (values (kept R key (λ r. read (columns_from 1 count r))
+          (old.now.trees tree)))
       values_asked =
           rows_listed total same key (λ r. read (columns_from 1 count r)) (old.now.trees tree) test out
           (records_asked _ whole) (records_sorted (λ a b. R (key a) (key b)) keyed)

@@ -1,5 +1,6 @@
 -- What an opened store shows of the files.
-use Rattle.std.proofs.Common.{◌≡◌, ◌⊎◌, inl, inr, false, true, None, IsSome, List, [], ◌∷◌, length, sym, ap, subst, refl, ◌∙◌, arith}
+use Rattle.std.proofs.Common.{◌≡◌, ◌⊎◌, inl, inr, false, true, None, IsSome, List, [], ◌∷◌, length, sym, ap, subst}
+use Rattle.std.proofs.Common.{refl, ◌∙◌, arith}
 use Rattle.std.proofs.Math.Logic.{∥∥₁_elim}
 use Rattle.std.specs.List.{AllZip}
 use Rattle.sqlite_trees.specs.declared.memory.MemStore.{MemStore}
@@ -25,8 +26,7 @@ use Rattle.hall_sql.specs.Rows.{world_of}
 use Rattle.hall_sql.specs.Standing.{IsBareDatabase, StoodOrEmpty, HasAdopted, HasAdoptedOld, MakesAtMost}
 use Rattle.hall_sql.specs.Content.{content_of}
 use Rattle.hall_sql.specs.WholeRows.{without_testers}
-use Rattle.hall_sql.specs.Opened.{FindsAs, IsImageFound, MemoryServes, OneWorldIsFound, Starts}
-use Rattle.hall_sql.specs.Opened.{StartsOld}
+use Rattle.hall_sql.specs.Opened.{FindsAs, IsImageFound, MemoryServes, OneWorldIsFound, Starts, StartsOld}
 use Rattle.hall_sql.proofs.AdoptLemmas.{bare_world}
 use Rattle.hall_sql.proofs.StoreLemmas.{opens_hall}
 use Rattle.hall_sql.proofs.Wordings.{hall_in, like_itself, worded}
@@ -60,7 +60,8 @@ found_as Stands image s world has stands = record {
   reads = (s.committed.trees, has.reads, stands);
 }
 
-pub starts : (image : Image) (old new : State) → IsImageFound image old → HasAdopted old new → Starts image (content_of new)
+pub starts : (image : Image) (old new : State) → IsImageFound image old → HasAdopted old new
+    → Starts image (content_of new)
 starts image old new file adopted clean =
     let was : HasCleanDisk old = omega (arith, adopted.follows.lasts.clean, clean) in
     let is = file.opened was in
@@ -88,11 +89,13 @@ starts_old image old new file adopted clean =
       ap (λ (d : Database). without_testers (world_of d.trees)) same.1,
     ) in (
       adopted.serves clean,
-      found_as StandsForOld image old world has (subst (λ (d : Database). StandsForOld d.trees world) is.0.clean stands),
+      found_as StandsForOld image old world has (subst (λ (d : Database). StandsForOld d.trees world) is.0.clean
+          stands),
     )
 
 -- a bare hall opens to the empty world, so a stop while the tables are made leaves that, or what it could leave before
-pub new_hall_is_empty : (old new : State) → MakesAtMost old new → HasCleanDisk new → (left : World) → (content_of new).may_leave left
+pub new_hall_is_empty : (old new : State) → MakesAtMost old new → HasCleanDisk new → (left : World)
+    → (content_of new).may_leave left
     → (content_of old).may_leave left ⊎ ((old.now.schema ≡ no_schema) × (left ≡ empty_world))
 new_hall_is_empty old new makes clean left it = elim (makes clean it.0 it.1) [
   | inl earlier ↦ inl (it.0, earlier, it.2)
@@ -137,7 +140,8 @@ from_empty old new none (inr empty) = bare_world new.now.trees empty.1.empty
 
 -- over memory the disk is clean
 pub empty_in_memory : (conn store : Held MemStore) → IsEmpty (state over_memory conn)
-    → HasAdopted (state over_memory conn) (state over_memory store) → (content_of (state over_memory store)).world ≡ empty_world
+    → HasAdopted (state over_memory conn) (state over_memory store) → (content_of (state over_memory store)).world ≡
+    empty_world
 empty_in_memory conn store empty adopted =
     from_empty (state over_memory conn) (state over_memory store) empty.2 (adopted.stood (memory_serves store).0)
 
@@ -146,7 +150,8 @@ made_bare old new none (inl same) = absurd (hall_is_some old.now.schema none sam
 made_bare old new none (inr made) = made.1
 
 pub bare_in_memory : (conn store : Held MemStore) → IsEmpty (state over_memory conn)
-    → HasAdopted (state over_memory conn) (state over_memory store) → IsBareDatabase hall_schema (state over_memory store).now
+    → HasAdopted (state over_memory conn) (state over_memory store)
+    → IsBareDatabase hall_schema (state over_memory store).now
 bare_in_memory conn store empty adopted =
     made_bare (state over_memory conn) (state over_memory store) empty.2 (adopted.stood (memory_serves store).0)
 

@@ -21,15 +21,19 @@ found_hall was held some adopted = (adopted, λ clean. go (adopted.stood clean))
     go (inr made) = absurd (some made.0)
 
 -- what the files handed out, and was taken over, is a hall that they held
-pub opens_so : {F S : Type 0} (g : Ghosts S) (image_at : List ℕ → Image) (tells : F → List ℕ → Bool → F → Type 0) (opens : F → List ℕ → Held S → F → Type 0)
-    (old there : F) (path : List ℕ) (was : Held S) (found : FoundHall S) (new : F) → tells old path false there → opens there path was new
-    → IsImageFound (image_at path) (state g was) → IsTakenToRead g was found → OpensToRead g image_at tells opens old path found new
+pub opens_so : {F S : Type 0} (g : Ghosts S) (image_at : List ℕ → Image) (tells : F → List ℕ → Bool → F → Type 0)
+    (opens : F → List ℕ → Held S → F → Type 0)
+    (old there : F) (path : List ℕ) (was : Held S) (found : FoundHall S) (new : F) → tells old path false there
+    → opens there path was new
+    → IsImageFound (image_at path) (state g was) → IsTakenToRead g was found
+    → OpensToRead g image_at tells opens old path found new
 opens_so g image_at tells opens old there path was (Present held) new told opened file taken =
     (there, told, record { was = was; opened = opened; found = file; adopted = taken })
 opens_so g image_at tells opens old there path was (Old held) new told opened file taken =
     (there, told, record { was = was; opened = opened; found = file; adopted = taken })
 
-pub starts_so : {S : Type 0} (g : Ghosts S) (image : Image) (was : Held S) (found : FoundHall S) → IsImageFound image (state g was)
+pub starts_so : {S : Type 0} (g : Ghosts S) (image : Image) (was : Held S) (found : FoundHall S)
+    → IsImageFound image (state g was)
     → IsTakenToRead g was found → StartsToRead g image found
 starts_so g image was (Present held) file taken = starts image (state g was) (state g held) file taken.0
 starts_so g image was (Old held) file taken = starts_old image (state g was) (state g held) file taken

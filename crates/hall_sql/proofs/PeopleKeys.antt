@@ -1,5 +1,6 @@
 -- Who has a key, of the people of the table.
-use Rattle.std.proofs.Common.{◌≡◌, ◌≤◌, inr, ℕ, List, [], ◌∷◌, length, map, filter, flat_map, true, Option, Some, None, IfSome, option_to_list, slice_get, refl, sym, subst, ◌∙◌}
+use Rattle.std.proofs.Common.{◌≡◌, ◌≤◌, inr, ℕ, List, [], ◌∷◌, length, map, filter, flat_map, true, Option, Some, None}
+use Rattle.std.proofs.Common.{IfSome, option_to_list, slice_get, refl, sym, subst, ◌∙◌}
 use Rattle.std.specs.List.{list_all}
 use Rattle.std.specs.List.Sorted.{IsPermutation}
 use Rattle.std.specs.FinMap.{get, values}
@@ -46,7 +47,8 @@ unfolding first_key
 agreeing r y x z p q e = rw (name_column r x p, name_column y z q, equal_texts z.name x.name (sym e))
 
 -- the table's records are the world's people, each once
-people_listed : {schema : Schema} → IsVersion schema → (db : Trees) → AreKeyed (db 0) → IsDatabase (record { schema = schema; trees = db })
+people_listed : {schema : Schema} → IsVersion schema → (db : Trees) → AreKeyed (db 0)
+    → IsDatabase (record { schema = schema; trees = db })
     → IsPermutation (flat_map (λ r. option_to_list (person_of_row r)) (db 0)) (values (world_of db).people)
 people_listed {schema} version db keyed sound =
     let rule = unique_in schema People db version sound in
@@ -70,12 +72,15 @@ holder db key out same short =
       found = found;
       there = there (slice_get out 0) found;
       alone = λ name other kept own.
-          only_one out other short (is_among has people out same other (value_of_get (world_of db).people name other kept)
+          only_one out other short (is_among has people out same other
+          (value_of_get (world_of db).people name other kept)
           ((text_decides other.key key).1 own));
-      own = λ name other kept own. kept_keyed text_total same_texts (λ (p : Person). p.name) person_of_row (db 0) name other kept;
+      own = λ name other kept own. kept_keyed text_total same_texts (λ (p : Person). p.name) person_of_row (db 0) name
+          other kept;
     }
   where
-    there : (o : Option Person) → o ≡ with_key (world_of db) key → IfSome o (λ p. get (world_of db).people p.name ≡ Some p)
+    there : (o : Option Person) → o ≡ with_key (world_of db) key
+        → IfSome o (λ p. get (world_of db).people p.name ≡ Some p)
     there None is = tt
     there (Some p) is =
         kept_value text_total same_texts (λ (p : Person). p.name) person_of_row (db 0) p
@@ -89,8 +94,10 @@ key_holder old new has keyed sound rows out is short key shown =
     let db = old.now.trees in
     let whole = people_listed {schema = old.now.schema} (inr has) db keyed sound in
     holder db key out
-    (records_asked person_in 3 PERSON_BY_KEY.now (Text key ∷ []) 0 (equals 2 0 ∷ []) person_columns [] _ (person_by_key_is u).0
-    (person_by_key_is u).1 (person_by_key_is u).2 (λ db. refl) (λ r. refl) (λ p. same_text p.key key) (keyed_so key) old new rows
+    (records_asked person_in 3 PERSON_BY_KEY.now (Text key ∷ []) 0 (equals 2 0 ∷ []) person_columns [] _
+    (person_by_key_is u).0
+    (person_by_key_is u).1 (person_by_key_is u).2 (λ db. refl) (λ r. refl) (λ p. same_text p.key key) (keyed_so key) old
+    new rows
     out words shown is (values (world_of db).people) whole) short
 
 -- ORDER BY name is the order of names
@@ -99,11 +106,15 @@ same_order : (a b : Row) (x y : Person) → person_of_row a ≡ Some x → perso
 same_order a b x y p q =
     rw (name_column a x p, name_column b y q, value_cmp-Text x.name y.name, then-Equal (text_cmp x.name y.name))
 
-pub all_people_listed : (schema : Schema) → IsVersion schema → (old new : State) → old.now.schema ≡ schema → AreKeyedIn schema old.now.trees
-    → IsDatabase old.now → (rows : List Row) (out : List Person) → map person_in rows ≡ map Some out → Shown ALL_PEOPLE.now [] old new rows
+pub all_people_listed : (schema : Schema) → IsVersion schema → (old new : State) → old.now.schema ≡ schema
+    → AreKeyedIn schema old.now.trees
+    → IsDatabase old.now → (rows : List Row) (out : List Person) → map person_in rows ≡ map Some out
+    → Shown ALL_PEOPLE.now [] old new rows
     → out ≡ values (world_of old.now.trees).people
 all_people_listed schema version old new has keyed sound =
     let db = old.now.trees in
-    let whole = people_listed version db (keyed_in schema People db version keyed) (subst (λ s. IsDatabase (record { schema = s; trees = db })) has sound) in
-    all_listed (all_people_are schema version) text_total same_texts (λ (p : Person). p.name) person_in 3 (λ db. refl) (λ r. refl)
+    let whole = people_listed version db (keyed_in schema People db version keyed)
+    (subst (λ s. IsDatabase (record { schema = s; trees = db })) has sound) in
+    all_listed (all_people_are schema version) text_total same_texts (λ (p : Person). p.name) person_in 3 (λ db. refl)
+    (λ r. refl)
     same_order old new has whole

@@ -23,10 +23,12 @@ use Rattle.hall_sql.proofs.FoundLemmas.{asked_found}
 use Rattle.hall_sql.proofs.RecordParts.{person_parts_of}
 
 pub name_column : (r : Row) (p : Person) → person_of_row r ≡ Some p → column r 1 ≡ Text p.name
-name_column r p is = kind_column 1 24 is_word_byte (column r 1) p.name (person_parts_of (name_in (column r 1)) (key_in (column r 2)) (roles_in (column r 3)) p is).name
+name_column r p is = kind_column 1 24 is_word_byte (column r 1) p.name
+    (person_parts_of (name_in (column r 1)) (key_in (column r 2)) (roles_in (column r 3)) p is).name
 
 pub key_column : (r : Row) (p : Person) → person_of_row r ≡ Some p → column r 2 ≡ Text p.key
-key_column r p is = kind_column 8 64 is_key_byte (column r 2) p.key (person_parts_of (name_in (column r 1)) (key_in (column r 2)) (roles_in (column r 3)) p is).key
+key_column r p is = kind_column 8 64 is_key_byte (column r 2) p.key
+    (person_parts_of (name_in (column r 1)) (key_in (column r 2)) (roles_in (column r 3)) p is).key
 
 -- WHERE name = ?1 asks for the name
 named : (name : List ℕ) (r : Row) (p : Person) → person_of_row r ≡ Some p
@@ -38,5 +40,6 @@ pub person_found : (name : List ℕ) (old new : State) (rows : List Row) (out : 
     → slice_get out 0 ≡ get (world_of old.now.trees).people name
 person_found name old new rows out has =
     let (u, words) = worded old.now.schema has in
-    asked_found text_total same_texts (λ (p : Person). p.name) person_in 3 name PERSON.now (Text name ∷ []) 0 (equals 1 0 ∷ []) person_columns _
+    asked_found text_total same_texts (λ (p : Person). p.name) person_in 3 name PERSON.now (Text name ∷ []) 0
+    (equals 1 0 ∷ []) person_columns _
     (person_is u).0 (person_is u).1 (person_is u).2 (λ db. refl) (λ r. refl) (named name) old new rows out words

@@ -33,7 +33,8 @@ person_is u = (refl, refl, (refl, refl), refl)
 
 pub person_asked : (name : List ℕ) → IsAsked PERSON.now (Text name ∷ [])
 person_asked name =
-    by_hall (IsAskedIn PERSON.now (Text name ∷ [])) (λ u. asked PERSON.now (Text name ∷ []) 0 (equals 1 0 ∷ []) person_columns [] _ (person_is u).0 (person_is u).1 (person_is u).2 (person_is u).3 refl)
+    by_hall (IsAskedIn PERSON.now (Text name ∷ [])) (λ u. asked PERSON.now (Text name ∷ []) 0 (equals 1 0 ∷ [])
+    person_columns [] _ (person_is u).0 (person_is u).1 (person_is u).2 (person_is u).3 refl)
 
 pub person_by_key_is : (u : Wording) → (command_of (understood (hall_in u) PERSON_BY_KEY.now)
     ≡ Select (record { lets = []; body = plain_query 0 (equals 2 0 ∷ []) person_columns [] }) person_names)
@@ -44,13 +45,16 @@ person_by_key_is u = (refl, refl, (refl, refl), refl)
 
 pub person_by_key_asked : (key : List ℕ) → IsAsked PERSON_BY_KEY.now (Text key ∷ [])
 person_by_key_asked key =
-    by_hall (IsAskedIn PERSON_BY_KEY.now (Text key ∷ [])) (λ u. asked PERSON_BY_KEY.now (Text key ∷ []) 0 (equals 2 0 ∷ []) person_columns [] _ (person_by_key_is u).0 (person_by_key_is u).1 (person_by_key_is u).2 (person_by_key_is u).3 refl)
+    by_hall (IsAskedIn PERSON_BY_KEY.now (Text key ∷ [])) (λ u. asked PERSON_BY_KEY.now (Text key ∷ []) 0
+    (equals 2 0 ∷ []) person_columns [] _ (person_by_key_is u).0 (person_by_key_is u).1 (person_by_key_is u).2
+    (person_by_key_is u).3 refl)
 
 -- the rowid that is chosen, and each parameter
 abbrev pub added_terms : List Term
 added_terms = lit Null ∷ col 0 0 ∷ col 0 1 ∷ col 0 2 ∷ []
 
-pub add_person_is : (u : Wording) → (command_of (understood (hall_in u) ADD_PERSON.now) ≡ Insert 0 (Values added_terms 4))
+pub add_person_is : (u : Wording) → (command_of (understood (hall_in u) ADD_PERSON.now) ≡ Insert 0
+    (Values added_terms 4))
     × IsPlain (understood (hall_in u) ADD_PERSON.now)
 unfolding understood everything
 add_person_is u = (refl, (refl, refl))
@@ -59,7 +63,8 @@ add_person_is u = (refl, (refl, refl))
 abbrev pub name_order : List (Term × Key)
 name_order = (col 1 1, rising) ∷ []
 
-pub all_people_are : (schema : Schema) → IsVersion schema → AsksAll ALL_PEOPLE.now 0 person_columns name_order person_names schema
+pub all_people_are : (schema : Schema) → IsVersion schema → AsksAll ALL_PEOPLE.now 0 person_columns name_order
+    person_names schema
 unfolding understood everything
 all_people_are =
     by_version (AsksAll ALL_PEOPLE.now 0 person_columns name_order person_names)

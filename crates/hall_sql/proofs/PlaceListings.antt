@@ -1,5 +1,6 @@
 -- What the queries on places say of the world.
-use Rattle.std.proofs.Common.{◌≡◌, ◌&&◌, ℕ, pos, List, [], ◌∷◌, map, filter, flat_map, Bool, true, Some, option_to_list, Contains, refl, sym, ap, ap₂, subst, ◌∙◌, ◌+◌, ◌<◌, length, arith, inr}
+use Rattle.std.proofs.Common.{◌≡◌, ◌&&◌, ℕ, pos, List, [], ◌∷◌, map, filter, flat_map, Bool, true, Some, option_to_list}
+use Rattle.std.proofs.Common.{Contains, refl, sym, ap, ap₂, subst, ◌∙◌, ◌+◌, ◌<◌, length, arith, inr}
 use Rattle.std.proofs.lemmas.List.{get_or-map, length-map}
 use Rattle.std.proofs.lemmas.List.Kept.{Contains-dedup, Contains-from_dedup, IsStrictlySortedBy-dedup}
 use Rattle.std.proofs.lemmas.Cmp.{tied_itself}
@@ -41,7 +42,8 @@ use Rattle.hall_sql.proofs.AmongLemmas.{mapped, mapped_from}
 use Rattle.hall_sql.proofs.ColumnLemmas.{int_as_nat, kind_column, number_column, column_same, and_true}
 use Rattle.hall_sql.proofs.EntryListings.{are_entries, rise_strictly}
 use Rattle.hall_sql.proofs.ListedLemmas.{by_order, records_asked, records_sorted}
-use Rattle.hall_sql.proofs.RoundQueries.{place_columns, puzzle_terms, first_terms, number_order, round_order, places_with_is, places_of_is, all_places_are, place_order}
+use Rattle.hall_sql.proofs.RoundQueries.{place_columns, puzzle_terms, first_terms, number_order, round_order}
+use Rattle.hall_sql.proofs.RoundQueries.{places_with_is, places_of_is, all_places_are, place_order}
 use Rattle.hall_sql.proofs.UniqueLemmas.{equal_texts, equal_numbers, records_listed}
 use Rattle.hall_sql.proofs.EntryLemmas.{entries_kept}
 use Rattle.hall_sql.proofs.RecordParts.{place_parts_of}
@@ -65,7 +67,8 @@ pub record HasColumns (r : Row) (place : Place) : Type 0 where
 
 pub has_columns : (r : Row) (place : Place) → place_of_row r ≡ Some place → HasColumns r place
 has_columns r place is =
-    let it = place_parts_of (name_in (column r 1)) (within 1 most_number (column r 2)) (name_in (column r 3)) (name_in (column r 4))
+    let it = place_parts_of (name_in (column r 1)) (within 1 most_number (column r 2)) (name_in (column r 3))
+    (name_in (column r 4))
     (within 1 most_points (column r 5)) place is in
     record {
       round = kind_column 1 24 is_word_byte (column r 1) place.0.round it.round;
@@ -95,7 +98,8 @@ abbrev pub placed : List Row → FinMap place_cmp Place
 placed rows = kept place_cmp key_of place_of_row rows
 
 -- the table's records are these, each once
-pub places_listed : {schema : Schema} → IsVersion schema → (db : Trees) → AreKeyed (db 7) → IsDatabase (record { schema = schema; trees = db })
+pub places_listed : {schema : Schema} → IsVersion schema → (db : Trees) → AreKeyed (db 7)
+    → IsDatabase (record { schema = schema; trees = db })
     → IsPermutation (flat_map (λ r. option_to_list (place_of_row r)) (db 7)) (values (placed (db 7)))
 places_listed {schema} version db keyed sound =
     let rule = unique_in schema Places db version sound in
@@ -103,7 +107,8 @@ places_listed {schema} version db keyed sound =
     (λ r h. all_has _ (db 7) r rule h)
 
 -- those that pass, in some order, are the places that pass
-pub are_places : (db : Trees) (test : Place → Bool) (out : List Place) → IsPermutation (filter test (values (placed (db 7)))) out
+pub are_places : (db : Trees) (test : Place → Bool) (out : List Place)
+    → IsPermutation (filter test (values (placed (db 7)))) out
     → ArePlaces (world_of db) test out
 are_places db test out same = are_entries place_total same_place_keys place_of_row (db 7) test out same
 
@@ -115,19 +120,22 @@ by_number id a b p q =
     ∙ ap (λ o. ordering_then o (number_cmp a b)) (tied_itself text_total id)
 
 -- each of them stands there once
-numbers_rise : (db : Trees) (id : List ℕ) (out : List Place) → IsPermutation (filter (is_in_round id) (values (placed (db 7)))) out
+numbers_rise : (db : Trees) (id : List ℕ) (out : List Place)
+    → IsPermutation (filter (is_in_round id) (values (placed (db 7)))) out
     → IsSorted number_cmp out → IsStrictlySortedBy number_cmp out
 numbers_rise db id out same sorted =
     rise_strictly place_total same_place_keys place_of_row (db 7) (is_in_round id) out same number_cmp
     (λ a b p q. by_number id a b ((text_decides a.0.round id).0 p) ((text_decides b.0.round id).0 q)) sorted
 
 -- what a query gives of the places
-module _ (old new : State) (has : IsHallSchema old.now.schema) (keyed : AreKeyed (old.now.trees 7)) (sound : IsDatabase old.now)
+module _ (old new : State) (has : IsHallSchema old.now.schema) (keyed : AreKeyed (old.now.trees 7))
+    (sound : IsDatabase old.now)
     (rows : List Row) (out : List Place) (is : map place_in rows ≡ map Some out) where
   said : (u : Wording) × (old.now.schema ≡ hall_in u)
   said = worded old.now.schema has
 
-  whole : IsPermutation (flat_map (λ r. option_to_list (place_of_row r)) (old.now.trees 7)) (values (placed (old.now.trees 7)))
+  whole : IsPermutation (flat_map (λ r. option_to_list (place_of_row r)) (old.now.trees 7))
+      (values (placed (old.now.trees 7)))
   whole =
       let db = old.now.trees in
       places_listed {schema = old.now.schema} (inr has) db keyed sound
@@ -155,11 +163,13 @@ module _ (old new : State) (has : IsHallSchema old.now.schema) (keyed : AreKeyed
   places_with_told key shown = record {
     whole = are_places old.now.trees (has_puzzle key) out
         (records_asked place_in 5 PLACES_WITH.now (Text key.author ∷ Text key.label ∷ []) 7 puzzle_terms place_columns
-        round_order _ (places_with_is said.0).0 (places_with_is said.0).1 (places_with_is said.0).2 (λ db. refl) (λ r. refl) (has_puzzle key)
+        round_order _ (places_with_is said.0).0 (places_with_is said.0).1 (places_with_is said.0).2 (λ db. refl)
+        (λ r. refl) (has_puzzle key)
         (with_agrees key) old new rows out said.1 shown is _ whole);
     in_order =
         records_sorted place_in 5 PLACES_WITH.now (Text key.author ∷ Text key.label ∷ []) 7 puzzle_terms place_columns
-        round_order _ (places_with_is said.0).0 (places_with_is said.0).1 (places_with_is said.0).2 (λ db. refl) (λ r. refl) (has_puzzle key)
+        round_order _ (places_with_is said.0).0 (places_with_is said.0).1 (places_with_is said.0).2 (λ db. refl)
+        (λ r. refl) (has_puzzle key)
         (with_agrees key) old new rows out said.1 shown is round_cmp (same_rounds key);
   }
 
@@ -179,13 +189,18 @@ module _ (old new : State) (has : IsHallSchema old.now.schema) (keyed : AreKeyed
         then-Equal (nat_cmp x.0.number y.0.number),
       )
 
-  pub places_of_told : (id : List ℕ) → Shown PLACES_OF.now (Text id ∷ []) old new rows → AreListed (world_of old.now.trees) id out
+  pub places_of_told : (id : List ℕ) → Shown PLACES_OF.now (Text id ∷ []) old new rows
+      → AreListed (world_of old.now.trees) id out
   places_of_told id shown =
-      let same = records_asked place_in 5 PLACES_OF.now (Text id ∷ []) 7 first_terms place_columns number_order _ (places_of_is said.0).0
-      (places_of_is said.0).1 (places_of_is said.0).2 (λ db. refl) (λ r. refl) (is_in_round id) (in_agrees id) old new rows out said.1 shown
+      let same = records_asked place_in 5 PLACES_OF.now (Text id ∷ []) 7 first_terms place_columns number_order _
+      (places_of_is said.0).0
+      (places_of_is said.0).1 (places_of_is said.0).2 (λ db. refl) (λ r. refl) (is_in_round id) (in_agrees id) old new
+      rows out said.1 shown
       is _ whole in
-      let sorted = records_sorted place_in 5 PLACES_OF.now (Text id ∷ []) 7 first_terms place_columns number_order _ (places_of_is said.0).0
-      (places_of_is said.0).1 (places_of_is said.0).2 (λ db. refl) (λ r. refl) (is_in_round id) (in_agrees id) old new rows out said.1 shown
+      let sorted = records_sorted place_in 5 PLACES_OF.now (Text id ∷ []) 7 first_terms place_columns number_order _
+      (places_of_is said.0).0
+      (places_of_is said.0).1 (places_of_is said.0).2 (λ db. refl) (λ r. refl) (is_in_round id) (in_agrees id) old new
+      rows out said.1 shown
       is number_cmp (same_order id) in
       record {
         whole = are_places old.now.trees (is_in_round id) out same;
@@ -211,12 +226,15 @@ by_place a b x y p q =
       then-Equal (nat_cmp x.0.number y.0.number),
     )
 
-pub all_places_listed : (schema : Schema) → IsVersion schema → (old new : State) → old.now.schema ≡ schema → AreKeyedIn schema old.now.trees
-    → IsDatabase old.now → (rows : List Row) (out : List Place) → map place_in rows ≡ map Some out → Shown ALL_PLACES.now [] old new rows
+pub all_places_listed : (schema : Schema) → IsVersion schema → (old new : State) → old.now.schema ≡ schema
+    → AreKeyedIn schema old.now.trees
+    → IsDatabase old.now → (rows : List Row) (out : List Place) → map place_in rows ≡ map Some out
+    → Shown ALL_PLACES.now [] old new rows
     → out ≡ entries (world_of old.now.trees).places
 all_places_listed schema version old new has keyed sound rows out is shown =
     let db = old.now.trees in
-    let whole = places_listed version db (keyed_in schema Places db version keyed) (subst (λ s. IsDatabase (record { schema = s; trees = db })) has sound) in
+    let whole = places_listed version db (keyed_in schema Places db version keyed)
+    (subst (λ s. IsDatabase (record { schema = s; trees = db })) has sound) in
     all_listed (all_places_are schema version) place_total same_place_keys key_of place_in 5 (λ db. refl) (λ r. refl)
     by_place old new has whole rows out is shown
     ∙ entries_kept place_total same_place_keys place_of_row (db 7)
@@ -224,10 +242,18 @@ all_places_listed schema version old new has keyed sound rows out is shown =
 -- ---- the rounds of places
 
 -- the order of the rounds of places
-sorted_rounds : (places : List Place) → IsSorted round_cmp places → IsSorted text_cmp (map (λ (place : Place). place.0.round) places)
+sorted_rounds : (places : List Place) → IsSorted round_cmp places
+    → IsSorted text_cmp (map (λ (place : Place). place.0.round) places)
 sorted_rounds places sorted k d low inside =
     let round : Place → List ℕ = λ place. place.0.round in
-    let any : Place = (record { round = d; number = 0 }, record { puzzle = record { author = d; label = d }; points = 0 }) in
+    let any : Place = (
+      record { round = d; number = 0 },
+      record {
+        puzzle = record { author = d; label = d };
+        points =
+            0;
+      },
+    ) in
     let within : k + 1 < length places = omega (arith, length-map places round, inside) in
     ap₂ (λ a b. is_lt (text_cmp a b)) (get_or-map round places (k + 1) any d within)
     (get_or-map round places k any d (omega (arith, within)))
@@ -253,13 +279,15 @@ module _ (world : World) (key : PuzzleKey) (places : List Place) (are : ArePlace
   back : (id : List ℕ) → (entry : Entry) × ListsEntry world id entry × (entry.puzzle ≡ key) → Contains rounds id
   back id h =
       let place : Place = (record { round = id; number = h.1.0 }, h.0) in
-      mapped (λ (place : Place). place.0.round) places place ((are.whole place).1 (h.1.1, (puzzle_decides h.0.puzzle key).1 h.2))
+      mapped (λ (place : Place). place.0.round) places place
+      ((are.whole place).1 (h.1.1, (puzzle_decides h.0.puzzle key).1 h.2))
 
   pub using_told : (ids : List (List ℕ)) → ids ≡ dedup same_text rounds → AreUsing world key ids
   using_told ids is = record {
     whole = λ id. (
       (λ among. there id (Contains-from_dedup same_text rounds id (subst (λ l. Contains l id) is among))),
-      (λ h. subst (λ l. Contains l id) (sym is) (Contains-dedup nat_list_eq_equiv (λ x y. (text_decides x y).0) rounds id (back id h))),
+      (λ h. subst (λ l. Contains l id) (sym is) (Contains-dedup nat_list_eq_equiv (λ x y. (text_decides x y).0) rounds
+          id (back id h))),
     );
     in_order = subst (IsStrictlySortedBy text_cmp) (sym is)
         (IsStrictlySortedBy-dedup text_total (λ x y. texts_ties x y) rounds (sorted_rounds places are.in_order));

@@ -34,8 +34,26 @@ places_apart db = refl
 pub places_restricted : (u : Wording) (olds : List Row) → Restricts (works (hall_in u) Enforced 0 7 olds [])
 unfolding same_name joined
 places_restricted u olds =
-    refusing_works (hall_in u) Enforced 0 7 olds [] (all_in u (λ ref. OnlyRefuses 7 (deed_for Enforced true ref) (parent_key (hall_in u).tables ref))
-    (tt, ((λ a. inl refl, tt), (tt, ((λ a. inl refl, (λ a. inl refl, tt)), ((λ a. inl refl, (λ a. inr refl, tt)), ((λ a. inl refl, (λ a. inr refl, tt)), ((λ a. inl refl, (λ a. inl refl, tt)), tt))))))))
+    refusing_works (hall_in u) Enforced 0 7 olds [] (all_in u
+    (λ ref. OnlyRefuses 7 (deed_for Enforced true ref) (parent_key (hall_in u).tables ref)) (
+      tt,
+      (
+        (λ a. inl refl, tt),
+        (
+          tt,
+          (
+            (λ a. inl refl, (λ a. inl refl, tt)),
+            (
+              (λ a. inl refl, (λ a. inr refl, tt)),
+              (
+                (λ a. inl refl, (λ a. inr refl, tt)),
+                ((λ a. inl refl, (λ a. inl refl, tt)), tt),
+              ),
+            ),
+          ),
+        ),
+      ),
+    ))
 
 pub drop_places_is : (u : Wording) → (command_of (understood (hall_in u) DROP_PLACES.now)
     ≡ Delete 3 (deletion (hall_in u) (table_in u Places) (equals 1 0 ∷ []) places_apart (places_restricted u)))

@@ -1,5 +1,6 @@
 -- What the statements on protests say of the world.
-use Rattle.std.proofs.Common.{◌≡◌, ◌≤◌, inr, ◌&&◌, ℕ, pos, List, [], ◌∷◌, length, map, flat_map, true, slice_get, Some, IfSome, option_to_list, refl, sym, ap, subst, ◌∙◌}
+use Rattle.std.proofs.Common.{◌≡◌, ◌≤◌, inr, ◌&&◌, ℕ, pos, List, [], ◌∷◌, length, map, flat_map, true, slice_get, Some}
+use Rattle.std.proofs.Common.{IfSome, option_to_list, refl, sym, ap, subst, ◌∙◌}
 use Rattle.std.proofs.lemmas.Option.{IfSome_then}
 use Rattle.std.specs.List.{list_all}
 use Rattle.std.specs.List.Sorted.{IsPermutation}
@@ -31,11 +32,13 @@ use Rattle.hall_sql.specs.Rows.{protest_in, protest_of_row, world_of}
 use Rattle.hall_sql.specs.Columns.{IsAlone}
 use Rattle.hall_sql.specs.Standing.{AreKeyed, AreKeyedIn}
 use Rattle.hall_sql.specs.declared.protests.TheConstants.{ALL_PROTESTS, PROTEST, PROTESTS_OF, PROTESTS_IN}
-use Rattle.hall_sql.proofs.ColumnLemmas.{kind_column, number_column, column_equals, column_same, and_true, last_equal, more_equal}
+use Rattle.hall_sql.proofs.ColumnLemmas.{kind_column, number_column, column_equals, column_same, and_true, last_equal}
+use Rattle.hall_sql.proofs.ColumnLemmas.{more_equal}
 use Rattle.hall_sql.proofs.FoundLemmas.{asked_found, asked_alone}
 use Rattle.hall_sql.proofs.ListedLemmas.{by_order, values_asked}
 use Rattle.hall_sql.specs.Statements.{equals}
-use Rattle.hall_sql.proofs.ProtestTexts.{all_protests_are, key_terms, key_order, protest_columns, protest_is, protests_of_is, protests_in_is}
+use Rattle.hall_sql.proofs.ProtestTexts.{all_protests_are, key_terms, key_order, protest_columns, protest_is}
+use Rattle.hall_sql.proofs.ProtestTexts.{protests_of_is, protests_in_is}
 use Rattle.hall_sql.proofs.RecordParts.{protest_parts_of}
 use Rattle.hall_sql.proofs.UniqueLemmas.{equal_texts, records_listed}
 use Rattle.hall_sql.specs.Versions.{IsVersion}
@@ -54,7 +57,8 @@ pub record HasColumns (r : Row) (row : ProtestRow) : Type 0 where
 
 pub has_columns : (r : Row) (row : ProtestRow) → protest_of_row r ≡ Some row → HasColumns r row
 has_columns r row is =
-    let it = protest_parts_of (name_in (column r 1)) (name_in (column r 2)) (token_in (column r 3)) (within 1 most_number (column r 4))
+    let it = protest_parts_of (name_in (column r 1)) (name_in (column r 2)) (token_in (column r 3))
+    (within 1 most_number (column r 4))
     (kind_in 1 200 is_printable (column r 5)) (ruling_in (column r 6) (column r 7)) row is in
     record {
       entrant = kind_column 1 24 is_word_byte (column r 1) row.key.entrant it.entrant;
@@ -96,7 +100,8 @@ protest_alone key old new rows out has shown is short =
     IfSome_then (slice_get out 0)
     (asked_alone protest_total same_protest_keys (λ (row : ProtestRow). row.key) protest_in 7 key PROTEST.now
     (key_params key) 12 key_terms protest_columns _
-    (protest_is u).0 (protest_is u).1 (protest_is u).2 (λ db. refl) (λ r. refl) (agrees key) old new rows out words shown is short)
+    (protest_is u).0 (protest_is u).1 (protest_is u).2 (λ db. refl) (λ r. refl) (agrees key) old new rows out words
+    shown is short)
     (λ row it. record { one = it.0; found = it.1; reads = it.2 })
 
 -- ---- listings
@@ -121,16 +126,19 @@ agreeing r y x z p q e =
     )
 
 -- the table's records are the world's protests, each once
-pub protests_listed : {schema : Schema} → IsVersion schema → (db : Trees) → AreKeyed (db 12) → IsDatabase (record { schema = schema; trees = db })
+pub protests_listed : {schema : Schema} → IsVersion schema → (db : Trees) → AreKeyed (db 12)
+    → IsDatabase (record { schema = schema; trees = db })
     → IsPermutation (flat_map (λ r. option_to_list (protest_of_row r)) (db 12)) (values (world_of db).protests)
 protests_listed {schema} version db keyed sound =
     let rule = unique_in schema Protests db version sound in
-    records_listed protest_total same_protest_keys (λ (row : ProtestRow). row.key) protest_of_row (1 ∷ 2 ∷ 3 ∷ []) (db 12)
+    records_listed protest_total same_protest_keys (λ (row : ProtestRow). row.key) protest_of_row (1 ∷ 2 ∷ 3 ∷ [])
+    (db 12)
     keyed agreeing
     (λ r h. all_has _ (db 12) r rule h)
 
 -- ORDER BY entrant, round, token is the order of keys
-pub same_order : (params : Row) (terms : List Term) (a b : Row) (x y : ProtestRow) → protest_of_row a ≡ Some x → protest_of_row b ≡ Some y
+pub same_order : (params : Row) (terms : List Term) (a b : Row) (x y : ProtestRow) → protest_of_row a ≡ Some x
+    → protest_of_row b ≡ Some y
     → by_order 12 terms protest_columns key_order params a b ≡ protest_cmp x.key y.key
 same_order params terms a b x y p q =
     let one = has_columns a x p in
@@ -148,17 +156,22 @@ same_order params terms a b x y p q =
       then-Equal (text_cmp x.key.token y.key.token),
     )
 
-pub all_protests_listed : (schema : Schema) → IsVersion schema → (old new : State) → old.now.schema ≡ schema → AreKeyedIn schema old.now.trees
-    → IsDatabase old.now → (rows : List Row) (out : List ProtestRow) → map protest_in rows ≡ map Some out → Shown ALL_PROTESTS.now [] old new rows
+pub all_protests_listed : (schema : Schema) → IsVersion schema → (old new : State) → old.now.schema ≡ schema
+    → AreKeyedIn schema old.now.trees
+    → IsDatabase old.now → (rows : List Row) (out : List ProtestRow) → map protest_in rows ≡ map Some out
+    → Shown ALL_PROTESTS.now [] old new rows
     → out ≡ values (world_of old.now.trees).protests
 all_protests_listed schema version old new has keyed sound =
     let db = old.now.trees in
-    let whole = protests_listed version db (keyed_in schema Protests db version keyed) (subst (λ s. IsDatabase (record { schema = s; trees = db })) has sound) in
-    all_listed (all_protests_are schema version) protest_total same_protest_keys (λ (row : ProtestRow). row.key) protest_in 7 (λ db. refl) (λ r. refl)
+    let whole = protests_listed version db (keyed_in schema Protests db version keyed)
+    (subst (λ s. IsDatabase (record { schema = s; trees = db })) has sound) in
+    all_listed (all_protests_are schema version) protest_total same_protest_keys (λ (row : ProtestRow). row.key)
+    protest_in 7 (λ db. refl) (λ r. refl)
     (same_order [] []) old new has whole
 
 -- what a query gives of the world's protests
-module _ (old new : State) (has : IsHallSchema old.now.schema) (keyed : AreKeyed (old.now.trees 12)) (sound : IsDatabase old.now)
+module _ (old new : State) (has : IsHallSchema old.now.schema) (keyed : AreKeyed (old.now.trees 12))
+    (sound : IsDatabase old.now)
     (rows : List Row) (out : List ProtestRow) (is : map protest_in rows ≡ map Some out) where
   said : (u : Wording) × (old.now.schema ≡ hall_in u)
   said = worded old.now.schema has
@@ -186,14 +199,18 @@ module _ (old new : State) (has : IsHallSchema old.now.schema) (keyed : AreKeyed
       → out ≡ protests_in (world_of old.now.trees) round
   protests_in_listed round shown =
       values_asked protest_in 7 PROTESTS_IN.now (Text round ∷ []) 12 (equals 2 0 ∷ []) protest_columns key_order _
-      (protests_in_is said.0).0 (protests_in_is said.0).1 (protests_in_is said.0).2 (λ db. refl) (λ r. refl) (is_protest_in round) (in_agrees round)
+      (protests_in_is said.0).0 (protests_in_is said.0).1 (protests_in_is said.0).2 (λ db. refl) (λ r. refl)
+      (is_protest_in round) (in_agrees round)
       old new rows out said.1 shown is protest_total same_protest_keys (λ (row : ProtestRow). row.key) whole
       (same_order (Text round ∷ []) (equals 2 0 ∷ []))
 
-  pub protests_of_listed : (entrant round : List ℕ) → Shown PROTESTS_OF.now (Text entrant ∷ Text round ∷ []) old new rows
+  pub protests_of_listed : (entrant round : List ℕ) → Shown PROTESTS_OF.now (Text entrant ∷ Text round ∷ []) old new
+      rows
       → out ≡ protests_of (world_of old.now.trees) entrant round
   protests_of_listed entrant round shown =
       values_asked protest_in 7 PROTESTS_OF.now (Text entrant ∷ Text round ∷ []) 12 (equals 2 1 ∷ equals 1 0 ∷ [])
-      protest_columns key_order _ (protests_of_is said.0).0 (protests_of_is said.0).1 (protests_of_is said.0).2 (λ db. refl) (λ r. refl)
-      (is_protest_of entrant round) (of_agrees entrant round) old new rows out said.1 shown is protest_total same_protest_keys
+      protest_columns key_order _ (protests_of_is said.0).0 (protests_of_is said.0).1 (protests_of_is said.0).2
+      (λ db. refl) (λ r. refl)
+      (is_protest_of entrant round) (of_agrees entrant round) old new rows out said.1 shown is protest_total
+      same_protest_keys
       (λ (row : ProtestRow). row.key) whole (same_order (Text entrant ∷ Text round ∷ []) (equals 2 1 ∷ equals 1 0 ∷ []))

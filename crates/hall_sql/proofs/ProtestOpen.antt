@@ -1,5 +1,6 @@
 -- How many protests an entrant made, and whether one of a round is open.
-use Rattle.std.proofs.Common.{◌≡◌, ◌↔◌, ◌&&◌, ℕ, List, length, Bool, true, IsTrue, Option, Some, None, is_none, Contains, refl, sym, subst, ap, ◌∙◌}
+use Rattle.std.proofs.Common.{◌≡◌, ◌↔◌, ◌&&◌, ℕ, List, length, Bool, true, IsTrue, Option, Some, None, is_none}
+use Rattle.std.proofs.Common.{Contains, refl, sym, subst, ap, ◌∙◌}
 use Rattle.std.proofs.lemmas.List.Sums.{length-filter}
 use Rattle.std.specs.FinMap.{values}
 use Rattle.sqlite.specs.Tree.{Trees}
@@ -43,7 +44,8 @@ module _ (db : Trees) (round : List ℕ) where
   none_is None h = refl
   none_is (Some r) h = absurd cc
 
-  passes_open : (row : ProtestRow) → Contains protests row → is_open_in round row ≡ true → IsProtestOpen (world_of db) round
+  passes_open : (row : ProtestRow) → Contains protests row → is_open_in round row ≡ true
+      → IsProtestOpen (world_of db) round
   passes_open row among passes = (
     row.key,
     row,
@@ -52,22 +54,26 @@ module _ (db : Trees) (round : List ℕ) where
     none_is row.ruling (and_second (same_text row.key.round round) _ passes),
   )
 
-  open_passes : (found : IsProtestOpen (world_of db) round) → Contains protests found.1 × (is_open_in round found.1 ≡ true)
+  open_passes : (found : IsProtestOpen (world_of db) round) → Contains protests found.1
+      × (is_open_in round found.1 ≡ true)
   open_passes found =
       let row = found.1 in
       let key = kept_keyed protest_total same_protest_keys (λ (row : ProtestRow). row.key) protest_of_row (db 12)
       found.0 row found.3 in (
         value_of_get (world_of db).protests found.0 row found.3,
-        and_both _ _ ((text_decides row.key.round round).1 (ap (λ (k : ProtestKey). k.round) key ∙ found.2)) (ap is_none found.4),
+        and_both _ _ ((text_decides row.key.round round).1 (ap (λ (k : ProtestKey). k.round) key ∙ found.2))
+            (ap is_none found.4),
       )
 
   -- so the protests of the round tell whether one is open
   pub open_told : (found : Bool) (rows : List ProtestRow) → rows ≡ protests_in (world_of db) round
-      → IsTrue found ↔ ((row : ProtestRow) × Contains rows row × (row.ruling ≡ None)) → IsTrue found ↔ IsProtestOpen (world_of db) round
+      → IsTrue found ↔ ((row : ProtestRow) × Contains rows row × (row.ruling ≡ None)) → IsTrue found
+      ↔ IsProtestOpen (world_of db) round
   open_told found rows are told = (
     (λ yes.
         let one = told.0 yes in
-        let among = filter-Contains (is_protest_in round) protests one.0 (subst (λ list. Contains list one.0) are one.1) in
+        let among = filter-Contains (is_protest_in round) protests one.0
+        (subst (λ list. Contains list one.0) are one.1) in
         passes_open one.0 among.0 (and_both _ _ among.1 (ap is_none one.2))),
     (λ one.
         let there = open_passes one in

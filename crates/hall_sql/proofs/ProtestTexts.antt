@@ -14,8 +14,8 @@ use Rattle.sqlite.proofs.Callers.{IsPlain, command_of}
 use Rattle.hall_sql.specs.Tables.{table_at}
 use Rattle.hall_sql.specs.declared.tables.HallTable.TheVariants.{Protests}
 use Rattle.hall_sql.specs.Statements.{equals, rising, names_of, plain_query}
-use Rattle.hall_sql.specs.declared.protests.TheConstants.{PROTEST, PROTESTS_OF, PROTESTS_IN}
-use Rattle.hall_sql.specs.declared.protests.TheConstants.{ADD_PROTEST, RULE_PROTEST, ALL_PROTESTS}
+use Rattle.hall_sql.specs.declared.protests.TheConstants.{PROTEST, PROTESTS_OF, PROTESTS_IN, ADD_PROTEST, RULE_PROTEST}
+use Rattle.hall_sql.specs.declared.protests.TheConstants.{ALL_PROTESTS}
 use Rattle.hall_sql.proofs.UpdateLemmas.{update}
 use Rattle.hall_sql.specs.Asked.{IsAsked, IsAskedIn, is_whole}
 use Rattle.hall_sql.proofs.AskedLemmas.{asked}
@@ -47,10 +47,13 @@ protest_is u = (refl, refl, (refl, refl), refl)
 
 pub protest_asked : (entrant round token : List ℕ) → IsAsked PROTEST.now (Text entrant ∷ Text round ∷ Text token ∷ [])
 protest_asked entrant round token =
-    by_hall (IsAskedIn PROTEST.now (Text entrant ∷ Text round ∷ Text token ∷ [])) (λ u. asked PROTEST.now (Text entrant ∷ Text round ∷ Text token ∷ []) 12 key_terms protest_columns [] _ (protest_is u).0 (protest_is u).1 (protest_is u).2 (protest_is u).3 refl)
+    by_hall (IsAskedIn PROTEST.now (Text entrant ∷ Text round ∷ Text token ∷ []))
+    (λ u. asked PROTEST.now (Text entrant ∷ Text round ∷ Text token ∷ []) 12 key_terms protest_columns [] _
+    (protest_is u).0 (protest_is u).1 (protest_is u).2 (protest_is u).3 refl)
 
 pub protests_of_is : (u : Wording) → (command_of (understood (hall_in u) PROTESTS_OF.now)
-    ≡ Select (record { lets = []; body = plain_query 12 (equals 2 1 ∷ equals 1 0 ∷ []) protest_columns key_order }) protest_names)
+    ≡ Select (record { lets = []; body = plain_query 12 (equals 2 1 ∷ equals 1 0 ∷ []) protest_columns key_order })
+    protest_names)
     × (reads_listing (hall_in u) PROTESTS_OF.now ≡ false) × IsPlain (understood (hall_in u) PROTESTS_OF.now)
     × (is_whole PROTESTS_OF.now 2 (understood (hall_in u) PROTESTS_OF.now) ≡ true)
 unfolding understood everything
@@ -58,7 +61,9 @@ protests_of_is u = (refl, refl, (refl, refl), refl)
 
 pub protests_of_asked : (entrant round : List ℕ) → IsAsked PROTESTS_OF.now (Text entrant ∷ Text round ∷ [])
 protests_of_asked entrant round =
-    by_hall (IsAskedIn PROTESTS_OF.now (Text entrant ∷ Text round ∷ [])) (λ u. asked PROTESTS_OF.now (Text entrant ∷ Text round ∷ []) 12 (equals 2 1 ∷ equals 1 0 ∷ []) protest_columns key_order _ (protests_of_is u).0 (protests_of_is u).1 (protests_of_is u).2 (protests_of_is u).3 refl)
+    by_hall (IsAskedIn PROTESTS_OF.now (Text entrant ∷ Text round ∷ []))
+    (λ u. asked PROTESTS_OF.now (Text entrant ∷ Text round ∷ []) 12 (equals 2 1 ∷ equals 1 0 ∷ []) protest_columns
+    key_order _ (protests_of_is u).0 (protests_of_is u).1 (protests_of_is u).2 (protests_of_is u).3 refl)
 
 pub protests_in_is : (u : Wording) → (command_of (understood (hall_in u) PROTESTS_IN.now)
     ≡ Select (record { lets = []; body = plain_query 12 (equals 2 0 ∷ []) protest_columns key_order }) protest_names)
@@ -69,13 +74,16 @@ protests_in_is u = (refl, refl, (refl, refl), refl)
 
 pub protests_in_asked : (round : List ℕ) → IsAsked PROTESTS_IN.now (Text round ∷ [])
 protests_in_asked round =
-    by_hall (IsAskedIn PROTESTS_IN.now (Text round ∷ [])) (λ u. asked PROTESTS_IN.now (Text round ∷ []) 12 (equals 2 0 ∷ []) protest_columns key_order _ (protests_in_is u).0 (protests_in_is u).1 (protests_in_is u).2 (protests_in_is u).3 refl)
+    by_hall (IsAskedIn PROTESTS_IN.now (Text round ∷ [])) (λ u. asked PROTESTS_IN.now (Text round ∷ []) 12
+    (equals 2 0 ∷ []) protest_columns key_order _ (protests_in_is u).0 (protests_in_is u).1 (protests_in_is u).2
+    (protests_in_is u).3 refl)
 
 -- the rowid that is chosen, and each parameter
 abbrev pub added_terms : List Term
 added_terms = lit Null ∷ col 0 0 ∷ col 0 1 ∷ col 0 2 ∷ col 0 3 ∷ col 0 4 ∷ col 0 5 ∷ col 0 6 ∷ []
 
-pub add_protest_is : (u : Wording) → (command_of (understood (hall_in u) ADD_PROTEST.now) ≡ Insert 5 (Values added_terms 8))
+pub add_protest_is : (u : Wording) → (command_of (understood (hall_in u) ADD_PROTEST.now) ≡ Insert 5
+    (Values added_terms 8))
     × IsPlain (understood (hall_in u) ADD_PROTEST.now)
 unfolding understood everything
 add_protest_is u = (refl, (refl, refl))
@@ -97,7 +105,8 @@ pub rule_protest_is : (u : Wording) → (command_of (understood (hall_in u) RULE
 unfolding understood everything
 rule_protest_is u = (refl, (refl, refl))
 
-pub all_protests_are : (schema : Schema) → IsVersion schema → AsksAll ALL_PROTESTS.now 12 protest_columns key_order protest_names schema
+pub all_protests_are : (schema : Schema) → IsVersion schema → AsksAll ALL_PROTESTS.now 12 protest_columns key_order
+    protest_names schema
 unfolding understood everything
 all_protests_are =
     by_version (AsksAll ALL_PROTESTS.now 12 protest_columns key_order protest_names)

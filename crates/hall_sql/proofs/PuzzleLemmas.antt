@@ -26,8 +26,12 @@ use Rattle.hall_sql.proofs.RecordParts.{puzzle_parts_of}
 pub key_columns : (r : Row) (row : PuzzleRow) → puzzle_of_row r ≡ Some row
     → (column r 1 ≡ Text row.key.author) × (column r 2 ≡ Text row.key.label)
 key_columns r row is =
-    let parts = puzzle_parts_of (name_in (column r 1)) (name_in (column r 2)) (puzzle_in (column r 3)) (state_in (column r 4) (column r 5)) row is in
-    (kind_column 1 24 is_word_byte (column r 1) row.key.author parts.author, kind_column 1 24 is_word_byte (column r 2) row.key.label parts.label)
+    let parts = puzzle_parts_of (name_in (column r 1)) (name_in (column r 2)) (puzzle_in (column r 3))
+    (state_in (column r 4) (column r 5)) row is in (
+      kind_column 1 24 is_word_byte (column r 1) row.key.author parts.author,
+      kind_column 1 24 is_word_byte (column r 2)
+          row.key.label parts.label,
+    )
 
 abbrev pub key_params : PuzzleKey → Row
 key_params key = Text key.author ∷ Text key.label ∷ []
@@ -40,10 +44,12 @@ agrees key r row is =
     more_equal _ _ _ _ (column_equals (column r 1) row.key.author key.author columns.0)
     (last_equal _ _ (column_equals (column r 2) row.key.label key.label columns.1))
 
-pub puzzle_found : (key : PuzzleKey) (old new : State) (rows : List Row) (out : List PuzzleRow) → IsHallSchema old.now.schema
+pub puzzle_found : (key : PuzzleKey) (old new : State) (rows : List Row) (out : List PuzzleRow)
+    → IsHallSchema old.now.schema
     → Shown PUZZLE.now (key_params key) old new rows → map puzzle_row_in rows ≡ map Some out → length out ≤ 1
     → slice_get out 0 ≡ get (world_of old.now.trees).puzzles key
 puzzle_found key old new rows out has =
     let (u, words) = worded old.now.schema has in
-    asked_found puzzle_total same_puzzle_keys (λ (row : PuzzleRow). row.key) puzzle_row_in 5 key PUZZLE.now (key_params key) 3 key_terms puzzle_columns _
+    asked_found puzzle_total same_puzzle_keys (λ (row : PuzzleRow). row.key) puzzle_row_in 5 key PUZZLE.now
+    (key_params key) 3 key_terms puzzle_columns _
     (puzzle_is u).0 (puzzle_is u).1 (puzzle_is u).2 (λ db. refl) (λ r. refl) (agrees key) old new rows out words

@@ -1,5 +1,6 @@
 -- What the listings of puzzles say of the world.
-use Rattle.std.proofs.Common.{◌≡◌, inr, ℕ, List, [], ◌∷◌, length, map, flat_map, true, Some, option_to_list, refl, sym, ap, subst, ◌∙◌}
+use Rattle.std.proofs.Common.{◌≡◌, inr, ℕ, List, [], ◌∷◌, length, map, flat_map, true, Some, option_to_list, refl, sym}
+use Rattle.std.proofs.Common.{ap, subst, ◌∙◌}
 use Rattle.std.specs.List.{list_all}
 use Rattle.std.specs.List.Sorted.{IsPermutation}
 use Rattle.std.specs.FinMap.{values}
@@ -56,11 +57,13 @@ agreeing r y x z p q e =
     )
 
 -- the table's records are the world's puzzles, each once
-puzzles_listed : {schema : Schema} → IsVersion schema → (db : Trees) → AreKeyed (db 3) → IsDatabase (record { schema = schema; trees = db })
+puzzles_listed : {schema : Schema} → IsVersion schema → (db : Trees) → AreKeyed (db 3)
+    → IsDatabase (record { schema = schema; trees = db })
     → IsPermutation (flat_map (λ r. option_to_list (puzzle_of_row r)) (db 3)) (values (world_of db).puzzles)
 puzzles_listed {schema} version db keyed sound =
     let rule = unique_in schema Puzzles db version sound in
-    records_listed puzzle_total same_puzzle_keys (λ (row : PuzzleRow). row.key) puzzle_of_row (1 ∷ 2 ∷ []) (db 3) keyed agreeing
+    records_listed puzzle_total same_puzzle_keys (λ (row : PuzzleRow). row.key) puzzle_of_row (1 ∷ 2 ∷ []) (db 3) keyed
+    agreeing
     (λ r h. all_has _ (db 3) r rule h)
 
 -- ORDER BY author, label is the order of keys
@@ -80,13 +83,16 @@ same_order params terms a b x y p q =
       then-Equal (text_cmp x.key.label y.key.label),
     )
 
-pub all_puzzles_listed : (schema : Schema) → IsVersion schema → (old new : State) → old.now.schema ≡ schema → AreKeyedIn schema old.now.trees
+pub all_puzzles_listed : (schema : Schema) → IsVersion schema → (old new : State) → old.now.schema ≡ schema
+    → AreKeyedIn schema old.now.trees
     → IsDatabase old.now → (rows : List Row) (out : List PuzzleRow) → map puzzle_row_in rows ≡ map Some out
     → Shown ALL_PUZZLES.now [] old new rows → out ≡ values (world_of old.now.trees).puzzles
 all_puzzles_listed schema version old new has keyed sound =
     let db = old.now.trees in
-    let whole = puzzles_listed version db (keyed_in schema Puzzles db version keyed) (subst (λ s. IsDatabase (record { schema = s; trees = db })) has sound) in
-    all_listed (all_puzzles_are schema version) puzzle_total same_puzzle_keys (λ (row : PuzzleRow). row.key) puzzle_row_in 5 (λ db. refl) (λ r. refl)
+    let whole = puzzles_listed version db (keyed_in schema Puzzles db version keyed)
+    (subst (λ s. IsDatabase (record { schema = s; trees = db })) has sound) in
+    all_listed (all_puzzles_are schema version) puzzle_total same_puzzle_keys (λ (row : PuzzleRow). row.key)
+    puzzle_row_in 5 (λ db. refl) (λ r. refl)
     (same_order [] []) old new has whole
 
 -- the author's puzzles are as many as the rules count
@@ -95,7 +101,8 @@ puzzles_counted world author =
     length-filter (λ (row : PuzzleRow). same_text row.key.author author) (values world.puzzles)
 
 -- what a query in the order of keys gives of the world's puzzles
-module _ (old new : State) (has : IsHallSchema old.now.schema) (keyed : AreKeyed (old.now.trees 3)) (sound : IsDatabase old.now)
+module _ (old new : State) (has : IsHallSchema old.now.schema) (keyed : AreKeyed (old.now.trees 3))
+    (sound : IsDatabase old.now)
     (rows : List Row) (out : List PuzzleRow) (is : map puzzle_row_in rows ≡ map Some out) where
   said : (u : Wording) × (old.now.schema ≡ hall_in u)
   said = worded old.now.schema has
@@ -114,6 +121,8 @@ module _ (old new : State) (has : IsHallSchema old.now.schema) (keyed : AreKeyed
       → out ≡ puzzles_of (world_of old.now.trees) author
   puzzles_of_listed author shown =
       values_asked puzzle_row_in 5 PUZZLES_OF.now (Text author ∷ []) 3 (equals 1 0 ∷ []) puzzle_columns key_order _
-      (puzzles_of_is said.0).0 (puzzles_of_is said.0).1 (puzzles_of_is said.0).2 (λ db. refl) (λ r. refl) (λ row. same_text row.key.author author)
-      (by_author author) old new rows out said.1 shown is puzzle_total same_puzzle_keys (λ (row : PuzzleRow). row.key) whole
+      (puzzles_of_is said.0).0 (puzzles_of_is said.0).1 (puzzles_of_is said.0).2 (λ db. refl) (λ r. refl)
+      (λ row. same_text row.key.author author)
+      (by_author author) old new rows out said.1 shown is puzzle_total same_puzzle_keys (λ (row : PuzzleRow). row.key)
+      whole
       (same_order (Text author ∷ []) (equals 1 0 ∷ []))

@@ -14,8 +14,8 @@ use Rattle.sqlite.proofs.Callers.{IsPlain, command_of}
 use Rattle.hall_sql.specs.Tables.{table_at}
 use Rattle.hall_sql.specs.declared.tables.HallTable.TheVariants.{Puzzles}
 use Rattle.hall_sql.specs.Statements.{equals, rising, names_of, plain_query}
-use Rattle.hall_sql.specs.declared.puzzles.TheConstants.{PUZZLE, ALL_PUZZLES, PUZZLES_OF}
-use Rattle.hall_sql.specs.declared.puzzles.TheConstants.{LOOK_PUZZLE, ADD_PUZZLE, REPLACE_PUZZLE}
+use Rattle.hall_sql.specs.declared.puzzles.TheConstants.{PUZZLE, ALL_PUZZLES, PUZZLES_OF, LOOK_PUZZLE, ADD_PUZZLE}
+use Rattle.hall_sql.specs.declared.puzzles.TheConstants.{REPLACE_PUZZLE}
 use Rattle.hall_sql.proofs.UpdateLemmas.{update}
 use Rattle.hall_sql.specs.Asked.{IsAsked, IsAskedIn, is_whole}
 use Rattle.hall_sql.proofs.AskedLemmas.{asked}
@@ -43,13 +43,16 @@ puzzle_is u = (refl, refl, (refl, refl), refl)
 
 pub puzzle_asked : (author label : List ℕ) → IsAsked PUZZLE.now (Text author ∷ Text label ∷ [])
 puzzle_asked author label =
-    by_hall (IsAskedIn PUZZLE.now (Text author ∷ Text label ∷ [])) (λ u. asked PUZZLE.now (Text author ∷ Text label ∷ []) 3 key_terms puzzle_columns [] _ (puzzle_is u).0 (puzzle_is u).1 (puzzle_is u).2 (puzzle_is u).3 refl)
+    by_hall (IsAskedIn PUZZLE.now (Text author ∷ Text label ∷ []))
+    (λ u. asked PUZZLE.now (Text author ∷ Text label ∷ []) 3 key_terms puzzle_columns [] _ (puzzle_is u).0
+    (puzzle_is u).1 (puzzle_is u).2 (puzzle_is u).3 refl)
 
 -- the order of keys: author, label
 abbrev pub key_order : List (Term × Key)
 key_order = (col 1 1, rising) ∷ (col 1 2, rising) ∷ []
 
-pub all_puzzles_are : (schema : Schema) → IsVersion schema → AsksAll ALL_PUZZLES.now 3 puzzle_columns key_order puzzle_names schema
+pub all_puzzles_are : (schema : Schema) → IsVersion schema → AsksAll ALL_PUZZLES.now 3 puzzle_columns key_order
+    puzzle_names schema
 unfolding understood everything
 all_puzzles_are =
     by_version (AsksAll ALL_PUZZLES.now 3 puzzle_columns key_order puzzle_names)
@@ -65,7 +68,9 @@ puzzles_of_is u = (refl, refl, (refl, refl), refl)
 
 pub puzzles_of_asked : (author : List ℕ) → IsAsked PUZZLES_OF.now (Text author ∷ [])
 puzzles_of_asked author =
-    by_hall (IsAskedIn PUZZLES_OF.now (Text author ∷ [])) (λ u. asked PUZZLES_OF.now (Text author ∷ []) 3 (equals 1 0 ∷ []) puzzle_columns key_order _ (puzzles_of_is u).0 (puzzles_of_is u).1 (puzzles_of_is u).2 (puzzles_of_is u).3 refl)
+    by_hall (IsAskedIn PUZZLES_OF.now (Text author ∷ [])) (λ u. asked PUZZLES_OF.now (Text author ∷ []) 3
+    (equals 1 0 ∷ []) puzzle_columns key_order _ (puzzles_of_is u).0 (puzzles_of_is u).1 (puzzles_of_is u).2
+    (puzzles_of_is u).3 refl)
 
 -- as the schema has it
 abbrev pub puzzles_there : Table
@@ -81,7 +86,8 @@ look_puzzle_is u = (refl, refl, (refl, refl))
 abbrev pub added_terms : List Term
 added_terms = lit Null ∷ col 0 0 ∷ col 0 1 ∷ col 0 2 ∷ col 0 3 ∷ col 0 4 ∷ []
 
-pub add_puzzle_is : (u : Wording) → (command_of (understood (hall_in u) ADD_PUZZLE.now) ≡ Insert 1 (Values added_terms 6))
+pub add_puzzle_is : (u : Wording) → (command_of (understood (hall_in u) ADD_PUZZLE.now) ≡ Insert 1
+    (Values added_terms 6))
     × IsPlain (understood (hall_in u) ADD_PUZZLE.now)
 unfolding understood everything
 add_puzzle_is u = (refl, (refl, refl))

@@ -19,7 +19,8 @@ use Rattle.hall_sql.proofs.FeedLemmas.{shown_since}
 use Rattle.hall_sql.proofs.WriteCauseLemmas.{cause_over, cause_served}
 
 -- after a query that was answered
-pub after_shown : {X : Type 0} (read : Row → Option X) (first : List ℕ) (given : Row) (sql : List ℕ) (params : Row) (a b c : State)
+pub after_shown : {X : Type 0} (read : Row → Option X) (first : List ℕ) (given : Row) (sql : List ℕ) (params : Row)
+    (a b c : State)
     → IsHallSchema a.now.schema → IsAsked first given → IsAsked sql params → a.faults ≤ b.faults
     → (rows : List Row) → Shown first given a b rows → ReadFails read sql params b c → ReadFails read sql params a c
 after_shown read first given sql params a b c has quiet plain counts rows shown fails = go fails
@@ -34,11 +35,18 @@ after_shown read first given sql params a b c has quiet plain counts rows shown 
 -- ---- row by row
 
 -- what an answer begins with is read off the tables alone
-begins_at : (sql : List ℕ) (params : Row) (a b : State) (rows : List Row) → a.now ≡ b.now → Begins sql params a rows → Begins sql params b rows
+begins_at : (sql : List ℕ) (params : Row) (a b : State) (rows : List Row) → a.now ≡ b.now → Begins sql params a rows
+    → Begins sql params b rows
 unfolding Begins
 begins_at sql params a b rows same h = (
   h.0,
-  record { is = subst (λ (d : Database). understood d.schema sql ≡ Ok h.0) same h.1.is; whole = h.1.whole; given = h.1.given; now = h.1.now },
+  record {
+    is = subst (λ (d : Database). understood d.schema sql ≡ Ok h.0) same h.1.is;
+    whole = h.1.whole;
+    given =
+        h.1.given;
+    now = h.1.now;
+  },
   h.2,
   h.3,
   subst (λ (d : Database). IsSourceOf (reads_listing d.schema sql) d h.3) same h.4,
@@ -46,16 +54,21 @@ begins_at sql params a b rows same h = (
 )
 
 -- a row that is not given, after those that the sink has taken
-pub feed_cause : {S K X : Type 0} (g : Ghosts S) (read : Row → Option X) (Takes : K → X → K → Type 0) (Refuses : K → X → Type 0) (sql : List ℕ)
-    (params : Row) → IsAsked sql params → (old : State) → IsHall old → (h next : Held S) (before sink : K) → LeadsConnection old (state g h)
-    → HasCleanDisk (state g h) → LeadsConnection (state g h) (state g next) → (taken : List X) → HasTaken Takes before taken sink
+pub feed_cause : {S K X : Type 0} (g : Ghosts S) (read : Row → Option X) (Takes : K → X → K → Type 0)
+    (Refuses : K → X → Type 0) (sql : List ℕ)
+    (params : Row) → IsAsked sql params → (old : State) → IsHall old → (h next : Held S) (before sink : K)
+    → LeadsConnection old (state g h)
+    → HasCleanDisk (state g h) → LeadsConnection (state g h) (state g next) → (taken : List X)
+    → HasTaken Takes before taken sink
     → HasRead g read sql params old h taken → StepFails g read Refuses h next sink
     → FeedFails read Takes Refuses sql params old (state g next) before sink
 feed_cause g read Takes Refuses sql params asks old hall h next before sink lasts clean more taken took so (inl it) =
     let was : HasCleanDisk old = omega (arith, lasts.clean, clean) in
-    let has : IsHallSchema (state g h).now.schema = subst (λ (d : Database). IsHallSchema d.schema) (sym so.same.0.now_is) (hall.settled was so.same.0.was_open).1 in
+    let has : IsHallSchema (state g h).now.schema = subst (λ (d : Database). IsHallSchema d.schema)
+    (sym so.same.0.now_is) (hall.settled was so.same.0.was_open).1 in
     inl (cause_over old (state g h) (state g next) lasts clean more
-    (open_cause sql params (state g h) (state g next) it.0 (asks (state g h).now.schema has) (lasts.limit ∙ hall.unlimited) it.1 refl (it.2 sql params so.rows so.given)))
+    (open_cause sql params (state g h) (state g next) it.0 (asks (state g h).now.schema has)
+    (lasts.limit ∙ hall.unlimited) it.1 refl (it.2 sql params so.rows so.given)))
 feed_cause g read Takes Refuses sql params asks old hall h next before sink lasts clean more taken took so (inr it) =
     let row = it.1 in
     let same = unchanged_then old (state g h) (state g next) so.same it.0 in

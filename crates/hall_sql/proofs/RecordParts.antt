@@ -4,7 +4,8 @@ use Rattle.sqlite.specs.Order.{Row}
 use Rattle.sqlite_value.specs.Order.{column}
 use Rattle.hall_grid.specs.Board.{Board}
 use Rattle.hall_grid.specs.FormReading.{◌>>=◌}
-use Rattle.hall_policy.specs.Limits.{last_second, most_answers, most_minutes, most_number, most_points, most_protest_minutes}
+use Rattle.hall_policy.specs.Limits.{last_second, most_answers, most_minutes, most_number, most_points}
+use Rattle.hall_policy.specs.Limits.{most_protest_minutes}
 use Rattle.hall_policy.specs.Text.{as_title, as_answer, as_protest_text}
 use Rattle.hall_policy.specs.declared.record.AnswerRow.{AnswerRow}
 use Rattle.hall_policy.specs.declared.record.Entry.{Entry}
@@ -18,7 +19,8 @@ use Rattle.hall_policy.specs.declared.record.Roles.{Roles}
 use Rattle.hall_policy.specs.declared.record.Round.{Round}
 use Rattle.hall_policy.specs.declared.record.Ruling.{Ruling}
 use Rattle.hall_policy.specs.declared.record.TesterKey.{TesterKey}
-use Rattle.hall_sql.specs.Values.{kind_in, within, name_in, token_in, key_in, roles_in, puzzle_in, state_in, mode_in, flag_in, ruling_in, verdict_in}
+use Rattle.hall_sql.specs.Values.{kind_in, within, name_in, token_in, key_in, roles_in, puzzle_in, state_in, mode_in}
+use Rattle.hall_sql.specs.Values.{flag_in, ruling_in, verdict_in}
 use Rattle.hall_sql.specs.Rows.{person_in, puzzle_row_in, round_in, place_in, tester_in, answer_in, protest_in}
 
 pub record PersonParts (it : Person) (a : Option (List ℕ)) (b : Option (List ℕ)) (c : Option Roles) : Type 0 where
@@ -44,20 +46,29 @@ person_parts_of (Some a) (Some b) (Some c) it is =
     }
 
 -- a row that is read as this one has its parts in the columns
-pub person_parts : (row : Row) (it : Person) → person_in row ≡ Some it → PersonParts it (name_in (column row 0)) (key_in (column row 1)) (roles_in (column row 2))
-person_parts row it is = person_parts_of (name_in (column row 0)) (key_in (column row 1)) (roles_in (column row 2)) it is
+pub person_parts : (row : Row) (it : Person) → person_in row ≡ Some it
+    → PersonParts it (name_in (column row 0)) (key_in (column row 1)) (roles_in (column row 2))
+person_parts row it is = person_parts_of (name_in (column row 0)) (key_in (column row 1)) (roles_in (column row 2)) it
+    is
 
-pub record PuzzleParts (it : PuzzleRow) (a : Option (List ℕ)) (b : Option (List ℕ)) (c : Option Board) (d : Option PuzzleState) : Type 0 where
+pub record PuzzleParts (it : PuzzleRow) (a : Option (List ℕ)) (b : Option (List ℕ)) (c : Option Board)
+    (d : Option PuzzleState) : Type 0 where
   pub author : a ≡ Some it.key.author
   pub label : b ≡ Some it.key.label
   pub puzzle : c ≡ Some it.puzzle
   pub state : d ≡ Some it.state
 
 abbrev puzzle_of_parts : List ℕ → List ℕ → Board → PuzzleState → PuzzleRow
-puzzle_of_parts author label puzzle state = record { key = record { author = author; label = label }; puzzle = puzzle; state = state }
+puzzle_of_parts author label puzzle state = record {
+  key = record { author = author; label = label };
+  puzzle = puzzle;
+  state = state;
+}
 
-pub puzzle_parts_of : (a : Option (List ℕ)) (b : Option (List ℕ)) (c : Option Board) (d : Option PuzzleState) (it : PuzzleRow)
-    → (a >>= (λ author. b >>= (λ label. c >>= (λ puzzle. d >>= (λ state. Some (puzzle_of_parts author label puzzle state)))))) ≡ Some it
+pub puzzle_parts_of : (a : Option (List ℕ)) (b : Option (List ℕ)) (c : Option Board) (d : Option PuzzleState)
+    (it : PuzzleRow)
+    → (a >>= (λ author. b >>= (λ label. c >>= (λ puzzle. d >>=
+    (λ state. Some (puzzle_of_parts author label puzzle state)))))) ≡ Some it
     → PuzzleParts it a b c d
 puzzle_parts_of None b c d it is = absurd cc
 puzzle_parts_of (Some a) None c d it is = absurd cc
@@ -73,26 +84,48 @@ puzzle_parts_of (Some a) (Some b) (Some c) (Some d) it is =
     }
 
 -- a row that is read as this one has its parts in the columns
-pub puzzle_parts : (row : Row) (it : PuzzleRow) → puzzle_row_in row ≡ Some it → PuzzleParts it (name_in (column row 0)) (name_in (column row 1)) (puzzle_in (column row 2)) (state_in (column row 3) (column row 4))
-puzzle_parts row it is = puzzle_parts_of (name_in (column row 0)) (name_in (column row 1)) (puzzle_in (column row 2)) (state_in (column row 3) (column row 4)) it is
+pub puzzle_parts : (row : Row) (it : PuzzleRow) → puzzle_row_in row ≡ Some it
+    → PuzzleParts it (name_in (column row 0)) (name_in (column row 1)) (puzzle_in (column row 2))
+    (state_in (column row 3) (column row 4))
+puzzle_parts row it is = puzzle_parts_of (name_in (column row 0)) (name_in (column row 1)) (puzzle_in (column row 2))
+    (state_in (column row 3) (column row 4)) it is
 
-pub record RoundParts (it : Round) (a : Option (List ℕ)) (b : Option (List ℕ)) (c : Option ℕ) (d : Option ℕ) (e : Option ℕ) (f : Option mode.Mode) (g : Option ℕ) (h : Option ℕ) (i : Option Bool) (j : Option Bool) : Type 0 where
-  pub id : a ≡ Some it.id
-  pub title : b ≡ Some it.title
-  pub start : c ≡ Some it.start
-  pub minutes : d ≡ Some it.minutes
-  pub protest_minutes : e ≡ Some it.protest_minutes
-  pub mode : f ≡ Some it.mode
-  pub penalty : g ≡ Some it.penalty
-  pub bonus : h ≡ Some it.bonus
-  pub released : i ≡ Some it.released
-  pub published : j ≡ Some it.published
+pub record RoundParts (it : Round) (a : Option (List ℕ)) (b : Option (List ℕ)) (c : Option ℕ) (d : Option ℕ)
+    (e : Option ℕ) (f : Option mode.Mode) (g : Option ℕ) (h : Option ℕ) (i : Option Bool) (j : Option Bool) : Type 0
+  where
+    pub id : a ≡ Some it.id
+    pub title : b ≡ Some it.title
+    pub start : c ≡ Some it.start
+    pub minutes : d ≡ Some it.minutes
+    pub protest_minutes : e ≡ Some it.protest_minutes
+    pub mode : f ≡ Some it.mode
+    pub penalty : g ≡ Some it.penalty
+    pub bonus : h ≡ Some it.bonus
+    pub released : i ≡ Some it.released
+    pub published : j ≡ Some it.published
 
 abbrev round_of_parts : List ℕ → List ℕ → ℕ → ℕ → ℕ → mode.Mode → ℕ → ℕ → Bool → Bool → Round
-round_of_parts id title start minutes protest_minutes how penalty bonus released published = record { id = id; title = title; start = start; minutes = minutes; protest_minutes = protest_minutes; mode = how; penalty = penalty; bonus = bonus; released = released; published = published }
+round_of_parts id title start minutes protest_minutes how penalty bonus released published =
+    record {
+      id = id;
+      title = title;
+      start = start;
+      minutes = minutes;
+      protest_minutes = protest_minutes;
+      mode = how;
+      penalty = penalty;
+      bonus = bonus;
+      released = released;
+      published = published;
+    }
 
-pub round_parts_of : (a : Option (List ℕ)) (b : Option (List ℕ)) (c : Option ℕ) (d : Option ℕ) (e : Option ℕ) (f : Option mode.Mode) (g : Option ℕ) (h : Option ℕ) (i : Option Bool) (j : Option Bool) (it : Round)
-    → (a >>= (λ id. b >>= (λ title. c >>= (λ start. d >>= (λ minutes. e >>= (λ protest_minutes. f >>= (λ how. g >>= (λ penalty. h >>= (λ bonus. i >>= (λ released. j >>= (λ published. Some (round_of_parts id title start minutes protest_minutes how penalty bonus released published)))))))))))) ≡ Some it
+pub round_parts_of : (a : Option (List ℕ)) (b : Option (List ℕ)) (c : Option ℕ) (d : Option ℕ) (e : Option ℕ)
+    (f : Option mode.Mode) (g : Option ℕ) (h : Option ℕ) (i : Option Bool) (j : Option Bool) (it : Round)
+    → (a >>= (λ id. b >>= (λ title. c >>= (λ start. d >>= (λ minutes. e >>=
+    (λ protest_minutes. f >>= (λ how. g >>= (λ penalty. h >>=
+    (λ bonus. i >>= (λ released. j >>= (λ published. Some
+    (round_of_parts id title start minutes protest_minutes how penalty bonus released published)))))))))))) ≡ Some
+    it
     → RoundParts it a b c d e f g h i j
 round_parts_of None b c d e f g h i j it is = absurd cc
 round_parts_of (Some a) None c d e f g h i j it is = absurd cc
@@ -120,10 +153,18 @@ round_parts_of (Some a) (Some b) (Some c) (Some d) (Some e) (Some f) (Some g) (S
     }
 
 -- a row that is read as this one has its parts in the columns
-pub round_parts : (row : Row) (it : Round) → round_in row ≡ Some it → RoundParts it (name_in (column row 0)) (as_title kind_in (column row 1)) (within 0 last_second (column row 2)) (within 1 most_minutes (column row 3)) (within 0 most_protest_minutes (column row 4)) (mode_in (column row 5)) (within 0 most_points (column row 6)) (within 0 most_points (column row 7)) (flag_in (column row 8)) (flag_in (column row 9))
-round_parts row it is = round_parts_of (name_in (column row 0)) (as_title kind_in (column row 1)) (within 0 last_second (column row 2)) (within 1 most_minutes (column row 3)) (within 0 most_protest_minutes (column row 4)) (mode_in (column row 5)) (within 0 most_points (column row 6)) (within 0 most_points (column row 7)) (flag_in (column row 8)) (flag_in (column row 9)) it is
+pub round_parts : (row : Row) (it : Round) → round_in row ≡ Some it
+    → RoundParts it (name_in (column row 0)) (as_title kind_in (column row 1)) (within 0 last_second (column row 2))
+    (within 1 most_minutes (column row 3)) (within 0 most_protest_minutes (column row 4)) (mode_in (column row 5))
+    (within 0 most_points (column row 6)) (within 0 most_points (column row 7)) (flag_in (column row 8))
+    (flag_in (column row 9))
+round_parts row it is = round_parts_of (name_in (column row 0)) (as_title kind_in (column row 1))
+    (within 0 last_second (column row 2)) (within 1 most_minutes (column row 3))
+    (within 0 most_protest_minutes (column row 4)) (mode_in (column row 5)) (within 0 most_points (column row 6))
+    (within 0 most_points (column row 7)) (flag_in (column row 8)) (flag_in (column row 9)) it is
 
-pub record PlaceParts (it : PlaceKey × Entry) (a : Option (List ℕ)) (b : Option ℕ) (c : Option (List ℕ)) (d : Option (List ℕ)) (e : Option ℕ) : Type 0 where
+pub record PlaceParts (it : PlaceKey × Entry) (a : Option (List ℕ)) (b : Option ℕ) (c : Option (List ℕ))
+    (d : Option (List ℕ)) (e : Option ℕ) : Type 0 where
   pub round : a ≡ Some it.0.round
   pub number : b ≡ Some it.0.number
   pub author : c ≡ Some it.1.puzzle.author
@@ -131,10 +172,15 @@ pub record PlaceParts (it : PlaceKey × Entry) (a : Option (List ℕ)) (b : Opti
   pub points : e ≡ Some it.1.points
 
 abbrev place_of_parts : List ℕ → ℕ → List ℕ → List ℕ → ℕ → PlaceKey × Entry
-place_of_parts round number author label points = (record { round = round; number = number }, record { puzzle = record { author = author; label = label }; points = points })
+place_of_parts round number author label points = (
+  record { round = round; number = number },
+  record { puzzle = record { author = author; label = label }; points = points },
+)
 
-pub place_parts_of : (a : Option (List ℕ)) (b : Option ℕ) (c : Option (List ℕ)) (d : Option (List ℕ)) (e : Option ℕ) (it : PlaceKey × Entry)
-    → (a >>= (λ round. b >>= (λ number. c >>= (λ author. d >>= (λ label. e >>= (λ points. Some (place_of_parts round number author label points))))))) ≡ Some it
+pub place_parts_of : (a : Option (List ℕ)) (b : Option ℕ) (c : Option (List ℕ)) (d : Option (List ℕ)) (e : Option ℕ)
+    (it : PlaceKey × Entry)
+    → (a >>= (λ round. b >>= (λ number. c >>= (λ author. d >>=
+    (λ label. e >>= (λ points. Some (place_of_parts round number author label points))))))) ≡ Some it
     → PlaceParts it a b c d e
 place_parts_of None b c d e it is = absurd cc
 place_parts_of (Some a) None c d e it is = absurd cc
@@ -152,8 +198,11 @@ place_parts_of (Some a) (Some b) (Some c) (Some d) (Some e) it is =
     }
 
 -- a row that is read as this one has its parts in the columns
-pub place_parts : (row : Row) (it : PlaceKey × Entry) → place_in row ≡ Some it → PlaceParts it (name_in (column row 0)) (within 1 most_number (column row 1)) (name_in (column row 2)) (name_in (column row 3)) (within 1 most_points (column row 4))
-place_parts row it is = place_parts_of (name_in (column row 0)) (within 1 most_number (column row 1)) (name_in (column row 2)) (name_in (column row 3)) (within 1 most_points (column row 4)) it is
+pub place_parts : (row : Row) (it : PlaceKey × Entry) → place_in row ≡ Some it
+    → PlaceParts it (name_in (column row 0)) (within 1 most_number (column row 1)) (name_in (column row 2))
+    (name_in (column row 3)) (within 1 most_points (column row 4))
+place_parts row it is = place_parts_of (name_in (column row 0)) (within 1 most_number (column row 1))
+    (name_in (column row 2)) (name_in (column row 3)) (within 1 most_points (column row 4)) it is
 
 pub record TesterParts (it : TesterKey × Unit {0}) (a : Option (List ℕ)) (b : Option (List ℕ)) : Type 0 where
   pub round : a ≡ Some it.0.round
@@ -175,10 +224,12 @@ tester_parts_of (Some a) (Some b) it is =
     }
 
 -- a row that is read as this one has its parts in the columns
-pub tester_parts : (row : Row) (it : TesterKey × Unit {0}) → tester_in row ≡ Some it → TesterParts it (name_in (column row 0)) (name_in (column row 1))
+pub tester_parts : (row : Row) (it : TesterKey × Unit {0}) → tester_in row ≡ Some it
+    → TesterParts it (name_in (column row 0)) (name_in (column row 1))
 tester_parts row it is = tester_parts_of (name_in (column row 0)) (name_in (column row 1)) it is
 
-pub record AnswerParts (it : AnswerRow) (a : Option (List ℕ)) (b : Option (List ℕ)) (c : Option ℕ) (d : Option (List ℕ)) (e : Option ℕ) (f : Option ℕ) (g : Option (List ℕ)) (h : Option ℕ) : Type 0 where
+pub record AnswerParts (it : AnswerRow) (a : Option (List ℕ)) (b : Option (List ℕ)) (c : Option ℕ) (d : Option (List ℕ))
+    (e : Option ℕ) (f : Option ℕ) (g : Option (List ℕ)) (h : Option ℕ) : Type 0 where
   pub entrant : a ≡ Some it.key.entrant
   pub round : b ≡ Some it.key.round
   pub number : c ≡ Some it.key.number
@@ -189,10 +240,20 @@ pub record AnswerParts (it : AnswerRow) (a : Option (List ℕ)) (b : Option (Lis
   pub verdict : h ≡ Some it.verdict
 
 abbrev answer_of_parts : List ℕ → List ℕ → ℕ → List ℕ → ℕ → ℕ → List ℕ → ℕ → AnswerRow
-answer_of_parts entrant round number token n moment answer verdict = record { key = record { entrant = entrant; round = round; number = number; token = token }; n = n; moment = moment; answer = answer; verdict = verdict }
+answer_of_parts entrant round number token n moment answer verdict =
+    record {
+      key = record { entrant = entrant; round = round; number = number; token = token };
+      n = n;
+      moment = moment;
+      answer = answer;
+      verdict = verdict;
+    }
 
-pub answer_parts_of : (a : Option (List ℕ)) (b : Option (List ℕ)) (c : Option ℕ) (d : Option (List ℕ)) (e : Option ℕ) (f : Option ℕ) (g : Option (List ℕ)) (h : Option ℕ) (it : AnswerRow)
-    → (a >>= (λ entrant. b >>= (λ round. c >>= (λ number. d >>= (λ token. e >>= (λ n. f >>= (λ moment. g >>= (λ answer. h >>= (λ verdict. Some (answer_of_parts entrant round number token n moment answer verdict)))))))))) ≡ Some it
+pub answer_parts_of : (a : Option (List ℕ)) (b : Option (List ℕ)) (c : Option ℕ) (d : Option (List ℕ)) (e : Option ℕ)
+    (f : Option ℕ) (g : Option (List ℕ)) (h : Option ℕ) (it : AnswerRow)
+    → (a >>= (λ entrant. b >>= (λ round. c >>= (λ number. d >>=
+    (λ token. e >>= (λ n. f >>= (λ moment. g >>= (λ answer. h >>=
+    (λ verdict. Some (answer_of_parts entrant round number token n moment answer verdict)))))))))) ≡ Some it
     → AnswerParts it a b c d e f g h
 answer_parts_of None b c d e f g h it is = absurd cc
 answer_parts_of (Some a) None c d e f g h it is = absurd cc
@@ -216,10 +277,16 @@ answer_parts_of (Some a) (Some b) (Some c) (Some d) (Some e) (Some f) (Some g) (
     }
 
 -- a row that is read as this one has its parts in the columns
-pub answer_parts : (row : Row) (it : AnswerRow) → answer_in row ≡ Some it → AnswerParts it (name_in (column row 0)) (name_in (column row 1)) (within 1 most_number (column row 2)) (token_in (column row 3)) (within 1 most_answers (column row 4)) (within 0 last_second (column row 5)) (as_answer kind_in (column row 6)) (verdict_in (column row 7))
-answer_parts row it is = answer_parts_of (name_in (column row 0)) (name_in (column row 1)) (within 1 most_number (column row 2)) (token_in (column row 3)) (within 1 most_answers (column row 4)) (within 0 last_second (column row 5)) (as_answer kind_in (column row 6)) (verdict_in (column row 7)) it is
+pub answer_parts : (row : Row) (it : AnswerRow) → answer_in row ≡ Some it
+    → AnswerParts it (name_in (column row 0)) (name_in (column row 1)) (within 1 most_number (column row 2))
+    (token_in (column row 3)) (within 1 most_answers (column row 4)) (within 0 last_second (column row 5))
+    (as_answer kind_in (column row 6)) (verdict_in (column row 7))
+answer_parts row it is = answer_parts_of (name_in (column row 0)) (name_in (column row 1))
+    (within 1 most_number (column row 2)) (token_in (column row 3)) (within 1 most_answers (column row 4))
+    (within 0 last_second (column row 5)) (as_answer kind_in (column row 6)) (verdict_in (column row 7)) it is
 
-pub record ProtestParts (it : ProtestRow) (a : Option (List ℕ)) (b : Option (List ℕ)) (c : Option (List ℕ)) (d : Option ℕ) (e : Option (List ℕ)) (f : Option (Option Ruling)) : Type 0 where
+pub record ProtestParts (it : ProtestRow) (a : Option (List ℕ)) (b : Option (List ℕ)) (c : Option (List ℕ))
+    (d : Option ℕ) (e : Option (List ℕ)) (f : Option (Option Ruling)) : Type 0 where
   pub entrant : a ≡ Some it.key.entrant
   pub round : b ≡ Some it.key.round
   pub token : c ≡ Some it.key.token
@@ -228,10 +295,19 @@ pub record ProtestParts (it : ProtestRow) (a : Option (List ℕ)) (b : Option (L
   pub ruling : f ≡ Some it.ruling
 
 abbrev protest_of_parts : List ℕ → List ℕ → List ℕ → ℕ → List ℕ → Option Ruling → ProtestRow
-protest_of_parts entrant round token number text ruling = record { key = record { entrant = entrant; round = round; token = token }; number = number; text = text; ruling = ruling }
+protest_of_parts entrant round token number text ruling = record {
+  key =
+      record { entrant = entrant; round = round; token = token };
+  number = number;
+  text = text;
+  ruling = ruling;
+}
 
-pub protest_parts_of : (a : Option (List ℕ)) (b : Option (List ℕ)) (c : Option (List ℕ)) (d : Option ℕ) (e : Option (List ℕ)) (f : Option (Option Ruling)) (it : ProtestRow)
-    → (a >>= (λ entrant. b >>= (λ round. c >>= (λ token. d >>= (λ number. e >>= (λ text. f >>= (λ ruling. Some (protest_of_parts entrant round token number text ruling)))))))) ≡ Some it
+pub protest_parts_of : (a : Option (List ℕ)) (b : Option (List ℕ)) (c : Option (List ℕ)) (d : Option ℕ)
+    (e : Option (List ℕ)) (f : Option (Option Ruling)) (it : ProtestRow)
+    → (a >>= (λ entrant. b >>= (λ round. c >>= (λ token. d >>=
+    (λ number. e >>= (λ text. f >>= (λ ruling. Some (protest_of_parts entrant round token number text ruling))))))))
+    ≡ Some it
     → ProtestParts it a b c d e f
 protest_parts_of None b c d e f it is = absurd cc
 protest_parts_of (Some a) None c d e f it is = absurd cc
@@ -251,5 +327,10 @@ protest_parts_of (Some a) (Some b) (Some c) (Some d) (Some e) (Some f) it is =
     }
 
 -- a row that is read as this one has its parts in the columns
-pub protest_parts : (row : Row) (it : ProtestRow) → protest_in row ≡ Some it → ProtestParts it (name_in (column row 0)) (name_in (column row 1)) (token_in (column row 2)) (within 1 most_number (column row 3)) (as_protest_text kind_in (column row 4)) (ruling_in (column row 5) (column row 6))
-protest_parts row it is = protest_parts_of (name_in (column row 0)) (name_in (column row 1)) (token_in (column row 2)) (within 1 most_number (column row 3)) (as_protest_text kind_in (column row 4)) (ruling_in (column row 5) (column row 6)) it is
+pub protest_parts : (row : Row) (it : ProtestRow) → protest_in row ≡ Some it
+    → ProtestParts it (name_in (column row 0)) (name_in (column row 1)) (token_in (column row 2))
+    (within 1 most_number (column row 3)) (as_protest_text kind_in (column row 4))
+    (ruling_in (column row 5) (column row 6))
+protest_parts row it is = protest_parts_of (name_in (column row 0)) (name_in (column row 1)) (token_in (column row 2))
+    (within 1 most_number (column row 3)) (as_protest_text kind_in (column row 4))
+    (ruling_in (column row 5) (column row 6)) it is

@@ -1,12 +1,14 @@
 -- The values of a table's map stand in the order of their keys, and rows in that order are these values.
-use Rattle.std.proofs.Common.{◌≡◌, add-one, suc, length, List, [], ◌∷◌, ◌++◌, filter, flat_map, Bool, true, false, not, Option, Some, None, refl, sym, ap, ap₂, subst, ◌∙◌, arith}
+use Rattle.std.proofs.Common.{◌≡◌, add-one, suc, length, List, [], ◌∷◌, ◌++◌, filter, flat_map, Bool, true, false, not}
+use Rattle.std.proofs.Common.{Option, Some, None, refl, sym, ap, ap₂, subst, ◌∙◌, arith}
 use Rattle.std.specs.Cmp.{IsTotalOrder}
 use Rattle.std.specs.declared.cmp.Ordering.{Ordering}
 use Rattle.std.specs.declared.cmp.Ordering.TheVariants.{Less, Equal, Greater}
 use Rattle.std.specs.List.{AllByRecursion}
 use Rattle.std.specs.List.Sorted.{IsPermutation, IsSorted, IsStrictlySortedBy}
 use Rattle.std.specs.Map.{keys_of, values_of}
-use Rattle.std.specs.FinMap.{IsAntisymmetric, entries, values, from_entries, empty, put, entries-insert, entries_sorted, len-empty, len-entries}
+use Rattle.std.specs.FinMap.{IsAntisymmetric, entries, values, from_entries, empty, put, entries-insert, entries_sorted}
+use Rattle.std.specs.FinMap.{len-empty, len-entries}
 use Rattle.std.specs.FinMap.Entries.{by_order}
 use Rattle.std.specs.Ordering.{is_lt, is_gt, ordering_reverse}
 use Rattle.std.proofs.lemmas.Cmp.{on_total, tied_itself, upto, alike_right}
@@ -37,7 +39,8 @@ module _ {X : Type 0} (cmp : X → X → Ordering) (total : IsTotalOrder cmp) wh
   pub ascending : (xs : List X) → IsSorted cmp xs → IsAscending AtMost xs
   ascending [] sorted = tt
   ascending (x ∷ xs) sorted =
-      let tail : IsSorted cmp xs = λ k d p q. rw add-one (rw add-one at (sorted (suc k) d (omega arith) (omega arith))) in
+      let tail : IsSorted cmp xs = λ k d p q. rw add-one (rw add-one at
+      (sorted (suc k) d (omega arith) (omega arith))) in
       let up = ascending xs tail in
       (least x xs sorted up, up)
 
@@ -64,7 +67,12 @@ module _ {X : Type 0} (cmp : X → X → Ordering) (total : IsTotalOrder cmp) wh
       go false e more = rw e (ap (λ l. y ∷ l) more)
       go true e more =
           let all = all_weaker _ (λ z. above x z ≡ true) (λ z. still_above x y z e) ys up.0 in
-          rw (e, filter_none _ ys (all_weaker _ (λ z. not (above x z) ≡ false) (λ z h. ap not h) ys all), filter_all _ ys all)
+          rw (
+            e,
+            filter_none _ ys (all_weaker _ (λ z. not (above x z) ≡ false) (λ z h. ap not h) ys all),
+            filter_all _
+                ys all,
+          )
 
   one : (x : X) (ys : List X) → IsPermutation (x ∷ []) ys → ys ≡ x ∷ []
   one x [] same = absurd (omega (arith, length_permutation _ _ same))
@@ -118,7 +126,8 @@ module _ {K X : Type 0} {R : K → K → Ordering} (total : IsTotalOrder R) (sam
       none (x ∷ es) e = absurd (omega (arith, e))
   own_made (e ∷ es) own =
       subst AreOwn (sym (entries-insert total (from_entries es) e.0 e.1))
-      (subst (λ k. AreOwn (put R k e.1 (entries (from_entries {R = R} es)))) (sym own.0) (own_put e.1 _ (own_made es own.1)))
+      (subst (λ k. AreOwn (put R k e.1 (entries (from_entries {R = R} es)))) (sym own.0)
+      (own_put e.1 _ (own_made es own.1)))
 
   abbrev by_key : X → X → Ordering
   by_key a b = R (key a) (key b)

@@ -35,7 +35,8 @@ pub id_column : (r : Row) (row : Round) → round_of_row r ≡ Some row → colu
 id_column r row is =
     kind_column 1 24 is_word_byte (column r 1) row.id
     (round_parts_of (name_in (column r 1)) (kind_in 1 60 is_printable (column r 2)) (within 0 last_second (column r 3))
-    (within 1 most_minutes (column r 4)) (within 0 most_protest_minutes (column r 5)) (mode_in (column r 6)) (within 0 most_points (column r 7))
+    (within 1 most_minutes (column r 4)) (within 0 most_protest_minutes (column r 5)) (mode_in (column r 6))
+    (within 0 most_points (column r 7))
     (within 0 most_points (column r 8)) (flag_in (column r 9)) (flag_in (column r 10)) row is).id
 
 -- two rows of one id agree on the column of the primary key
@@ -45,7 +46,8 @@ unfolding first_key
 agreeing r y x z p q e = rw (id_column r x p, id_column y z q, equal_texts z.id x.id (sym e))
 
 -- the table's records are the world's rounds, each once
-rounds_listed : {schema : Schema} → IsVersion schema → (db : Trees) → AreKeyed (db 5) → IsDatabase (record { schema = schema; trees = db })
+rounds_listed : {schema : Schema} → IsVersion schema → (db : Trees) → AreKeyed (db 5)
+    → IsDatabase (record { schema = schema; trees = db })
     → IsPermutation (flat_map (λ r. option_to_list (round_of_row r)) (db 5)) (values (world_of db).rounds)
 rounds_listed {schema} version db keyed sound =
     let rule = unique_in schema Rounds db version sound in
@@ -58,11 +60,15 @@ same_order : (a b : Row) (x y : Round) → round_of_row a ≡ Some x → round_o
 same_order a b x y p q =
     rw (id_column a x p, id_column b y q, value_cmp-Text x.id y.id, then-Equal (text_cmp x.id y.id))
 
-pub all_rounds_listed : (schema : Schema) → IsVersion schema → (old new : State) → old.now.schema ≡ schema → AreKeyedIn schema old.now.trees
-    → IsDatabase old.now → (rows : List Row) (out : List Round) → map round_in rows ≡ map Some out → Shown ALL_ROUNDS.now [] old new rows
+pub all_rounds_listed : (schema : Schema) → IsVersion schema → (old new : State) → old.now.schema ≡ schema
+    → AreKeyedIn schema old.now.trees
+    → IsDatabase old.now → (rows : List Row) (out : List Round) → map round_in rows ≡ map Some out
+    → Shown ALL_ROUNDS.now [] old new rows
     → out ≡ values (world_of old.now.trees).rounds
 all_rounds_listed schema version old new has keyed sound =
     let db = old.now.trees in
-    let whole = rounds_listed version db (keyed_in schema Rounds db version keyed) (subst (λ s. IsDatabase (record { schema = s; trees = db })) has sound) in
-    all_listed (all_rounds_are schema version) text_total same_texts (λ (round : Round). round.id) round_in 10 (λ db. refl) (λ r. refl)
+    let whole = rounds_listed version db (keyed_in schema Rounds db version keyed)
+    (subst (λ s. IsDatabase (record { schema = s; trees = db })) has sound) in
+    all_listed (all_rounds_are schema version) text_total same_texts (λ (round : Round). round.id) round_in 10
+    (λ db. refl) (λ r. refl)
     same_order old new has whole

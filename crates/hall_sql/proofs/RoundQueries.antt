@@ -40,7 +40,9 @@ places_with_is u = (refl, refl, (refl, refl), refl)
 
 pub places_with_asked : (author label : List ℕ) → IsAsked PLACES_WITH.now (Text author ∷ Text label ∷ [])
 places_with_asked author label =
-    by_hall (IsAskedIn PLACES_WITH.now (Text author ∷ Text label ∷ [])) (λ u. asked PLACES_WITH.now (Text author ∷ Text label ∷ []) 7 puzzle_terms place_columns round_order _ (places_with_is u).0 (places_with_is u).1 (places_with_is u).2 (places_with_is u).3 refl)
+    by_hall (IsAskedIn PLACES_WITH.now (Text author ∷ Text label ∷ []))
+    (λ u. asked PLACES_WITH.now (Text author ∷ Text label ∷ []) 7 puzzle_terms place_columns round_order _
+    (places_with_is u).0 (places_with_is u).1 (places_with_is u).2 (places_with_is u).3 refl)
 
 -- id = ?1, or round = ?1
 abbrev pub first_terms : List Term
@@ -59,13 +61,15 @@ places_of_is u = (refl, refl, (refl, refl), refl)
 
 pub places_of_asked : (id : List ℕ) → IsAsked PLACES_OF.now (Text id ∷ [])
 places_of_asked id =
-    by_hall (IsAskedIn PLACES_OF.now (Text id ∷ [])) (λ u. asked PLACES_OF.now (Text id ∷ []) 7 first_terms place_columns number_order _ (places_of_is u).0 (places_of_is u).1 (places_of_is u).2 (places_of_is u).3 refl)
+    by_hall (IsAskedIn PLACES_OF.now (Text id ∷ [])) (λ u. asked PLACES_OF.now (Text id ∷ []) 7 first_terms
+    place_columns number_order _ (places_of_is u).0 (places_of_is u).1 (places_of_is u).2 (places_of_is u).3 refl)
 
 -- the order of places: round, number
 abbrev pub place_order : List (Term × Key)
 place_order = (col 1 1, rising) ∷ (col 1 2, rising) ∷ []
 
-pub all_places_are : (schema : Schema) → IsVersion schema → AsksAll ALL_PLACES.now 7 place_columns place_order place_names schema
+pub all_places_are : (schema : Schema) → IsVersion schema → AsksAll ALL_PLACES.now 7 place_columns place_order
+    place_names schema
 unfolding understood everything
 all_places_are =
     by_version (AsksAll ALL_PLACES.now 7 place_columns place_order place_names)

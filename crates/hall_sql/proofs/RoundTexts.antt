@@ -22,7 +22,8 @@ round_names = names_of Rounds
 abbrev pub id_order : List (Term × Key)
 id_order = (col 1 1, rising) ∷ []
 
-pub all_rounds_are : (schema : Schema) → IsVersion schema → AsksAll ALL_ROUNDS.now 5 round_columns id_order round_names schema
+pub all_rounds_are : (schema : Schema) → IsVersion schema → AsksAll ALL_ROUNDS.now 5 round_columns id_order round_names
+    schema
 unfolding understood everything
 all_rounds_are =
     by_version (AsksAll ALL_ROUNDS.now 5 round_columns id_order round_names)

@@ -15,7 +15,12 @@ use Rattle.hall_sql.proofs.WriteCauseLemmas.{cause_over}
 
 -- tables that rest are still of the version
 pub rests_any : (old new : State) → IsAnyHall old → KeptAnyTables old new → IsAnyHall new
-rests_any old new hall rested = record { schema = hall.schema; tabled = (rested hall.schema hall.tabled).tabled; fits = hall.fits }
+rests_any old new hall rested = record {
+  schema = hall.schema;
+  tabled = (rested hall.schema hall.tabled).tabled;
+  fits =
+      hall.fits;
+}
 
 -- they rest twice
 pub rests_twice : (old mid new : State) → KeptAnyTables old mid → KeptAnyTables mid new → KeptAnyTables old new
@@ -46,7 +51,8 @@ fails_first tree old new part (inl cause) = inl cause
 fails_first tree old new part (inr unread) = inr (λ all. unread (part all))
 
 -- or at one after others
-pub fails_next : (tree : ℕ) (old mid new : State) → IsAnyHall old → KeptAnyTables old mid → KeptAnyTables mid new → HasCleanDisk new
+pub fails_next : (tree : ℕ) (old mid new : State) → IsAnyHall old → KeptAnyTables old mid → KeptAnyTables mid new
+    → HasCleanDisk new
     → (HasCleanDisk mid → IsTrue mid.is_open) → (AreAllRead old_schema old.now.trees → IsRead old.now.trees tree)
     → (HasCleanDisk mid → IsStoreCause mid new ⊎ (¬ IsRead mid.now.trees tree)) → TablesFail old_schema old new
 fails_next tree old mid new hall first second clean opens part why =
@@ -55,5 +61,6 @@ fails_next tree old mid new hall first second clean opens part why =
     let was : HasCleanDisk mid = omega (arith, two.follows.lasts.clean, clean) in
     elim (why was) [
       | inl cause ↦ inl (cause_over old mid new one.follows.lasts was two.follows.lasts cause)
-      | inr unread ↦ inr (λ all. unread (subst (λ (d : Database). IsRead d.trees tree) (sym (one.same was (opens was))) (part all)))
+      | inr unread ↦ inr (λ all. unread (subst (λ (d : Database). IsRead d.trees tree) (sym (one.same was (opens was)))
+          (part all)))
     ]

@@ -1,5 +1,6 @@
 -- What the query for the testers of a round says of the world.
-use Rattle.std.proofs.Common.{◌≡◌, ◌↔◌, ◌==◌, ℕ, List, [], ◌∷◌, length, map, flat_map, Bool, true, false, not, Some, option_to_list, Contains, refl, sym, ap, ap₂, subst, ◌∙◌, arith}
+use Rattle.std.proofs.Common.{◌≡◌, ◌↔◌, ◌==◌, ℕ, List, [], ◌∷◌, length, map, flat_map, Bool, true, false, not, Some}
+use Rattle.std.proofs.Common.{option_to_list, Contains, refl, sym, ap, ap₂, subst, ◌∙◌, arith}
 use Rattle.std.proofs.lemmas.Bool.Decides.{nat_tests}
 use Rattle.std.proofs.lemmas.Cmp.{tied_itself}
 use Rattle.std.proofs.lemmas.Map.Keys.{IsDistinct-from_sorted}
@@ -42,7 +43,8 @@ use Rattle.hall_sql.proofs.ColumnLemmas.{kind_column, column_same, and_true}
 use Rattle.hall_sql.proofs.EntryListings.{are_entries, rise_strictly}
 use Rattle.hall_sql.proofs.ListedLemmas.{by_order, records_asked, records_sorted}
 use Rattle.hall_sql.proofs.EntryLemmas.{entries_kept}
-use Rattle.hall_sql.proofs.TesterTexts.{all_testers_are, tester_columns, tester_order, round_terms, name_order, testers_of_is}
+use Rattle.hall_sql.proofs.TesterTexts.{all_testers_are, tester_columns, tester_order, round_terms, name_order}
+use Rattle.hall_sql.proofs.TesterTexts.{testers_of_is}
 use Rattle.hall_sql.proofs.ValueLemmas.{no_more}
 use Rattle.hall_sql.specs.declared.tables.HallTable.TheVariants.{Testers}
 use Rattle.sqlite.specs.Schema.{Schema}
@@ -90,7 +92,8 @@ abbrev pub tested : List Row → FinMap tester_cmp Tester
 tested rows = kept tester_cmp key_of tester_of_row rows
 
 -- the table's records are these, each once
-pub testers_listed : {schema : Schema} → IsHallSchema schema → (db : Trees) → AreKeyed (db 14) → IsDatabase (record { schema = schema; trees = db })
+pub testers_listed : {schema : Schema} → IsHallSchema schema → (db : Trees) → AreKeyed (db 14)
+    → IsDatabase (record { schema = schema; trees = db })
     → IsPermutation (flat_map (λ r. option_to_list (tester_of_row r)) (db 14)) (values (tested (db 14)))
 testers_listed {schema} has db keyed sound =
     let rule = unique_in schema Testers db has sound in
@@ -105,17 +108,20 @@ by_name id a b p q =
     ∙ ap (λ o. ordering_then o (name_cmp a b)) (tied_itself text_total id)
 
 -- what the query gives of the testers
-module _ (old new : State) (has : IsHallSchema old.now.schema) (keyed : AreKeyed (old.now.trees 14)) (sound : IsDatabase old.now)
+module _ (old new : State) (has : IsHallSchema old.now.schema) (keyed : AreKeyed (old.now.trees 14))
+    (sound : IsDatabase old.now)
     (rows : List Row) (out : List Tester) (is : map tester_in rows ≡ map Some out) (id : List ℕ) where
   said : (u : Wording) × (old.now.schema ≡ hall_in u)
   said = worded old.now.schema has
 
-  whole : IsPermutation (flat_map (λ r. option_to_list (tester_of_row r)) (old.now.trees 14)) (values (tested (old.now.trees 14)))
+  whole : IsPermutation (flat_map (λ r. option_to_list (tester_of_row r)) (old.now.trees 14))
+      (values (tested (old.now.trees 14)))
   whole =
       let db = old.now.trees in
       testers_listed {schema = old.now.schema} has db keyed sound
 
-  in_agrees : (r : Row) (x : Tester) → tester_of_row r ≡ Some x → list_all (holds ((Text id ∷ []) ∷ r ∷ [])) round_terms ≡ tests_round id x
+  in_agrees : (r : Row) (x : Tester) → tester_of_row r ≡ Some x → list_all (holds ((Text id ∷ []) ∷ r ∷ [])) round_terms
+      ≡ tests_round id x
   in_agrees r x h = and_true _ ∙ column_same (column r 1) x.0.round id (has_columns r x h).round
 
   -- ORDER BY name is the order of names
@@ -131,15 +137,20 @@ module _ (old new : State) (has : IsHallSchema old.now.schema) (keyed : AreKeyed
 
   pub testers_of_named : Shown TESTERS_OF.now (Text id ∷ []) old new rows → AreNamed (world_of old.now.trees) id out
   testers_of_named shown =
-      let same = records_asked tester_in 2 TESTERS_OF.now (Text id ∷ []) 14 round_terms tester_columns name_order _ (testers_of_is said.0).0
-      (testers_of_is said.0).1 (testers_of_is said.0).2 (λ db. refl) (λ r. refl) (tests_round id) in_agrees old new rows out said.1 shown
+      let same = records_asked tester_in 2 TESTERS_OF.now (Text id ∷ []) 14 round_terms tester_columns name_order _
+      (testers_of_is said.0).0
+      (testers_of_is said.0).1 (testers_of_is said.0).2 (λ db. refl) (λ r. refl) (tests_round id) in_agrees old new rows
+      out said.1 shown
       is _ whole in
-      let sorted = records_sorted tester_in 2 TESTERS_OF.now (Text id ∷ []) 14 round_terms tester_columns name_order _ (testers_of_is said.0).0
-      (testers_of_is said.0).1 (testers_of_is said.0).2 (λ db. refl) (λ r. refl) (tests_round id) in_agrees old new rows out said.1 shown
+      let sorted = records_sorted tester_in 2 TESTERS_OF.now (Text id ∷ []) 14 round_terms tester_columns name_order _
+      (testers_of_is said.0).0
+      (testers_of_is said.0).1 (testers_of_is said.0).2 (λ db. refl) (λ r. refl) (tests_round id) in_agrees old new rows
+      out said.1 shown
       is name_cmp same_order in
       record {
         whole = are_entries tester_total same_tester_keys tester_of_row (old.now.trees 14) (tests_round id) out same;
-        in_order = rise_strictly tester_total same_tester_keys tester_of_row (old.now.trees 14) (tests_round id) out same name_cmp
+        in_order = rise_strictly tester_total same_tester_keys tester_of_row (old.now.trees 14) (tests_round id) out
+            same name_cmp
             (λ a b p q. by_name id a b ((text_decides a.0.round id).0 p) ((text_decides b.0.round id).0 q)) sorted;
       }
 
@@ -161,31 +172,37 @@ by_tester a b x y p q =
       then-Equal (text_cmp x.0.name y.0.name),
     )
 
-pub all_testers_listed : (old new : State) → IsHallSchema old.now.schema → AreKeyed (old.now.trees 14) → IsDatabase old.now
+pub all_testers_listed : (old new : State) → IsHallSchema old.now.schema → AreKeyed (old.now.trees 14)
+    → IsDatabase old.now
     → (rows : List Row) (out : List Tester) → map tester_in rows ≡ map Some out → Shown ALL_TESTERS.now [] old new rows
     → out ≡ entries (world_of old.now.trees).testers
 all_testers_listed old new has keyed sound rows out is shown =
     let db = old.now.trees in
     let whole = testers_listed {schema = old.now.schema} has db keyed sound in
-    all_listed (all_testers_are old.now.schema has) tester_total same_tester_keys key_of tester_in 2 (λ db. refl) (λ r. refl) by_tester old new refl whole
+    all_listed (all_testers_are old.now.schema has) tester_total same_tester_keys key_of tester_in 2 (λ db. refl)
+    (λ r. refl) by_tester old new refl whole
     rows out is shown
     ∙ entries_kept tester_total same_tester_keys tester_of_row (db 14)
 
 -- a map is empty where it has no entry
 pub empty_entries : {K X : Type 0} {R : K → K → Ordering} (m : FinMap R X) → entries m ≡ [] → m ≡ empty
 empty_entries {X = X} {R = R} m is =
-    same_entries_map m empty (is ∙ sym (no_more (entries (empty {X = X} {R = R})) (sym (len-entries (empty {X = X} {R = R})) ∙ len-empty R X)))
+    same_entries_map m empty (is ∙ sym (no_more (entries (empty {X = X} {R = R}))
+    (sym (len-entries (empty {X = X} {R = R})) ∙ len-empty R X)))
 
 pub entries_empty : {K X : Type 0} {R : K → K → Ordering} (m : FinMap R X) → m ≡ empty → entries m ≡ []
 entries_empty {X = X} {R = R} m is =
-    ap entries is ∙ no_more (entries (empty {X = X} {R = R})) (sym (len-entries (empty {X = X} {R = R})) ∙ len-empty R X)
+    ap entries is ∙ no_more (entries (empty {X = X} {R = R}))
+    (sym (len-entries (empty {X = X} {R = R})) ∙ len-empty R X)
 
 -- no tester was listed where there is none
-pub none_told : (world : World) (out : List Tester) (empties : Bool) → empties ≡ (length out == 0) → out ≡ entries world.testers
+pub none_told : (world : World) (out : List Tester) (empties : Bool) → empties ≡ (length out == 0)
+    → out ≡ entries world.testers
     → (not empties ≡ false) ↔ (world.testers ≡ empty)
 none_told world [] empties is so = (λ _. empty_entries world.testers (sym so), λ _. ap not is)
 none_told world (x ∷ xs) empties is so = (
-  λ e. absurd (let some : (length (x ∷ xs) == 0) ≡ false = grind (arith, nat_tests) in let no : true ≡ false = sym (ap not (is ∙ some)) ∙ e in cc),
+  λ e. absurd (let some : (length (x ∷ xs) == 0) ≡ false = grind (arith, nat_tests) in let no : true ≡ false = sym
+      (ap not (is ∙ some)) ∙ e in cc),
   λ e. absurd (let no : x ∷ xs ≡ [] = so ∙ entries_empty world.testers e in cc),
 )
 
@@ -194,12 +211,14 @@ none_told world (x ∷ xs) empties is so = (
 abbrev name_of : Tester → List ℕ
 name_of tester = tester.0.name
 
-names_rise : (testers : List Tester) → IsStrictlySortedBy name_cmp testers → IsStrictlySortedBy text_cmp (map name_of testers)
+names_rise : (testers : List Tester) → IsStrictlySortedBy name_cmp testers
+    → IsStrictlySortedBy text_cmp (map name_of testers)
 unfolding IsStrictlySortedBy
 names_rise [] up = tt
 names_rise (t ∷ ts) up = (each ts up.0, names_rise ts up.1)
   where
-    each : (ts : List Tester) → AllByRecursion (λ b. name_cmp t b ≡ Less) ts → AllByRecursion (λ n. text_cmp (name_of t) n ≡ Less) (map name_of ts)
+    each : (ts : List Tester) → AllByRecursion (λ b. name_cmp t b ≡ Less) ts
+        → AllByRecursion (λ n. text_cmp (name_of t) n ≡ Less) (map name_of ts)
     each [] all = tt
     each (s ∷ ts) all = (all.0, each ts all.1)
 
@@ -216,11 +235,14 @@ module _ (world : World) (id : List ℕ) (testers : List Tester) (are : AreNamed
       subst (λ k. get world.testers k ≡ Some tt) own fact.0
 
   back : (name : List ℕ) → IsTesterOf world id name → Contains (map name_of testers) name
-  back name is = mapped name_of testers (tester_key id name, tt) ((are.whole (tester_key id name, tt)).1 (is, (text_decides id id).1 refl))
+  back name is = mapped name_of testers (tester_key id name, tt)
+      ((are.whole (tester_key id name, tt)).1 (is, (text_decides id id).1 refl))
 
   -- the names are those of the round's testers
-  pub names_told : (names : List (List ℕ)) → names ≡ map (λ (tester : Tester). tester.0.name) testers → AreTestersOf world id names
+  pub names_told : (names : List (List ℕ)) → names ≡ map (λ (tester : Tester). tester.0.name) testers
+      → AreTestersOf world id names
   names_told names is = subst (AreTestersOf world id) (sym is) (record {
     whole = λ name. (there name, back name);
-    different = AllPairs-from_IsDistinct equal_decides (map name_of testers) (IsDistinct-from_sorted text_cmp (map name_of testers) (names_rise testers are.in_order));
+    different = AllPairs-from_IsDistinct equal_decides (map name_of testers)
+        (IsDistinct-from_sorted text_cmp (map name_of testers) (names_rise testers are.in_order));
   })

@@ -56,13 +56,16 @@ testers_of_is u = (refl, refl, (refl, refl), refl)
 
 pub testers_of_asked : (id : List ℕ) → IsAsked TESTERS_OF.now (Text id ∷ [])
 testers_of_asked id =
-    by_hall (IsAskedIn TESTERS_OF.now (Text id ∷ [])) (λ u. asked TESTERS_OF.now (Text id ∷ []) 14 round_terms tester_columns name_order _ (testers_of_is u).0 (testers_of_is u).1 (testers_of_is u).2 (testers_of_is u).3 refl)
+    by_hall (IsAskedIn TESTERS_OF.now (Text id ∷ [])) (λ u. asked TESTERS_OF.now (Text id ∷ []) 14 round_terms
+    tester_columns name_order _ (testers_of_is u).0 (testers_of_is u).1 (testers_of_is u).2 (testers_of_is u).3
+    refl)
 
 -- the order of keys
 abbrev pub tester_order : List (Term × Key)
 tester_order = (col 1 1, rising) ∷ (col 1 2, rising) ∷ []
 
-pub all_testers_are : (schema : Schema) → IsHallSchema schema → AsksAll ALL_TESTERS.now 14 tester_columns tester_order tester_names schema
+pub all_testers_are : (schema : Schema) → IsHallSchema schema → AsksAll ALL_TESTERS.now 14 tester_columns tester_order
+    tester_names schema
 unfolding understood everything
 all_testers_are =
     by_hall (AsksAll ALL_TESTERS.now 14 tester_columns tester_order tester_names)
@@ -75,8 +78,26 @@ testers_apart db = refl
 pub testers_restricted : (u : Wording) (olds : List Row) → Restricts (works (hall_in u) Enforced 0 14 olds [])
 unfolding same_name joined
 testers_restricted u olds =
-    refusing_works (hall_in u) Enforced 0 14 olds [] (all_in u (λ ref. OnlyRefuses 14 (deed_for Enforced true ref) (parent_key (hall_in u).tables ref))
-    (tt, ((λ a. inl refl, tt), (tt, ((λ a. inl refl, (λ a. inl refl, tt)), ((λ a. inl refl, (λ a. inl refl, tt)), ((λ a. inl refl, (λ a. inl refl, tt)), ((λ a. inl refl, (λ a. inl refl, tt)), tt))))))))
+    refusing_works (hall_in u) Enforced 0 14 olds [] (all_in u
+    (λ ref. OnlyRefuses 14 (deed_for Enforced true ref) (parent_key (hall_in u).tables ref)) (
+      tt,
+      (
+        (λ a. inl refl, tt),
+        (
+          tt,
+          (
+            (λ a. inl refl, (λ a. inl refl, tt)),
+            (
+              (λ a. inl refl, (λ a. inl refl, tt)),
+              (
+                (λ a. inl refl, (λ a. inl refl, tt)),
+                ((λ a. inl refl, (λ a. inl refl, tt)), tt),
+              ),
+            ),
+          ),
+        ),
+      ),
+    ))
 
 pub drop_testers_is : (u : Wording) → (command_of (understood (hall_in u) DROP_TESTERS.now)
     ≡ Delete 6 (deletion (hall_in u) (table_in u Testers) (equals 1 0 ∷ []) testers_apart (testers_restricted u)))
@@ -88,7 +109,8 @@ drop_testers_is u = (refl, (refl, refl))
 abbrev pub added_terms : List Term
 added_terms = lit Null ∷ col 0 0 ∷ col 0 1 ∷ []
 
-pub add_tester_is : (u : Wording) → (command_of (understood (hall_in u) ADD_TESTER.now) ≡ Insert 6 (Values added_terms 3))
+pub add_tester_is : (u : Wording) → (command_of (understood (hall_in u) ADD_TESTER.now) ≡ Insert 6
+    (Values added_terms 3))
     × IsPlain (understood (hall_in u) ADD_TESTER.now)
 unfolding understood everything
 add_tester_is u = (refl, (refl, refl))

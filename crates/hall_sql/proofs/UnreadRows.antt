@@ -1,6 +1,7 @@
--- Where a query of the hall's shows a row that is no record, a row of its table is none; and where one by a key shows two
--- rows, two stand under the key.
-use Rattle.std.proofs.Common.{◌≡◌, ◌<◌, inr, ℕ, pos, List, [], ◌∷◌, ◌++◌, map, filter, length, is_some, true, false, Option, Some, None, IsTrue, Contains, refl, sym, ap, subst, ◌∙◌, arith}
+-- Where a query of the hall's shows a row that is no record, a row of its table is none; and where one by a key shows
+-- two rows, two stand under the key.
+use Rattle.std.proofs.Common.{◌≡◌, ◌<◌, inr, ℕ, pos, List, [], ◌∷◌, ◌++◌, map, filter, length, is_some, true, false}
+use Rattle.std.proofs.Common.{Option, Some, None, IsTrue, Contains, refl, sym, ap, subst, ◌∙◌, arith}
 use Rattle.std.proofs.lemmas.List.{length-map}
 use Rattle.std.proofs.lemmas.List.Sorted.{length_permutation}
 use Rattle.std.proofs.lemmas.Option.{slice_get-get_or}
@@ -21,11 +22,13 @@ use Rattle.sqlite.proofs.Callers.{IsPlain, command_of, begins_as}
 use Rattle.hall_sql.specs.AllRead.{AreAllRead}
 use Rattle.hall_sql.specs.CanFail.{KeepsTwice}
 use Rattle.hall_sql.specs.Cause.{IsAnyUnread}
-use Rattle.hall_sql.specs.Rows.{answer_in, columns_from, person_in, place_in, protest_in, puzzle_row_in, round_in, tester_in}
+use Rattle.hall_sql.specs.Rows.{answer_in, columns_from, person_in, place_in, protest_in, puzzle_row_in, round_in}
+use Rattle.hall_sql.specs.Rows.{tester_in}
 use Rattle.hall_sql.specs.Standing.{IsSelection}
 use Rattle.hall_sql.specs.Statements.{equals, plain_query}
 use Rattle.hall_sql.specs.Tables.{IsHallSchema, hall_schema}
-use Rattle.hall_sql.specs.declared.answers.TheConstants.{ALL_ANSWERS, ANSWER, ANSWERS_GIVEN, ANSWERS_IN, ANSWERS_OF, NUMBER_TAKEN}
+use Rattle.hall_sql.specs.declared.answers.TheConstants.{ALL_ANSWERS, ANSWER, ANSWERS_GIVEN, ANSWERS_IN, ANSWERS_OF}
+use Rattle.hall_sql.specs.declared.answers.TheConstants.{NUMBER_TAKEN}
 use Rattle.hall_sql.specs.declared.people.TheConstants.{ALL_PEOPLE, PERSON, PERSON_BY_KEY}
 use Rattle.hall_sql.specs.declared.protests.TheConstants.{ALL_PROTESTS, PROTEST, PROTESTS_IN, PROTESTS_OF}
 use Rattle.hall_sql.specs.declared.puzzles.TheConstants.{ALL_PUZZLES, PUZZLE, PUZZLES_OF}
@@ -37,7 +40,8 @@ use Rattle.hall_sql.proofs.HeadTexts.{head_is, id_terms}
 use Rattle.hall_sql.proofs.PeopleTexts.{all_people_are, name_order, person_by_key_is, person_columns, person_is}
 use Rattle.hall_sql.proofs.ProtestTexts as protests
 use Rattle.hall_sql.proofs.PuzzleTexts as puzzles
-use Rattle.hall_sql.proofs.RoundQueries.{all_places_are, first_terms, number_order, place_columns, place_order, places_of_is, places_with_is, puzzle_terms, round_order}
+use Rattle.hall_sql.proofs.RoundQueries.{all_places_are, first_terms, number_order, place_columns, place_order}
+use Rattle.hall_sql.proofs.RoundQueries.{places_of_is, places_with_is, puzzle_terms, round_order}
 use Rattle.hall_sql.proofs.RoundTexts.{all_rounds_are, id_order, round_columns}
 use Rattle.hall_sql.proofs.Selections.{selected}
 use Rattle.hall_sql.proofs.TesterTexts as testers
@@ -47,7 +51,8 @@ use Rattle.hall_sql.proofs.Wordings.{Wording, hall_in, hall_like, worded}
 -- over the tables of a hall, a row that the query shows and that is no record is one of theirs
 abbrev pub TellsUnread : {X : Type 0} → (Row → Option X) → List ℕ → Row → Type 1
 TellsUnread read sql params =
-    (old new : State) (rows : List Row) → IsHallSchema old.now.schema → Shown sql params old new rows → IsAnyUnread read rows
+    (old new : State) (rows : List Row) → IsHallSchema old.now.schema → Shown sql params old new rows
+    → IsAnyUnread read rows
     → ¬ (AreAllRead hall_schema old.now.trees)
 
 -- so is one with which its answer begins
@@ -68,17 +73,20 @@ pub some_unread : {X : Type 0} (read : Row → Option X) (rows : List Row) → I
 some_unread read rows it each =
     let at = it.1 in
     let reads : IsTrue (is_some (read it.0)) =
-    all-slice_get (λ r. IsTrue (is_some (read r))) rows at.0 it.0 (slice_get-get_or rows at.0 it.0 at.1 ∙ ap Some at.2) each in
+    all-slice_get (λ r. IsTrue (is_some (read r))) rows at.0 it.0 (slice_get-get_or rows at.0 it.0 at.1 ∙ ap Some at.2)
+    each in
     absurd (let no : false ≡ true = sym (ap is_some it.2) ∙ reads in cc)
 
 module _ {X : Type 0} (read : Row → Option X) (count tree : ℕ) (sql : List ℕ) (params : Row)
     (terms project : List Term) (order : List (Term × Key)) (names : List (List ℕ))
     (is : (u : Wording) → command_of (understood (hall_in u) sql)
     ≡ Select (record { lets = []; body = plain_query tree terms project order }) names)
-    (unlisted : (u : Wording) → reads_listing (hall_in u) sql ≡ false) (plain : (u : Wording) → IsPlain (understood (hall_in u) sql))
+    (unlisted : (u : Wording) → reads_listing (hall_in u) sql ≡ false)
+    (plain : (u : Wording) → IsPlain (understood (hall_in u) sql))
     (apart : (db : Trees) → overlay db [] tree ≡ db tree)
     (shows : (r : Row) → eval_all project (params ∷ r ∷ []) ≡ columns_from 1 count r)
-    (reads : (trees : Trees) → AreAllRead hall_schema trees → AllByRecursion (λ r. IsTrue (is_some (read (columns_from 1 count r)))) (trees tree)) where
+    (reads : (trees : Trees) → AreAllRead hall_schema trees → AllByRecursion
+    (λ r. IsTrue (is_some (read (columns_from 1 count r)))) (trees tree)) where
   abbrev Reads : Row → Type 0
   Reads r = IsTrue (is_some (read r))
 
@@ -86,10 +94,12 @@ module _ {X : Type 0} (read : Row → Option X) (count tree : ℕ) (sql : List �
       → IsSelection (plain_query tree terms project order) (old.now.trees tree) params rows
   selection old new rows has shown =
       let (u, words) = worded old.now.schema has in
-      answers_selection sql params old new tree terms project order names (is u) (unlisted u) (plain u) (apart old.now.trees) words rows shown
+      answers_selection sql params old new tree terms project order names (is u) (unlisted u) (plain u)
+      (apart old.now.trees) words rows shown
 
   -- where each row of the table is a record, so is each that is selected
-  all_selected : (trees : Trees) (rows : List Row) → IsSelection (plain_query tree terms project order) (trees tree) params rows
+  all_selected : (trees : Trees) (rows : List Row) → IsSelection (plain_query tree terms project order) (trees tree)
+      params rows
       → AreAllRead hall_schema trees → AllByRecursion Reads rows
   all_selected trees rows sel all =
       let keeps = λ (r : Row). list_all (holds (params ∷ r ∷ [])) terms in
@@ -107,7 +117,8 @@ module _ {X : Type 0} (read : Row → Option X) (count tree : ℕ) (sql : List �
   begins_unread old rows has begins any all =
       let (u, words) = worded old.now.schema has in
       let begun = begins_as sql params old old (hall_in u) words _ (is u) (plain u) (unlisted u) rows begins in
-      let sel = subst (λ t. IsSelection (plain_query tree terms project order) t params (rows ++ begun.1.0)) (apart old.now.trees)
+      let sel = subst (λ t. IsSelection (plain_query tree terms project order) t params (rows ++ begun.1.0))
+      (apart old.now.trees)
       (selected tree terms project order (overlay old.now.trees []) params (rows ++ begun.1.0) (begun.1.1 Null)) in
       some_unread read rows any (all-front rows begun.1.0 (all_selected old.now.trees (rows ++ begun.1.0) sel all))
     where
@@ -116,30 +127,36 @@ module _ {X : Type 0} (read : Row → Option X) (count tree : ℕ) (sql : List �
       all-front (r ∷ front) rest each = (each.0, all-front front rest each.1)
 
   -- as many rows are shown as pass
-  pub as_many : (old new : State) (rows : List Row) → IsHallSchema old.now.schema → Shown sql params old new rows → 1 < length rows
+  pub as_many : (old new : State) (rows : List Row) → IsHallSchema old.now.schema → Shown sql params old new rows
+      → 1 < length rows
       → 1 < length (filter (λ row. list_all (holds (params ∷ row ∷ [])) terms) (old.now.trees tree))
   as_many old new rows has shown many =
       let sel = selection old new rows has shown in
       let same : length rows ≡ length sel.found = ap length sel.shown ∙ length-map sel.found _ in
-      let passed = length_permutation (filter (λ row. list_all (holds (params ∷ row ∷ [])) terms) (old.now.trees tree)) sel.found sel.same in
+      let passed = length_permutation (filter (λ row. list_all (holds (params ∷ row ∷ [])) terms) (old.now.trees tree))
+      sel.found sel.same in
       omega (arith, many, same, passed)
 
 -- all rows of a table
-module _ {X : Type 0} (read : Row → Option X) (count tree : ℕ) (sql : List ℕ) (project : List Term) (order : List (Term × Key))
+module _ {X : Type 0} (read : Row → Option X) (count tree : ℕ) (sql : List ℕ) (project : List Term)
+    (order : List (Term × Key))
     (names : List (List ℕ)) (asks : (u : Wording) → AsksAll sql tree project order names (hall_in u))
     (apart : (db : Trees) → overlay db [] tree ≡ db tree)
     (shows : (r : Row) → eval_all project ([] ∷ r ∷ []) ≡ columns_from 1 count r)
-    (reads : (trees : Trees) → AreAllRead hall_schema trees → AllByRecursion (λ r. IsTrue (is_some (read (columns_from 1 count r)))) (trees tree)) where
+    (reads : (trees : Trees) → AreAllRead hall_schema trees → AllByRecursion
+    (λ r. IsTrue (is_some (read (columns_from 1 count r)))) (trees tree)) where
   pub all_unread : TellsUnread read sql []
   all_unread =
-      unread read count tree sql [] [] project order names (λ u. (asks u).is) (λ u. (asks u).unlisted) (λ u. (asks u).plain) apart shows reads
+      unread read count tree sql [] [] project order names (λ u. (asks u).is) (λ u. (asks u).unlisted)
+      (λ u. (asks u).plain) apart shows reads
 
 -- ---- people
 
 module _ (name : List ℕ) where
   pub person_unread : TellsUnread person_in PERSON.now (Text name ∷ [])
   person_unread =
-      unread person_in 3 0 PERSON.now (Text name ∷ []) (equals 1 0 ∷ []) person_columns [] _ (λ u. (person_is u).0) (λ u. (person_is u).1)
+      unread person_in 3 0 PERSON.now (Text name ∷ []) (equals 1 0 ∷ []) person_columns [] _ (λ u. (person_is u).0)
+      (λ u. (person_is u).1)
       (λ u. (person_is u).2) (λ db. refl) (λ r. refl) (λ trees all. all.0)
 
   pub person_twice : TellsTwice PERSON.now (Text name ∷ [])
@@ -147,13 +164,15 @@ module _ (name : List ℕ) where
     (0, equals 1 0 ∷ []),
     (0, omega arith, refl),
     Text name ∷ [],
-    as_many person_in 3 0 PERSON.now (Text name ∷ []) (equals 1 0 ∷ []) person_columns [] _ (λ u. (person_is u).0) (λ u. (person_is u).1)
+    as_many person_in 3 0 PERSON.now (Text name ∷ []) (equals 1 0 ∷ []) person_columns [] _ (λ u. (person_is u).0)
+        (λ u. (person_is u).1)
         (λ u. (person_is u).2) (λ db. refl) (λ r. refl) (λ trees all. all.0) old new rows has shown many,
   )
 
   pub person_by_key_unread : TellsUnread person_in PERSON_BY_KEY.now (Text name ∷ [])
   person_by_key_unread =
-      unread person_in 3 0 PERSON_BY_KEY.now (Text name ∷ []) (equals 2 0 ∷ []) person_columns [] _ (λ u. (person_by_key_is u).0)
+      unread person_in 3 0 PERSON_BY_KEY.now (Text name ∷ []) (equals 2 0 ∷ []) person_columns [] _
+      (λ u. (person_by_key_is u).0)
       (λ u. (person_by_key_is u).1) (λ u. (person_by_key_is u).2) (λ db. refl) (λ r. refl) (λ trees all. all.0)
 
   pub person_by_key_twice : TellsTwice PERSON_BY_KEY.now (Text name ∷ [])
@@ -161,13 +180,16 @@ module _ (name : List ℕ) where
     (0, equals 2 0 ∷ []),
     (1, omega arith, refl),
     Text name ∷ [],
-    as_many person_in 3 0 PERSON_BY_KEY.now (Text name ∷ []) (equals 2 0 ∷ []) person_columns [] _ (λ u. (person_by_key_is u).0)
-        (λ u. (person_by_key_is u).1) (λ u. (person_by_key_is u).2) (λ db. refl) (λ r. refl) (λ trees all. all.0) old new rows has shown many,
+    as_many person_in 3 0 PERSON_BY_KEY.now (Text name ∷ []) (equals 2 0 ∷ []) person_columns [] _
+        (λ u. (person_by_key_is u).0)
+        (λ u. (person_by_key_is u).1) (λ u. (person_by_key_is u).2) (λ db. refl) (λ r. refl) (λ trees all. all.0) old
+        new rows has shown many,
   )
 
 pub people_unread : TellsUnread person_in ALL_PEOPLE.now []
 people_unread =
-    all_unread person_in 3 0 ALL_PEOPLE.now person_columns name_order _ (λ u. all_people_are (hall_in u) (inr (hall_like u))) (λ db. refl) (λ r. refl)
+    all_unread person_in 3 0 ALL_PEOPLE.now person_columns name_order _
+    (λ u. all_people_are (hall_in u) (inr (hall_like u))) (λ db. refl) (λ r. refl)
     (λ trees all. all.0)
 
 -- ---- puzzles
@@ -176,7 +198,8 @@ module _ (author label : List ℕ) where
   pub puzzle_unread : TellsUnread puzzle_row_in PUZZLE.now (Text author ∷ Text label ∷ [])
   puzzle_unread =
       unread puzzle_row_in 5 3 PUZZLE.now (Text author ∷ Text label ∷ []) puzzles.key_terms puzzles.puzzle_columns [] _
-      (λ u. (puzzles.puzzle_is u).0) (λ u. (puzzles.puzzle_is u).1) (λ u. (puzzles.puzzle_is u).2) (λ db. refl) (λ r. refl) (λ trees all. all.1.0)
+      (λ u. (puzzles.puzzle_is u).0) (λ u. (puzzles.puzzle_is u).1) (λ u. (puzzles.puzzle_is u).2) (λ db. refl)
+      (λ r. refl) (λ trees all. all.1.0)
 
   pub puzzle_twice : TellsTwice PUZZLE.now (Text author ∷ Text label ∷ [])
   puzzle_twice old new rows has shown many = (
@@ -184,14 +207,17 @@ module _ (author label : List ℕ) where
     (2, omega arith, refl),
     Text author ∷ Text label ∷ [],
     as_many puzzle_row_in 5 3 PUZZLE.now (Text author ∷ Text label ∷ []) puzzles.key_terms puzzles.puzzle_columns [] _
-        (λ u. (puzzles.puzzle_is u).0) (λ u. (puzzles.puzzle_is u).1) (λ u. (puzzles.puzzle_is u).2) (λ db. refl) (λ r. refl)
+        (λ u. (puzzles.puzzle_is u).0) (λ u. (puzzles.puzzle_is u).1) (λ u. (puzzles.puzzle_is u).2) (λ db. refl)
+        (λ r. refl)
         (λ trees all. all.1.0) old new rows has shown many,
   )
 
 pub puzzles_of_unread : (author : List ℕ) → TellsUnread puzzle_row_in PUZZLES_OF.now (Text author ∷ [])
 puzzles_of_unread author =
-    unread puzzle_row_in 5 3 PUZZLES_OF.now (Text author ∷ []) (equals 1 0 ∷ []) puzzles.puzzle_columns puzzles.key_order _
-    (λ u. (puzzles.puzzles_of_is u).0) (λ u. (puzzles.puzzles_of_is u).1) (λ u. (puzzles.puzzles_of_is u).2) (λ db. refl) (λ r. refl)
+    unread puzzle_row_in 5 3 PUZZLES_OF.now (Text author ∷ []) (equals 1 0 ∷ []) puzzles.puzzle_columns
+    puzzles.key_order _
+    (λ u. (puzzles.puzzles_of_is u).0) (λ u. (puzzles.puzzles_of_is u).1) (λ u. (puzzles.puzzles_of_is u).2)
+    (λ db. refl) (λ r. refl)
     (λ trees all. all.1.0)
 
 pub puzzles_unread : TellsUnread puzzle_row_in ALL_PUZZLES.now []
@@ -204,7 +230,8 @@ puzzles_unread =
 module _ (id : List ℕ) where
   pub head_unread : TellsUnread round_in HEAD.now (Text id ∷ [])
   head_unread =
-      unread round_in 10 5 HEAD.now (Text id ∷ []) id_terms round_columns [] _ (λ u. (head_is u).0) (λ u. (head_is u).1) (λ u. (head_is u).2)
+      unread round_in 10 5 HEAD.now (Text id ∷ []) id_terms round_columns [] _ (λ u. (head_is u).0) (λ u. (head_is u).1)
+      (λ u. (head_is u).2)
       (λ db. refl) (λ r. refl) (λ trees all. all.1.1.0)
 
   pub head_twice : TellsTwice HEAD.now (Text id ∷ [])
@@ -212,39 +239,47 @@ module _ (id : List ℕ) where
     (5, id_terms),
     (3, omega arith, refl),
     Text id ∷ [],
-    as_many round_in 10 5 HEAD.now (Text id ∷ []) id_terms round_columns [] _ (λ u. (head_is u).0) (λ u. (head_is u).1) (λ u. (head_is u).2)
+    as_many round_in 10 5 HEAD.now (Text id ∷ []) id_terms round_columns [] _ (λ u. (head_is u).0) (λ u. (head_is u).1)
+        (λ u. (head_is u).2)
         (λ db. refl) (λ r. refl) (λ trees all. all.1.1.0) old new rows has shown many,
   )
 
   pub places_of_unread : TellsUnread place_in PLACES_OF.now (Text id ∷ [])
   places_of_unread =
-      unread place_in 5 7 PLACES_OF.now (Text id ∷ []) first_terms place_columns number_order _ (λ u. (places_of_is u).0)
+      unread place_in 5 7 PLACES_OF.now (Text id ∷ []) first_terms place_columns number_order _
+      (λ u. (places_of_is u).0)
       (λ u. (places_of_is u).1) (λ u. (places_of_is u).2) (λ db. refl) (λ r. refl) (λ trees all. all.1.1.1.0)
 
   pub testers_of_unread : TellsUnread tester_in TESTERS_OF.now (Text id ∷ [])
   testers_of_unread =
-      unread tester_in 2 14 TESTERS_OF.now (Text id ∷ []) testers.round_terms testers.tester_columns testers.name_order _
-      (λ u. (testers.testers_of_is u).0) (λ u. (testers.testers_of_is u).1) (λ u. (testers.testers_of_is u).2) (λ db. refl) (λ r. refl)
+      unread tester_in 2 14 TESTERS_OF.now (Text id ∷ []) testers.round_terms testers.tester_columns testers.name_order
+      _
+      (λ u. (testers.testers_of_is u).0) (λ u. (testers.testers_of_is u).1) (λ u. (testers.testers_of_is u).2)
+      (λ db. refl) (λ r. refl)
       (λ trees all. all.1.1.1.1.1.1.0)
 
 pub rounds_unread : TellsUnread round_in ALL_ROUNDS.now []
 rounds_unread =
-    all_unread round_in 10 5 ALL_ROUNDS.now round_columns id_order _ (λ u. all_rounds_are (hall_in u) (inr (hall_like u))) (λ db. refl) (λ r. refl)
+    all_unread round_in 10 5 ALL_ROUNDS.now round_columns id_order _
+    (λ u. all_rounds_are (hall_in u) (inr (hall_like u))) (λ db. refl) (λ r. refl)
     (λ trees all. all.1.1.0)
 
 pub places_with_unread : (author label : List ℕ) → TellsUnread place_in PLACES_WITH.now (Text author ∷ Text label ∷ [])
 places_with_unread author label =
-    unread place_in 5 7 PLACES_WITH.now (Text author ∷ Text label ∷ []) puzzle_terms place_columns round_order _ (λ u. (places_with_is u).0)
+    unread place_in 5 7 PLACES_WITH.now (Text author ∷ Text label ∷ []) puzzle_terms place_columns round_order _
+    (λ u. (places_with_is u).0)
     (λ u. (places_with_is u).1) (λ u. (places_with_is u).2) (λ db. refl) (λ r. refl) (λ trees all. all.1.1.1.0)
 
 pub places_unread : TellsUnread place_in ALL_PLACES.now []
 places_unread =
-    all_unread place_in 5 7 ALL_PLACES.now place_columns place_order _ (λ u. all_places_are (hall_in u) (inr (hall_like u))) (λ db. refl)
+    all_unread place_in 5 7 ALL_PLACES.now place_columns place_order _
+    (λ u. all_places_are (hall_in u) (inr (hall_like u))) (λ db. refl)
     (λ r. refl) (λ trees all. all.1.1.1.0)
 
 pub testers_unread : TellsUnread tester_in ALL_TESTERS.now []
 testers_unread =
-    all_unread tester_in 2 14 ALL_TESTERS.now testers.tester_columns testers.tester_order _ (λ u. testers.all_testers_are (hall_in u) (hall_like u))
+    all_unread tester_in 2 14 ALL_TESTERS.now testers.tester_columns testers.tester_order _
+    (λ u. testers.all_testers_are (hall_in u) (hall_like u))
     (λ db. refl) (λ r. refl) (λ trees all. all.1.1.1.1.1.1.0)
 
 -- ---- answers
@@ -252,8 +287,10 @@ testers_unread =
 module _ (entrant round : List ℕ) (number : ℕ) (token : List ℕ) where
   pub answer_unread : TellsUnread answer_in ANSWER.now (Text entrant ∷ Text round ∷ Int (pos number) ∷ Text token ∷ [])
   answer_unread =
-      unread answer_in 8 9 ANSWER.now (Text entrant ∷ Text round ∷ Int (pos number) ∷ Text token ∷ []) answers.key_terms answers.answer_columns []
-      _ (λ u. (answers.answer_is u).0) (λ u. (answers.answer_is u).1) (λ u. (answers.answer_is u).2) (λ db. refl) (λ r. refl)
+      unread answer_in 8 9 ANSWER.now (Text entrant ∷ Text round ∷ Int (pos number) ∷ Text token ∷ []) answers.key_terms
+      answers.answer_columns []
+      _ (λ u. (answers.answer_is u).0) (λ u. (answers.answer_is u).1) (λ u. (answers.answer_is u).2) (λ db. refl)
+      (λ r. refl)
       (λ trees all. all.1.1.1.1.0)
 
   pub answer_twice : TellsTwice ANSWER.now (Text entrant ∷ Text round ∷ Int (pos number) ∷ Text token ∷ [])
@@ -261,41 +298,53 @@ module _ (entrant round : List ℕ) (number : ℕ) (token : List ℕ) where
     (9, answers.key_terms),
     (4, omega arith, refl),
     Text entrant ∷ Text round ∷ Int (pos number) ∷ Text token ∷ [],
-    as_many answer_in 8 9 ANSWER.now (Text entrant ∷ Text round ∷ Int (pos number) ∷ Text token ∷ []) answers.key_terms answers.answer_columns []
-        _ (λ u. (answers.answer_is u).0) (λ u. (answers.answer_is u).1) (λ u. (answers.answer_is u).2) (λ db. refl) (λ r. refl)
+    as_many answer_in 8 9 ANSWER.now (Text entrant ∷ Text round ∷ Int (pos number) ∷ Text token ∷ []) answers.key_terms
+        answers.answer_columns []
+        _ (λ u. (answers.answer_is u).0) (λ u. (answers.answer_is u).1) (λ u. (answers.answer_is u).2) (λ db. refl)
+        (λ r. refl)
         (λ trees all. all.1.1.1.1.0) old new rows has shown many,
   )
 
 module _ (entrant round : List ℕ) (number : ℕ) where
   pub answers_given_unread : TellsUnread answer_in ANSWERS_GIVEN.now (Text entrant ∷ Text round ∷ Int (pos number) ∷ [])
   answers_given_unread =
-      unread answer_in 8 9 ANSWERS_GIVEN.now (Text entrant ∷ Text round ∷ Int (pos number) ∷ []) answers.place_terms answers.answer_columns [] _
-      (λ u. (answers.answers_given_is u).0) (λ u. (answers.answers_given_is u).1) (λ u. (answers.answers_given_is u).2) (λ db. refl)
+      unread answer_in 8 9 ANSWERS_GIVEN.now (Text entrant ∷ Text round ∷ Int (pos number) ∷ []) answers.place_terms
+      answers.answer_columns [] _
+      (λ u. (answers.answers_given_is u).0) (λ u. (answers.answers_given_is u).1) (λ u. (answers.answers_given_is u).2)
+      (λ db. refl)
       (λ r. refl) (λ trees all. all.1.1.1.1.0)
 
-  pub number_taken_unread : (n : ℕ) → TellsUnread answer_in NUMBER_TAKEN.now (Text entrant ∷ Text round ∷ Int (pos number) ∷ Int (pos n) ∷ [])
+  pub number_taken_unread : (n : ℕ) → TellsUnread answer_in NUMBER_TAKEN.now
+      (Text entrant ∷ Text round ∷ Int (pos number) ∷ Int (pos n) ∷ [])
   number_taken_unread n =
-      unread answer_in 8 9 NUMBER_TAKEN.now (Text entrant ∷ Text round ∷ Int (pos number) ∷ Int (pos n) ∷ []) answers.nth_terms
+      unread answer_in 8 9 NUMBER_TAKEN.now (Text entrant ∷ Text round ∷ Int (pos number) ∷ Int (pos n) ∷ [])
+      answers.nth_terms
       answers.answer_columns [] _ (λ u. (answers.number_taken_is u).0) (λ u. (answers.number_taken_is u).1)
       (λ u. (answers.number_taken_is u).2) (λ db. refl) (λ r. refl) (λ trees all. all.1.1.1.1.0)
 
 pub answers_of_unread : (entrant round : List ℕ) → TellsUnread answer_in ANSWERS_OF.now (Text entrant ∷ Text round ∷ [])
 answers_of_unread entrant round =
-    unread answer_in 8 9 ANSWERS_OF.now (Text entrant ∷ Text round ∷ []) (equals 2 1 ∷ equals 1 0 ∷ []) answers.answer_columns
-    answers.listing_order _ (λ u. (answers.answers_of_is u).0) (λ u. (answers.answers_of_is u).1) (λ u. (answers.answers_of_is u).2)
+    unread answer_in 8 9 ANSWERS_OF.now (Text entrant ∷ Text round ∷ []) (equals 2 1 ∷ equals 1 0 ∷ [])
+    answers.answer_columns
+    answers.listing_order _ (λ u. (answers.answers_of_is u).0) (λ u. (answers.answers_of_is u).1)
+    (λ u. (answers.answers_of_is u).2)
     (λ db. refl) (λ r. refl) (λ trees all. all.1.1.1.1.0)
 
 module _ (round : List ℕ) where
   pub answers_in_unread : TellsUnread answer_in ANSWERS_IN.now (Text round ∷ [])
   answers_in_unread =
-      unread answer_in 8 9 ANSWERS_IN.now (Text round ∷ []) (equals 2 0 ∷ []) answers.answer_columns answers.listing_order _
-      (λ u. (answers.answers_in_is u).0) (λ u. (answers.answers_in_is u).1) (λ u. (answers.answers_in_is u).2) (λ db. refl) (λ r. refl)
+      unread answer_in 8 9 ANSWERS_IN.now (Text round ∷ []) (equals 2 0 ∷ []) answers.answer_columns
+      answers.listing_order _
+      (λ u. (answers.answers_in_is u).0) (λ u. (answers.answers_in_is u).1) (λ u. (answers.answers_in_is u).2)
+      (λ db. refl) (λ r. refl)
       (λ trees all. all.1.1.1.1.0)
 
   pub answers_in_begin : BeginsUnread answer_in ANSWERS_IN.now (Text round ∷ [])
   answers_in_begin =
-      begins_unread answer_in 8 9 ANSWERS_IN.now (Text round ∷ []) (equals 2 0 ∷ []) answers.answer_columns answers.listing_order _
-      (λ u. (answers.answers_in_is u).0) (λ u. (answers.answers_in_is u).1) (λ u. (answers.answers_in_is u).2) (λ db. refl) (λ r. refl)
+      begins_unread answer_in 8 9 ANSWERS_IN.now (Text round ∷ []) (equals 2 0 ∷ []) answers.answer_columns
+      answers.listing_order _
+      (λ u. (answers.answers_in_is u).0) (λ u. (answers.answers_in_is u).1) (λ u. (answers.answers_in_is u).2)
+      (λ db. refl) (λ r. refl)
       (λ trees all. all.1.1.1.1.0)
 
 pub answers_unread : TellsUnread answer_in ALL_ANSWERS.now []
@@ -308,8 +357,10 @@ answers_unread =
 module _ (entrant round token : List ℕ) where
   pub protest_unread : TellsUnread protest_in PROTEST.now (Text entrant ∷ Text round ∷ Text token ∷ [])
   protest_unread =
-      unread protest_in 7 12 PROTEST.now (Text entrant ∷ Text round ∷ Text token ∷ []) protests.key_terms protests.protest_columns [] _
-      (λ u. (protests.protest_is u).0) (λ u. (protests.protest_is u).1) (λ u. (protests.protest_is u).2) (λ db. refl) (λ r. refl)
+      unread protest_in 7 12 PROTEST.now (Text entrant ∷ Text round ∷ Text token ∷ []) protests.key_terms
+      protests.protest_columns [] _
+      (λ u. (protests.protest_is u).0) (λ u. (protests.protest_is u).1) (λ u. (protests.protest_is u).2) (λ db. refl)
+      (λ r. refl)
       (λ trees all. all.1.1.1.1.1.0)
 
   pub protest_twice : TellsTwice PROTEST.now (Text entrant ∷ Text round ∷ Text token ∷ [])
@@ -317,31 +368,41 @@ module _ (entrant round token : List ℕ) where
     (12, protests.key_terms),
     (5, omega arith, refl),
     Text entrant ∷ Text round ∷ Text token ∷ [],
-    as_many protest_in 7 12 PROTEST.now (Text entrant ∷ Text round ∷ Text token ∷ []) protests.key_terms protests.protest_columns [] _
-        (λ u. (protests.protest_is u).0) (λ u. (protests.protest_is u).1) (λ u. (protests.protest_is u).2) (λ db. refl) (λ r. refl)
+    as_many protest_in 7 12 PROTEST.now (Text entrant ∷ Text round ∷ Text token ∷ []) protests.key_terms
+        protests.protest_columns [] _
+        (λ u. (protests.protest_is u).0) (λ u. (protests.protest_is u).1) (λ u. (protests.protest_is u).2) (λ db. refl)
+        (λ r. refl)
         (λ trees all. all.1.1.1.1.1.0) old new rows has shown many,
   )
 
-pub protests_of_unread : (entrant round : List ℕ) → TellsUnread protest_in PROTESTS_OF.now (Text entrant ∷ Text round ∷ [])
+pub protests_of_unread : (entrant round : List ℕ) → TellsUnread protest_in PROTESTS_OF.now
+    (Text entrant ∷ Text round ∷ [])
 protests_of_unread entrant round =
-    unread protest_in 7 12 PROTESTS_OF.now (Text entrant ∷ Text round ∷ []) (equals 2 1 ∷ equals 1 0 ∷ []) protests.protest_columns
-    protests.key_order _ (λ u. (protests.protests_of_is u).0) (λ u. (protests.protests_of_is u).1) (λ u. (protests.protests_of_is u).2)
+    unread protest_in 7 12 PROTESTS_OF.now (Text entrant ∷ Text round ∷ []) (equals 2 1 ∷ equals 1 0 ∷ [])
+    protests.protest_columns
+    protests.key_order _ (λ u. (protests.protests_of_is u).0) (λ u. (protests.protests_of_is u).1)
+    (λ u. (protests.protests_of_is u).2)
     (λ db. refl) (λ r. refl) (λ trees all. all.1.1.1.1.1.0)
 
 module _ (round : List ℕ) where
   pub protests_in_unread : TellsUnread protest_in PROTESTS_IN.now (Text round ∷ [])
   protests_in_unread =
-      unread protest_in 7 12 PROTESTS_IN.now (Text round ∷ []) (equals 2 0 ∷ []) protests.protest_columns protests.key_order _
-      (λ u. (protests.protests_in_is u).0) (λ u. (protests.protests_in_is u).1) (λ u. (protests.protests_in_is u).2) (λ db. refl) (λ r. refl)
+      unread protest_in 7 12 PROTESTS_IN.now (Text round ∷ []) (equals 2 0 ∷ []) protests.protest_columns
+      protests.key_order _
+      (λ u. (protests.protests_in_is u).0) (λ u. (protests.protests_in_is u).1) (λ u. (protests.protests_in_is u).2)
+      (λ db. refl) (λ r. refl)
       (λ trees all. all.1.1.1.1.1.0)
 
   pub protests_in_begin : BeginsUnread protest_in PROTESTS_IN.now (Text round ∷ [])
   protests_in_begin =
-      begins_unread protest_in 7 12 PROTESTS_IN.now (Text round ∷ []) (equals 2 0 ∷ []) protests.protest_columns protests.key_order _
-      (λ u. (protests.protests_in_is u).0) (λ u. (protests.protests_in_is u).1) (λ u. (protests.protests_in_is u).2) (λ db. refl) (λ r. refl)
+      begins_unread protest_in 7 12 PROTESTS_IN.now (Text round ∷ []) (equals 2 0 ∷ []) protests.protest_columns
+      protests.key_order _
+      (λ u. (protests.protests_in_is u).0) (λ u. (protests.protests_in_is u).1) (λ u. (protests.protests_in_is u).2)
+      (λ db. refl) (λ r. refl)
       (λ trees all. all.1.1.1.1.1.0)
 
 pub protests_unread : TellsUnread protest_in ALL_PROTESTS.now []
 protests_unread =
     all_unread protest_in 7 12 ALL_PROTESTS.now protests.protest_columns protests.key_order _
-    (λ u. protests.all_protests_are (hall_in u) (inr (hall_like u))) (λ db. refl) (λ r. refl) (λ trees all. all.1.1.1.1.1.0)
+    (λ u. protests.all_protests_are (hall_in u) (inr (hall_like u))) (λ db. refl) (λ r. refl)
+    (λ trees all. all.1.1.1.1.1.0)

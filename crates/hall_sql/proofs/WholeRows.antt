@@ -3,7 +3,8 @@ use Rattle.std.proofs.Common.{◌≡◌, ◌+◌, List, [], ◌∷◌, map, leng
 use Rattle.std.proofs.lemmas.List.{length-map}
 use Rattle.std.specs.Cmp.{IsTotalOrder}
 use Rattle.std.specs.declared.cmp.Ordering.{Ordering}
-use Rattle.std.specs.FinMap.{FinMap, IsAntisymmetric, empty, entries, len, len-empty, len-entries, same_entries_map, values}
+use Rattle.std.specs.FinMap.{FinMap, IsAntisymmetric, empty, entries, len, len-empty, len-entries, same_entries_map}
+use Rattle.std.specs.FinMap.{values}
 use Rattle.sqlite.specs.Order.{Row}
 use Rattle.sqlite.specs.Tree.{Trees}
 use Rattle.hall_policy.specs.World.{World, puzzle_cmp, answer_cmp, protest_cmp, place_cmp}
@@ -14,7 +15,8 @@ use Rattle.hall_policy.specs.declared.record.Round.{Round}
 use Rattle.hall_policy.specs.declared.record.Entry.{Entry}
 use Rattle.hall_policy.specs.declared.record.AnswerRow.{AnswerRow}
 use Rattle.hall_policy.specs.declared.record.ProtestRow.{ProtestRow}
-use Rattle.hall_policy.proofs.Orders.{text_total, same_texts, puzzle_total, same_puzzle_keys, answer_total, same_answer_keys, protest_total, same_protest_keys}
+use Rattle.hall_policy.proofs.Orders.{text_total, same_texts, puzzle_total, same_puzzle_keys, answer_total}
+use Rattle.hall_policy.proofs.Orders.{same_answer_keys, protest_total, same_protest_keys}
 use Rattle.hall_store.specs.Maps.{empty_world}
 use Rattle.hall_store.specs.Whole.{AreUnderOwnKeys}
 use Rattle.hall_sql.specs.declared.rows.Rows.{Rows}
@@ -48,12 +50,16 @@ pub rows_of : (trees : Trees) (rows : Rows)
     → rows.protests.items ≡ values (world_of trees).protests
     → AreRowsOf (world_of trees) rows
 rows_of trees rows people puzzles heads places answers protests = record {
-  people = entries_listed text_total same_texts (λ (x : Person). x.name) person_of_row (trees 0) rows.people.items people;
-  puzzles = entries_listed puzzle_total same_puzzle_keys (λ (x : PuzzleRow). x.key) puzzle_of_row (trees 3) rows.puzzles.items puzzles;
+  people = entries_listed text_total same_texts (λ (x : Person). x.name) person_of_row (trees 0) rows.people.items
+      people;
+  puzzles = entries_listed puzzle_total same_puzzle_keys (λ (x : PuzzleRow). x.key) puzzle_of_row (trees 3)
+      rows.puzzles.items puzzles;
   heads = entries_listed text_total same_texts (λ (x : Round). x.id) round_of_row (trees 5) rows.heads.items heads;
   places = sym places;
-  answers = entries_listed answer_total same_answer_keys (λ (x : AnswerRow). x.key) answer_of_row (trees 9) rows.answers.items answers;
-  protests = entries_listed protest_total same_protest_keys (λ (x : ProtestRow). x.key) protest_of_row (trees 12) rows.protests.items protests;
+  answers = entries_listed answer_total same_answer_keys (λ (x : AnswerRow). x.key) answer_of_row (trees 9)
+      rows.answers.items answers;
+  protests = entries_listed protest_total same_protest_keys (λ (x : ProtestRow). x.key) protest_of_row (trees 12)
+      rows.protests.items protests;
 }
 
 -- each row of the world stands under its own key
@@ -63,7 +69,8 @@ own_keys trees = record {
   puzzles = entries_listed puzzle_total same_puzzle_keys (λ (x : PuzzleRow). x.key) puzzle_of_row (trees 3) _ refl;
   rounds = entries_listed text_total same_texts (λ (x : Round). x.id) round_of_row (trees 5) _ refl;
   answers = entries_listed answer_total same_answer_keys (λ (x : AnswerRow). x.key) answer_of_row (trees 9) _ refl;
-  protests = entries_listed protest_total same_protest_keys (λ (x : ProtestRow). x.key) protest_of_row (trees 12) _ refl;
+  protests = entries_listed protest_total same_protest_keys (λ (x : ProtestRow). x.key) protest_of_row (trees 12) _
+      refl;
 }
 
 -- testers don't count
@@ -84,8 +91,10 @@ bare_world world none = λ i. record world { testers = none i }
 -- ---- two worlds with the same rows
 
 -- worlds whose maps have the same entries, but for testers
-pub same_worlds : (one other : World) → entries one.people ≡ entries other.people → entries one.puzzles ≡ entries other.puzzles
-    → entries one.rounds ≡ entries other.rounds → entries one.places ≡ entries other.places → entries one.answers ≡ entries other.answers
+pub same_worlds : (one other : World) → entries one.people ≡ entries other.people
+    → entries one.puzzles ≡ entries other.puzzles
+    → entries one.rounds ≡ entries other.rounds → entries one.places ≡ entries other.places
+    → entries one.answers ≡ entries other.answers
     → entries one.protests ≡ entries other.protests → without_testers one ≡ without_testers other
 same_worlds one other people puzzles rounds places answers protests =
     let a = same_entries_map one.people other.people people in
@@ -94,7 +103,16 @@ same_worlds one other people puzzles rounds places answers protests =
     let d = same_entries_map one.places other.places places in
     let e = same_entries_map one.answers other.answers answers in
     let f = same_entries_map one.protests other.protests protests in
-    λ i. record { people = a i; puzzles = b i; rounds = c i; places = d i; answers = e i; protests = f i; testers = empty }
+    λ i. record {
+      people = a i;
+      puzzles = b i;
+      rounds = c i;
+      places = d i;
+      answers = e i;
+      protests = f i;
+      testers =
+          empty;
+    }
 
 pub one_world : (one other : World) (a b : Rows) → AreRowsOf one a → AreRowsOf other b → AreSameRows a b
     → without_testers one ≡ without_testers other
@@ -107,28 +125,36 @@ one_world one other a b p q same =
     (p.answers ∙ ap (map (λ (x : AnswerRow). (x.key, x))) same.answers ∙ sym q.answers)
     (p.protests ∙ ap (map (λ (x : ProtestRow). (x.key, x))) same.protests ∙ sym q.protests)
 
-unkeyed : {K X : Type 0} (key : X → K) (xs : List X) → map (λ (e : K × X). e.1) (map {B = K × X} (λ x. (key x, x)) xs) ≡ xs
+unkeyed : {K X : Type 0} (key : X → K) (xs : List X) → map (λ (e : K × X). e.1) (map {B = K × X} (λ x. (key x, x)) xs) ≡
+    xs
 unkeyed key [] = refl
 unkeyed key (x ∷ xs) = ap (λ l. x ∷ l) (unkeyed key xs)
 
-records_same : {K X : Type 0} (key : X → K) (xs ys : List X) → map {B = K × X} (λ x. (key x, x)) xs ≡ map (λ x. (key x, x)) ys → xs ≡ ys
+records_same : {K X : Type 0} (key : X → K) (xs ys : List X)
+    → map {B = K × X} (λ x. (key x, x)) xs ≡ map (λ x. (key x, x)) ys → xs ≡ ys
 records_same {K} {X} key xs ys is = sym (unkeyed key xs) ∙ ap (map (λ (e : K × X). e.1)) is ∙ unkeyed key ys
 
 -- one world has one list of rows
-pub one_rows : (one other : World) (a b : Rows) → AreRowsOf one a → AreRowsOf other b → without_testers one ≡ without_testers other
+pub one_rows : (one other : World) (a b : Rows) → AreRowsOf one a → AreRowsOf other b
+    → without_testers one ≡ without_testers other
     → AreSameRows a b
 one_rows one other a b p q is = record {
-  people = records_same (λ (x : Person). x.name) _ _ (sym p.people ∙ ap (λ (w : World). entries w.people) is ∙ q.people);
-  puzzles = records_same (λ (x : PuzzleRow). x.key) _ _ (sym p.puzzles ∙ ap (λ (w : World). entries w.puzzles) is ∙ q.puzzles);
+  people = records_same (λ (x : Person). x.name) _ _ (sym p.people ∙ ap (λ (w : World). entries w.people) is
+      ∙ q.people);
+  puzzles = records_same (λ (x : PuzzleRow). x.key) _ _ (sym p.puzzles ∙ ap (λ (w : World). entries w.puzzles) is
+      ∙ q.puzzles);
   heads = records_same (λ (x : Round). x.id) _ _ (sym p.heads ∙ ap (λ (w : World). entries w.rounds) is ∙ q.heads);
   places = sym p.places ∙ ap (λ (w : World). entries w.places) is ∙ q.places;
-  answers = records_same (λ (x : AnswerRow). x.key) _ _ (sym p.answers ∙ ap (λ (w : World). entries w.answers) is ∙ q.answers);
-  protests = records_same (λ (x : ProtestRow). x.key) _ _ (sym p.protests ∙ ap (λ (w : World). entries w.protests) is ∙ q.protests);
+  answers = records_same (λ (x : AnswerRow). x.key) _ _ (sym p.answers ∙ ap (λ (w : World). entries w.answers) is
+      ∙ q.answers);
+  protests = records_same (λ (x : ProtestRow). x.key) _ _ (sym p.protests ∙ ap (λ (w : World). entries w.protests) is
+      ∙ q.protests);
 }
 
 -- ---- how many there are
 
-counted : {K X Y : Type 0} {R : K → K → Ordering} (m : FinMap R Y) (f : X → K × Y) (xs : List X) → entries m ≡ map f xs → length xs ≡ len m
+counted : {K X Y : Type 0} {R : K → K → Ordering} (m : FinMap R Y) (f : X → K × Y) (xs : List X) → entries m ≡ map f xs
+    → length xs ≡ len m
 counted m f xs is = sym (length-map xs f) ∙ ap length (sym is) ∙ sym (len-entries m)
 
 pub rows_counted : (world : World) (rows : Rows) → AreRowsOf world rows → count_of rows ≡ row_count world
@@ -156,7 +182,8 @@ none_left : {K X : Type 0} {R : K → K → Ordering} (m : FinMap R X) → len m
 none_left m none = empty_entries m (no_more (entries m) (sym (len-entries m) ∙ none))
 
 -- no rows, no world
-pub nothing_kept : (world : World) (rows : Rows) → AreRowsOf world rows → count_of rows ≡ 0 → without_testers world ≡ empty_world
+pub nothing_kept : (world : World) (rows : Rows) → AreRowsOf world rows → count_of rows ≡ 0
+    → without_testers world ≡ empty_world
 nothing_kept world rows are none =
     let all : row_count world ≡ 0 = sym (rows_counted world rows are) ∙ none in
     let a = none_left world.people (omega (arith, all)) in
@@ -165,4 +192,13 @@ nothing_kept world rows are none =
     let d = none_left world.places (omega (arith, all)) in
     let e = none_left world.answers (omega (arith, all)) in
     let f = none_left world.protests (omega (arith, all)) in
-    λ i. record { people = a i; puzzles = b i; rounds = c i; places = d i; answers = e i; protests = f i; testers = empty }
+    λ i. record {
+      people = a i;
+      puzzles = b i;
+      rounds = c i;
+      places = d i;
+      answers = e i;
+      protests = f i;
+      testers =
+          empty;
+    }

@@ -12,12 +12,22 @@ pub returns-clause-bad : goal.returns-clause-bad
 returns-clause-bad g c clean =
     let old = state g.S.Store c.args.conn.now in
     let has = c.requires.has in
-    let was : HasCleanDisk old = omega (arith, (c.bad_in.ensures.rested has.schema has.tabled).follows.lasts.clean, clean) in
-    IfOk-weaker c.bad_in.result _ _ (λ ids it. puzzles_bad old (state g.S.Store c.bad_in.new.conn) was ids.items has it) (c.bad_in.ensures.bad clean)
+    let was : HasCleanDisk old = omega (
+      arith,
+      (c.bad_in.ensures.rested has.schema has.tabled).follows.lasts.clean,
+      clean,
+    ) in
+    IfOk-weaker c.bad_in.result _ _ (λ ids it. puzzles_bad old (state g.S.Store c.bad_in.new.conn) was ids.items has it)
+    (c.bad_in.ensures.bad clean)
 
 pub returns-clause-cause : goal.returns-clause-cause
 returns-clause-cause g c clean =
     let old = state g.S.Store c.args.conn.now in
     let has = c.requires.has in
-    let was : HasCleanDisk old = omega (arith, (c.bad_in.ensures.rested has.schema has.tabled).follows.lasts.clean, clean) in
-    IfErr-weaker c.bad_in.result _ _ (λ fault why failed. puzzles_cause old (state g.S.Store c.bad_in.new.conn) was has (why failed)) (c.bad_in.ensures.cause clean)
+    let was : HasCleanDisk old = omega (
+      arith,
+      (c.bad_in.ensures.rested has.schema has.tabled).follows.lasts.clean,
+      clean,
+    ) in
+    IfErr-weaker c.bad_in.result _ _ (λ fault why failed. puzzles_cause old (state g.S.Store c.bad_in.new.conn) was has
+    (why failed)) (c.bad_in.ensures.cause clean)

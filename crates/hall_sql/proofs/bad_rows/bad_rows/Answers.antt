@@ -20,18 +20,21 @@ bad_rows_of-requires g c =
       has = record {
         schema = over.schema;
         tabled = (so.0 over.schema over.tabled).tabled;
-        fits = λ found like. All-from_recursion (HasTable found) c.args.tables.now (over.fits found like) c.loop-table.table-index People c.loop-table-test.true;
+        fits = λ found like. All-from_recursion (HasTable found) c.args.tables.now (over.fits found like)
+            c.loop-table.table-index People c.loop-table-test.true;
       };
     }
 
 pub returns-in_err-rowids-clause-rested : goal.returns-in_err-rowids-clause-rested
 returns-in_err-rowids-clause-rested g c =
-    rests_twice (state g.S.Store c.args.conn.now) (state g.S.Store c.loop-table.conn) (state g.S.Store c.bad_rows_of.new.conn)
+    rests_twice (state g.S.Store c.args.conn.now) (state g.S.Store c.loop-table.conn)
+    (state g.S.Store c.bad_rows_of.new.conn)
     c.loop-table.invariant.0 c.in_err-rowids.ensures.rested
 
 pub returns-in_err-add-clause-rested : goal.returns-in_err-add-clause-rested
 returns-in_err-add-clause-rested g c =
-    rests_twice (state g.S.Store c.args.conn.now) (state g.S.Store c.loop-table.conn) (state g.S.Store c.bad_rows_of.new.conn)
+    rests_twice (state g.S.Store c.args.conn.now) (state g.S.Store c.loop-table.conn)
+    (state g.S.Store c.bad_rows_of.new.conn)
     c.loop-table.invariant.0 c.in_ok-rowids.ensures.rested
 
 pub loop-table-preserved : goal.loop-table-preserved
@@ -52,7 +55,8 @@ loop-table-preserved g c =
       λ clean.
           let was : HasCleanDisk mid = omega (arith, second.follows.lasts.clean, clean) in
           rw (take_more tables i People c.loop-table-test.true, items)
-          (told_next (take i tables) (get_or tables i People) over.schema old mid new c.loop-table.bad.items rows clean first second (so.1 was).1 refl (it.bad clean)),
+          (told_next (take i tables) (get_or tables i People) over.schema old mid new c.loop-table.bad.items rows clean
+          first second (so.1 was).1 refl (it.bad clean)),
     )
 
 pub returns-in_err-rowids-clause-cause : goal.returns-in_err-rowids-clause-cause
@@ -69,4 +73,5 @@ returns-in_err-rowids-clause-cause g c clean =
 
 pub returns-in_err-add-clause-cause : goal.returns-in_err-add-clause-cause
 returns-in_err-add-clause-cause g c clean =
-    fails_as c.from_residual-in_err-add.result _ _ c.from_residual-in_err-add.ensures.1 (λ failed. absurd (c.in_err-add.ensures.cause failed))
+    fails_as c.from_residual-in_err-add.result _ _ c.from_residual-in_err-add.ensures.1
+    (λ failed. absurd (c.in_err-add.ensures.cause failed))

@@ -17,4 +17,9 @@ returns-in-Err-clause-carries g c = record {
 }
 
 pub returns-in-Err-clause-cause : goal.returns-in-Err-clause-cause
-returns-in-Err-clause-cause g c clean = λ failed. (c.in-Err.error, c.fault_of.ensures failed, c.in-Err.ensures.err clean)
+returns-in-Err-clause-cause g c clean = λ failed. (
+  c.in-Err.error,
+  c.fault_of.ensures failed,
+  c.in-Err.ensures.err
+      clean,
+)

@@ -16,5 +16,6 @@ returns-in-Ok-clause-found g c = record {
       let clean = both_true _ _ it.honest in
       let log = held_first g.B.Start true c.args.files.log c.requires.log clean.0 in
       let db = held_first g.B.Start false c.args.files.db c.requires.db clean.1 in
-      subst (λ i. FindsIn i (file_state c.in-Ok.conn)) (ap₂ image log db) (record { holds = it.holds; reads = it.reads });
+      subst (λ i. FindsIn i (file_state c.in-Ok.conn)) (ap₂ image log db)
+      (record { holds = it.holds; reads = it.reads });
 }

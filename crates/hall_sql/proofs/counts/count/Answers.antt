@@ -24,7 +24,11 @@ returns-clause-rested g c = rested_hall c.requires.hall c.ask.ensures.rested
 pub returns-in_err-rows-clause-cause : goal.returns-in_err-rows-clause-cause
 returns-in_err-rows-clause-cause g c clean =
     let old = state g.S.Store c.args.conn.now in
-    let was : HasCleanDisk old = omega (arith, (rested_hall c.requires.hall c.ask.ensures.rested).follows.lasts.clean, clean) in
+    let was : HasCleanDisk old = omega (
+      arith,
+      (rested_hall c.requires.hall c.ask.ensures.rested).follows.lasts.clean,
+      clean,
+    ) in
     fails_as c.from_residual.result _ _ c.from_residual.ensures.1 (λ failed.
     let it = c.in_err-rows.ensures.cause clean failed in
     inl (asked_cause c.args.sql.now (bound c.args.params.now) old (state g.S.Store c.ask.new.conn) it.0 c.requires.asks

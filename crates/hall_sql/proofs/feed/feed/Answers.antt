@@ -22,20 +22,23 @@ returns-in-Err-clause-rested g c =
     let refused = rw c.in-Err.is at held in
     rested old new c.requires.hall (survived _ _ _ refused.survives)
     (λ was clean. query_refused old new c.args.sql.now (bound c.args.params.now) c.in-Err.error (refused.err clean))
-    (quiet_query c.args.sql.now (bound c.args.params.now) old new (asked_quiet c.args.sql.now (bound c.args.params.now) c.requires.asks) refused.survives)
+    (quiet_query c.args.sql.now (bound c.args.params.now) old new
+    (asked_quiet c.args.sql.now (bound c.args.params.now) c.requires.asks) refused.survives)
 
 pub feed-init : goal.feed-init
 feed-init g c =
     let it = c.in-Ok.ensures in (
       refl,
       survived _ _ _ it.survives,
-      quiet_query c.args.sql.now (bound c.args.params.now) _ _ (asked_quiet c.args.sql.now (bound c.args.params.now) c.requires.asks) it.survives,
+      quiet_query c.args.sql.now (bound c.args.params.now) _ _
+          (asked_quiet c.args.sql.now (bound c.args.params.now) c.requires.asks) it.survives,
       (
         [],
         refl,
         λ clean.
             let was : HasCleanDisk (state g.S.Store c.args.conn.now) = omega (arith, it.survives.clean, clean) in
-            read_none g.S.Store g.T.Record.read c.args.sql.now (bound c.args.params.now) c.args.conn.now c.in-Ok.rows.conn.now
+            read_none g.S.Store g.T.Record.read c.args.sql.now (bound c.args.params.now) c.args.conn.now
+            c.in-Ok.rows.conn.now
             (λ schema ours. (c.requires.asks schema ours).plain) c.requires.hall was (it.begun clean),
       ),
     )
@@ -47,18 +50,22 @@ feed-preserved g c =
     let after = c.step.new.rows.conn.now in
     let so = c.feed.invariant.3 in
     let is : c.in_ok-step.field-0 ≡ true = search rules in
-    let lasts = last_then old (state g.S.Store before) (state g.S.Store after) c.feed.invariant.1 c.step.ensures.lasts in
-    let stepped = subst (Steps g.S.Store g.T.Record.read g.K.Sink.takes before after c.feed.sink c.step.new.sink) is c.in_ok-step.ensures.stepped in (
+    let lasts = last_then old (state g.S.Store before) (state g.S.Store after) c.feed.invariant.1
+    c.step.ensures.lasts in
+    let stepped = subst (Steps g.S.Store g.T.Record.read g.K.Sink.takes before after c.feed.sink c.step.new.sink) is
+    c.in_ok-step.ensures.stepped in (
       c.step.ensures.same_reference ∙ c.feed.invariant.0,
       lasts,
-      quiet_then old (state g.S.Store before) (state g.S.Store after) c.feed.invariant.2 c.step.ensures.lasts c.step.ensures.stops,
+      quiet_then old (state g.S.Store before) (state g.S.Store after) c.feed.invariant.2 c.step.ensures.lasts
+          c.step.ensures.stops,
       (
         so.0 ++ stepped.0 ∷ [],
         taken_more g.K.Sink.takes c.args.sink.now c.feed.sink c.step.new.sink so.0 stepped.0 so.1 stepped.1,
         λ clean.
             let mid : HasCleanDisk (state g.S.Store before) = omega (arith, c.step.ensures.lasts.clean, clean) in
             let row = stepped.2 clean in
-            read_more g.S.Store g.T.Record.read c.args.sql.now (bound c.args.params.now) old before after so.0 (so.2 mid)
+            read_more g.S.Store g.T.Record.read c.args.sql.now (bound c.args.params.now) old before after so.0
+            (so.2 mid)
             stepped.0 row.0 row.1.0 row.1.1 row.1.2,
       ),
     )
@@ -70,7 +77,8 @@ returns-then-not-branch-clause-fed g c =
     let so = c.feed.invariant.3 in
     let same : c.conn-then-not-branch-1.given.0 ≡ after = search rules in
     let none : c.in_ok-step.field-0 ≡ false = search rules in
-    let stepped = subst (Steps g.S.Store g.T.Record.read g.K.Sink.takes before after c.feed.sink c.step.new.sink) none c.in_ok-step.ensures.stepped in (
+    let stepped = subst (Steps g.S.Store g.T.Record.read g.K.Sink.takes before after c.feed.sink c.step.new.sink) none
+    c.in_ok-step.ensures.stepped in (
       so.0,
       subst (HasTaken g.K.Sink.takes c.args.sink.now so.0) (sym stepped.0) so.1,
       λ clean.
@@ -80,7 +88,8 @@ returns-then-not-branch-clause-fed g c =
           let was : HasCleanDisk old = omega (arith, c.feed.invariant.1.clean, mid) in
           let last = stepped.1 late in (
             subst (λ h. IsTrue (state g.S.Store h).is_open) (sym same) last.0.0.is_open,
-            subst (λ h. AreAll g.T.Record.read c.args.sql.now (bound c.args.params.now) old (state g.S.Store h) so.0) (sym same)
+            subst (λ h. AreAll g.T.Record.read c.args.sql.now (bound c.args.params.now) old (state g.S.Store h) so.0)
+                (sym same)
                 (read_all g.S.Store g.T.Record.read c.args.sql.now (bound c.args.params.now) old before after so.0
                 (so.2 mid) (λ schema ours. (c.requires.asks schema ours).plain) c.requires.hall was last.1),
           ),
@@ -95,7 +104,8 @@ returns-clause-fed g c =
       so.1,
       inr (λ clean.
           let mid : HasCleanDisk (state g.S.Store held) = subst (λ h. HasCleanDisk (state g.S.Store h)) same clean in
-          read_first g.S.Store g.T.Record.read c.args.sql.now (bound c.args.params.now) (state g.S.Store c.args.conn.now) held held so.0 (so.2 mid)),
+          read_first g.S.Store g.T.Record.read c.args.sql.now (bound c.args.params.now)
+          (state g.S.Store c.args.conn.now) held held so.0 (so.2 mid)),
     )
 
 pub returns-in_err-step-clause-fed : goal.returns-in_err-step-clause-fed
@@ -104,13 +114,15 @@ returns-in_err-step-clause-fed g c =
     let after = c.step.new.rows.conn.now in
     let so = c.feed.invariant.3 in
     let same : c.conn-in_err-step-1.given.0 ≡ after = search rules in
-    fed_first g.S.Store g.T.Record.read g.K.Sink.takes c.args.sql.now (bound c.args.params.now) (state g.S.Store c.args.conn.now) (state g.S.Store c.conn-in_err-step-1.given.0)
+    fed_first g.S.Store g.T.Record.read g.K.Sink.takes c.args.sql.now (bound c.args.params.now)
+    (state g.S.Store c.args.conn.now) (state g.S.Store c.conn-in_err-step-1.given.0)
     c.args.sink.now c.step.new.sink c.from_residual.result _ c.from_residual.ensures.1 so.0
     (subst (HasTaken g.K.Sink.takes c.args.sink.now so.0) (sym c.in_err-step.ensures.same) so.1)
     (λ clean.
     let late : HasCleanDisk (state g.S.Store after) = subst (λ h. HasCleanDisk (state g.S.Store h)) same clean in
     let mid : HasCleanDisk (state g.S.Store before) = omega (arith, c.step.ensures.lasts.clean, late) in
-    read_first g.S.Store g.T.Record.read c.args.sql.now (bound c.args.params.now) (state g.S.Store c.args.conn.now) before before so.0 (so.2 mid))
+    read_first g.S.Store g.T.Record.read c.args.sql.now (bound c.args.params.now) (state g.S.Store c.args.conn.now)
+    before before so.0 (so.2 mid))
 
 pub returns-in-Err-clause-cause : goal.returns-in-Err-clause-cause
 returns-in-Err-clause-cause g c clean failed =
@@ -134,10 +146,13 @@ returns-in_err-step-clause-cause g c clean =
     let sql = c.args.sql.now in
     let params = bound c.args.params.now in
     fails_as c.from_residual.result _ _ c.from_residual.ensures.1 (λ failed.
-    subst (λ h. FeedFails g.T.Record.read g.K.Sink.takes g.K.Sink.refuses sql params old (state g.S.Store h) c.args.sink.now c.step.new.sink)
+    subst (λ h. FeedFails g.T.Record.read g.K.Sink.takes g.K.Sink.refuses sql params old (state g.S.Store h)
+    c.args.sink.now c.step.new.sink)
     (sym same)
-    (subst (FeedFails g.T.Record.read g.K.Sink.takes g.K.Sink.refuses sql params old (state g.S.Store after) c.args.sink.now)
+    (subst (FeedFails g.T.Record.read g.K.Sink.takes g.K.Sink.refuses sql params old (state g.S.Store after)
+    c.args.sink.now)
     (sym c.in_err-step.ensures.same)
-    (feed_cause g.S.Store g.T.Record.read g.K.Sink.takes g.K.Sink.refuses sql params c.requires.asks old c.requires.hall before after
+    (feed_cause g.S.Store g.T.Record.read g.K.Sink.takes g.K.Sink.refuses sql params c.requires.asks old c.requires.hall
+    before after
     c.args.sink.now c.feed.sink c.feed.invariant.1 mid c.step.ensures.lasts so.0 so.1 (so.2 mid)
     (c.in_err-step.ensures.cause late failed))))

@@ -11,4 +11,5 @@ invariant-loop-record g l =
     let base = state g.S.Store l.fn.tx.conn.now in
     let now = state g.S.Store l.tx.conn.now in
     (l.tx.conn.ghost_name ≡ l.fn.tx.conn.ghost_name) × LeadsUncommitted base now
-    × (HasCleanDisk now → IsTrue base.in_transaction → MakesInside (λ a b. HasTaken g.T.Added.adds a (take l.record-index l.records) b) base now)
+    × (HasCleanDisk now → IsTrue base.in_transaction → MakesInside
+    (λ a b. HasTaken g.T.Added.adds a (take l.record-index l.records) b) base now)

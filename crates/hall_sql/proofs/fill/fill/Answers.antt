@@ -29,7 +29,8 @@ returns-in-Ok-clause-stops g c =
     let old = state g.S.Store c.args.conn.now in
     let Among = AreFilled c.args.rows.now old.now in
     subst (λ h. IsTrue old.is_open → AddsOutcomes Among old (state g.S.Store h)) (sym same)
-    (commit_outcomes g.S.Store c.args.conn.now c.requires.hall c.live.ensures (Fills c.args.rows.now) (state g.S.Store c.fill_inside.new.tx.conn.now) (state g.S.Store c.commit.new.self.0)
+    (commit_outcomes g.S.Store c.args.conn.now c.requires.hall c.live.ensures (Fills c.args.rows.now)
+    (state g.S.Store c.fill_inside.new.tx.conn.now) (state g.S.Store c.commit.new.self.0)
     it.carries it.done c.in-Ok.ensures.survives)
 
 pub returns-in-Err-clause-stops : goal.returns-in-Err-clause-stops
@@ -39,7 +40,8 @@ returns-in-Err-clause-stops g c =
     let old = state g.S.Store c.args.conn.now in
     let Among = AreFilled c.args.rows.now old.now in
     subst (λ h. IsTrue old.is_open → AddsOutcomes Among old (state g.S.Store h)) (sym same)
-    (commit_outcomes g.S.Store c.args.conn.now c.requires.hall c.live.ensures (Fills c.args.rows.now) (state g.S.Store c.fill_inside.new.tx.conn.now) (state g.S.Store c.commit.new.self.0)
+    (commit_outcomes g.S.Store c.args.conn.now c.requires.hall c.live.ensures (Fills c.args.rows.now)
+    (state g.S.Store c.fill_inside.new.tx.conn.now) (state g.S.Store c.commit.new.self.0)
     it.carries it.done c.in-Err.ensures.survives)
 
 pub returns-in_err-fill_inside-clause-stops : goal.returns-in_err-fill_inside-clause-stops
@@ -49,7 +51,8 @@ returns-in_err-fill_inside-clause-stops g c =
     let old = state g.S.Store c.args.conn.now in
     let Among = AreFilled c.args.rows.now old.now in
     subst (λ h. IsTrue old.is_open → AddsOutcomes Among old (state g.S.Store h)) (sym same)
-    (λ opens. rolled_outcomes g.S.Store c.args.conn.now c.requires.hall Among (state g.S.Store c.fill_inside.new.tx.conn.now) (state g.S.Store c.drop-tx.new.self.0)
+    (λ opens. rolled_outcomes g.S.Store c.args.conn.now c.requires.hall Among
+    (state g.S.Store c.fill_inside.new.tx.conn.now) (state g.S.Store c.drop-tx.new.self.0)
     it.carries c.drop-tx.ensures.survives)
 
 pub returns-in-Err-clause-cause : goal.returns-in-Err-clause-cause
@@ -60,7 +63,8 @@ returns-in-Err-clause-cause g c clean failed =
     let end = state g.S.Store c.commit.new.self.0 in
     let late : HasCleanDisk end = subst (λ h. HasCleanDisk (state g.S.Store h)) same clean in
     subst (λ h. FillFails c.args.rows.now (state g.S.Store c.args.conn.now) (state g.S.Store h)) (sym same)
-    (inl (commit_fails g.S.Store c.args.conn.now c.requires.hall (Fills c.args.rows.now) mid end c.in-Err.error it.carries it.done
+    (inl (commit_fails g.S.Store c.args.conn.now c.requires.hall (Fills c.args.rows.now) mid end c.in-Err.error
+    it.carries it.done
     (survived _ _ _ c.in-Err.ensures.survives) late (c.fault_of.ensures failed) (c.in-Err.ensures.err late)))
 
 pub returns-in_err-fill_inside-clause-cause : goal.returns-in_err-fill_inside-clause-cause

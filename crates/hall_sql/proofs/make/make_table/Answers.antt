@@ -10,12 +10,15 @@ returns-clause-done g c clean inside =
     let ran = rw c.table_text.ensures at it.runs clean inside in
     record {
       mode = it.mode clean inside;
-      made = made_next c.args.table (state g.S.Store c.args.tx.now.conn.now) (state g.S.Store c.run_in.new.tx.conn.now) _ ran;
-      sound = made_sound c.args.table (state g.S.Store c.args.tx.now.conn.now) (state g.S.Store c.run_in.new.tx.conn.now) _ ran;
+      made = made_next c.args.table (state g.S.Store c.args.tx.now.conn.now) (state g.S.Store c.run_in.new.tx.conn.now)
+          _ ran;
+      sound = made_sound c.args.table (state g.S.Store c.args.tx.now.conn.now)
+          (state g.S.Store c.run_in.new.tx.conn.now) _ ran;
     }
 
 pub returns-in_err-run_in-clause-cause : goal.returns-in_err-run_in-clause-cause
 returns-in_err-run_in-clause-cause g c clean inside has =
     fails_as c.from_residual.result _ _ c.from_residual.ensures.1 (λ failed.
     let it = rw c.table_text.ensures at c.in_err-run_in.ensures.cause clean inside failed in
-    making_cause c.args.table (state g.S.Store c.args.tx.now.conn.now) (state g.S.Store c.run_in.new.tx.conn.now) it.0 it.1 has it.2)
+    making_cause c.args.table (state g.S.Store c.args.tx.now.conn.now) (state g.S.Store c.run_in.new.tx.conn.now) it.0
+    it.1 has it.2)

@@ -19,7 +19,8 @@ loop-table-preserved g c =
       carries_then base s after so.1 goes it.carries,
       λ clean mode.
           let was : HasCleanDisk s = omega (arith, it.carries.lasts.clean, clean) in
-          more_grown c.args.tables.now c.loop-table.table-index _ base s after c.loop-table-test.true (so.2 was mode) (it.done clean (goes was mode)),
+          more_grown c.args.tables.now c.loop-table.table-index _ base s after c.loop-table-test.true (so.2 was mode)
+          (it.done clean (goes was mode)),
     )
 
 pub returns-in_err-make_table-clause-cause : goal.returns-in_err-make_table-clause-cause
@@ -33,4 +34,5 @@ returns-in_err-make_table-clause-cause g c clean inside awaits =
     let here = so.2 was inside in
     let has = next_grows c.args.tables.now c.loop-table.table-index _ s.now c.loop-table-test.true (here.made awaits) in
     fails_as c.from_residual.result _ _ c.from_residual.ensures.1 (λ failed.
-    cause_over base s after so.1.lasts was it.carries.lasts (c.in_err-make_table.ensures.cause clean here.mode has failed))
+    cause_over base s after so.1.lasts was it.carries.lasts (c.in_err-make_table.ensures.cause clean here.mode has
+    failed))

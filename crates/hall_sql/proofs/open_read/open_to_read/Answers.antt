@@ -4,9 +4,12 @@ use Rattle.hall_sql.proofs.open_read.open_to_read.Goals as goal
 
 pub returns-in-Ok-take-clause-opened : goal.returns-in-Ok-take-clause-opened
 returns-in-Ok-take-clause-opened g c =
-    opens_so g.S.Store g.F.PathFiles.image_at g.F.PathFiles.tells g.F.PathFiles.opens c.args.files.now c.is_missing.new.self c.args.path.now
-    c.in-Ok.conn c.in-Ok-take.found c.open.new.self (search rules) c.in-Ok.ensures.opened c.in-Ok.ensures.found c.in-Ok-take.ensures.taken
+    opens_so g.S.Store g.F.PathFiles.image_at g.F.PathFiles.tells g.F.PathFiles.opens c.args.files.now
+    c.is_missing.new.self c.args.path.now
+    c.in-Ok.conn c.in-Ok-take.found c.open.new.self (search rules) c.in-Ok.ensures.opened c.in-Ok.ensures.found
+    c.in-Ok-take.ensures.taken
 
 pub returns-in-Ok-take-clause-starts : goal.returns-in-Ok-take-clause-starts
 returns-in-Ok-take-clause-starts g c =
-    starts_so g.S.Store (g.F.PathFiles.image_at c.args.path.now) c.in-Ok.conn c.in-Ok-take.found c.in-Ok.ensures.found c.in-Ok-take.ensures.taken
+    starts_so g.S.Store (g.F.PathFiles.image_at c.args.path.now) c.in-Ok.conn c.in-Ok-take.found c.in-Ok.ensures.found
+    c.in-Ok-take.ensures.taken

@@ -17,8 +17,10 @@ returns-in-Ok-clause-wrote g c =
     let same : c.conn-2-1.given.0 ≡ c.commit.new.self.0 = search rules in
     let it = rw (c.transaction-tx.ensures.begun, c.as_slice.ensures.value) at c.in_ok-import_all.ensures in
     let end = state g.S.Store c.commit.new.self.0 in
-    subst (λ h. MakesInTables {R = Unit} {E = StoreFault} (Import c.args.people.now) (state g.S.Store c.args.conn.now) (state g.S.Store h) (Ok tt)) (sym same)
-    (committed_wrote g.S.Store c.args.conn.now c.requires.hall c.live.ensures (Import c.args.people.now) tt (state g.S.Store c.import_all.new.tx.conn.now) end
+    subst (λ h. MakesInTables {R = Unit} {E = StoreFault} (Import c.args.people.now) (state g.S.Store c.args.conn.now)
+    (state g.S.Store h) (Ok tt)) (sym same)
+    (committed_wrote g.S.Store c.args.conn.now c.requires.hall c.live.ensures (Import c.args.people.now) tt
+    (state g.S.Store c.import_all.new.tx.conn.now) end
     it.carries it.done c.in-Ok.ensures.survives c.in-Ok.ensures.ended c.in-Ok.ensures.ok)
 
 pub returns-in-Err-clause-wrote : goal.returns-in-Err-clause-wrote
@@ -26,8 +28,10 @@ returns-in-Err-clause-wrote g c =
     let same : c.conn-2-1.given.0 ≡ c.commit.new.self.0 = search rules in
     let it = rw (c.transaction-tx.ensures.begun, c.as_slice.ensures.value) at c.in_ok-import_all.ensures in
     let end = state g.S.Store c.commit.new.self.0 in
-    subst (λ h. MakesInTables {R = Unit} {E = StoreFault} (Import c.args.people.now) (state g.S.Store c.args.conn.now) (state g.S.Store h) (Err c.fault_of.result)) (sym same)
-    (refused_wrote g.S.Store c.args.conn.now c.requires.hall c.live.ensures (Import c.args.people.now) c.fault_of.result c.in-Err.error (state g.S.Store c.import_all.new.tx.conn.now) end
+    subst (λ h. MakesInTables {R = Unit} {E = StoreFault} (Import c.args.people.now) (state g.S.Store c.args.conn.now)
+    (state g.S.Store h) (Err c.fault_of.result)) (sym same)
+    (refused_wrote g.S.Store c.args.conn.now c.requires.hall c.live.ensures (Import c.args.people.now) c.fault_of.result
+    c.in-Err.error (state g.S.Store c.import_all.new.tx.conn.now) end
     it.carries it.done c.in-Err.ensures.survives c.in-Err.ensures.ended c.in-Err.ensures.err)
 
 pub returns-in-Err-clause-cause : goal.returns-in-Err-clause-cause
@@ -37,8 +41,10 @@ returns-in-Err-clause-cause g c clean failed =
     let mid = state g.S.Store c.import_all.new.tx.conn.now in
     let end = state g.S.Store c.commit.new.self.0 in
     let late : HasCleanDisk end = subst (λ h. HasCleanDisk (state g.S.Store h)) same clean in
-    subst (λ h. ImportFails g.S.Store c.args.people.now (state g.S.Store c.args.conn.now) (state g.S.Store h)) (sym same)
-    (inl (commit_fails g.S.Store c.args.conn.now c.requires.hall (Changes (Import c.args.people.now)) mid end c.in-Err.error it.carries it.done
+    subst (λ h. ImportFails g.S.Store c.args.people.now (state g.S.Store c.args.conn.now) (state g.S.Store h))
+    (sym same)
+    (inl (commit_fails g.S.Store c.args.conn.now c.requires.hall (Changes (Import c.args.people.now)) mid end
+    c.in-Err.error it.carries it.done
     (survived _ _ _ c.in-Err.ensures.survives) late (c.fault_of.ensures failed) (c.in-Err.ensures.err late)))
 
 pub returns-in_err-import_all-clause-cause : goal.returns-in_err-import_all-clause-cause
@@ -52,5 +58,6 @@ returns-in_err-import_all-clause-cause g c clean =
     let now : HasCleanDisk mid = omega (arith, lasts.clean, late) in
     let was : HasCleanDisk (state g.S.Store c.args.conn.now) = omega (arith, it.carries.lasts.clean, now) in
     fails_as c.from_residual.result _ _ c.from_residual.ensures.1 (λ failed.
-    subst (λ h. ImportFails g.S.Store c.args.people.now (state g.S.Store c.args.conn.now) (state g.S.Store h)) (sym same)
+    subst (λ h. ImportFails g.S.Store c.args.people.now (state g.S.Store c.args.conn.now) (state g.S.Store h))
+    (sym same)
     (whole_cause g.S.Store c.args.conn.now c.requires.hall mid end was lasts (λ goes. it.cause now goes failed)))

@@ -33,9 +33,11 @@ returns-clause-cause g c clean goes = elim c.match-branch-2.branch [
       let was : HasCleanDisk mid = omega (arith, to_new.clean, late) in
       let it = c.in_ok-person_in.ensures.done was goes.mode in
       let why = w.add_person.ensures.cause late (goes_on old mid goes to_mid it.steps) in
-      let all : IfErr w.add_person.result (λ fault. fault ≡ Failed → IsStoreCause old new ⊎ PersonIsRefused c.args.person.now old new) =
+      let all : IfErr w.add_person.result (λ fault. fault ≡ Failed → IsStoreCause old new
+      ⊎ PersonIsRefused c.args.person.now old new) =
       IfErr-weaker w.add_person.result _ _ (λ fault one failed.
-      elim (run_over ADD_PERSON.now (person_params c.args.person.now) old mid new to_mid was to_new (it.does goes.hall).same (one failed)) [
+      elim (run_over ADD_PERSON.now (person_params c.args.person.now) old mid new to_mid was to_new
+      (it.does goes.hall).same (one failed)) [
         | inl cause ↦ inl cause
         | inr refused ↦ inr (inr (sym (it.does goes.hall).means ∙ w.in-None.is, refused))
       ]) why in

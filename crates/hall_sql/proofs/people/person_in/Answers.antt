@@ -19,14 +19,16 @@ returns-clause-done g c clean inside =
     let shown = rw (c.params-to_sql.ensures, c.as_str.ensures.text) at (c.in_ok-rows.ensures.shown clean) in
     IfOk-weaker c.at_most_one.result _ _
     (λ o h. shown_did _ _ _ old new c.in_ok-rows.rows.items inside (λ u. (person_is u).2) shown
-    (λ it. h.1 ∙ person_found c.args.name.now old new c.in_ok-rows.rows.items c.in_ok-read_all.field-0.items it.schema shown
+    (λ it. h.1 ∙ person_found c.args.name.now old new c.in_ok-rows.rows.items c.in_ok-read_all.field-0.items it.schema
+    shown
     (rw c.deref.ensures.value at c.in_ok-read_all.ensures.all) h.0))
     c.at_most_one.ensures.one
 
 pub returns-in_err-rows-clause-cause : goal.returns-in_err-rows-clause-cause
 returns-in_err-rows-clause-cause g c clean goes =
     fails_as c.from_residual.result _ _ c.from_residual.ensures.1 (λ failed.
-    inl (asked_inside PERSON.now (Text c.args.name.now ∷ []) (state g.S.Store c.args.tx.now.conn.now) (state g.S.Store c.ask_in.new.tx.conn.now) (person_asked c.args.name.now) goes
+    inl (asked_inside PERSON.now (Text c.args.name.now ∷ []) (state g.S.Store c.args.tx.now.conn.now)
+    (state g.S.Store c.ask_in.new.tx.conn.now) (person_asked c.args.name.now) goes
     (rw (c.params-to_sql.ensures, c.as_str.ensures.text) at (c.in_err-rows.ensures.cause clean failed))))
 
 pub returns-in_err-read_all-clause-cause : goal.returns-in_err-read_all-clause-cause
@@ -41,5 +43,6 @@ returns-clause-cause g c clean goes =
     let reads = rw c.deref.ensures.value at c.in_ok-read_all.ensures.all in
     let same = length_read person_in c.in_ok-rows.rows.items c.in_ok-read_all.field-0.items reads in
     IfErr-weaker c.at_most_one.result _ _ (λ fault long failed.
-    let more : 1 < length c.in_ok-rows.rows.items = omega (arith, same, long) in inr (c.in_ok-rows.rows.items, shown, inr more))
+    let more : 1 < length c.in_ok-rows.rows.items = omega (arith, same, long) in inr
+    (c.in_ok-rows.rows.items, shown, inr more))
     c.at_most_one.ensures.more

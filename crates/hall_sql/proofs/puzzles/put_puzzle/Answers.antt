@@ -8,7 +8,8 @@ use Rattle.hall_sql.proofs.puzzles.put_puzzle.Goals as goal
 
 pub returns-clause-wrote : goal.returns-clause-wrote
 returns-clause-wrote g c =
-    rested_then (PutPuzzle c.args.row.now) (state g.S.Store c.args.conn.now) (state g.S.Store c.look.new.conn) _ c.put_found.result
+    rested_then (PutPuzzle c.args.row.now) (state g.S.Store c.args.conn.now) (state g.S.Store c.look.new.conn) _
+    c.put_found.result
     c.look.ensures.rested c.in_ok-count.ensures.serves c.put_found.ensures.wrote
 
 pub returns-clause-cause : goal.returns-clause-cause
@@ -17,10 +18,13 @@ returns-clause-cause g c clean =
     let was : HasCleanDisk mid = c.put_found.ensures.wrote.makes.leads.honest clean in
     let opens = c.in_ok-count.ensures.serves was in
     IfErr-weaker c.put_found.result _ _ (λ fault why failed.
-    puzzle_found c.args.row.now c.in_ok-count.count (state g.S.Store c.args.conn.now) mid (state g.S.Store c.put_found.new.conn)
-    c.look.ensures.rested.follows.lasts.counts opens (c.look.ensures.rested.same was opens) (c.in_ok-count.ensures.found was) (why failed)) (c.put_found.ensures.cause clean)
+    puzzle_found c.args.row.now c.in_ok-count.count (state g.S.Store c.args.conn.now) mid
+    (state g.S.Store c.put_found.new.conn)
+    c.look.ensures.rested.follows.lasts.counts opens (c.look.ensures.rested.same was opens)
+    (c.in_ok-count.ensures.found was) (why failed)) (c.put_found.ensures.cause clean)
 
 pub returns-in_err-count-clause-wrote : goal.returns-in_err-count-clause-wrote
 returns-in_err-count-clause-wrote g c =
-    rested_wrote_as (PutPuzzle c.args.row.now) (state g.S.Store c.args.conn.now) (state g.S.Store c.look.new.conn) _ c.from_residual-in_err-count.result
+    rested_wrote_as (PutPuzzle c.args.row.now) (state g.S.Store c.args.conn.now) (state g.S.Store c.look.new.conn) _
+    c.from_residual-in_err-count.result
     c.from_residual-in_err-count.ensures.1 c.in_err-count.ensures.rested

@@ -6,7 +6,8 @@ use Rattle.hall_sql.proofs.reads.find.Goals as goal
 
 pub returns-in_err-read-clause-cause : goal.returns-in_err-read-clause-cause
 returns-in_err-read-clause-cause g c clean =
-    fails_as c.from_residual.result _ _ c.from_residual.ensures.1 (λ failed. inl (c.in_err-read.ensures.cause clean failed))
+    fails_as c.from_residual.result _ _ c.from_residual.ensures.1
+    (λ failed. inl (c.in_err-read.ensures.cause clean failed))
 
 pub returns-clause-found : goal.returns-clause-found
 returns-clause-found g c clean =

@@ -11,13 +11,25 @@ use Rattle.hall_sql.proofs.reads.read_any.Goals as goal
 pub ask-requires : goal.ask-requires
 ask-requires g c =
     let over = c.requires.asks in
-    record { plain = record { schema = over.schema; tabled = over.tabled; fits = λ found like. (over.fits found like).plain }; quiet = asked_quiet c.args.sql.now (bound c.args.params.now) over.fits }
+    record {
+      plain = record {
+        schema = over.schema;
+        tabled = over.tabled;
+        fits = λ found like.
+            (over.fits found like).plain;
+      };
+      quiet = asked_quiet c.args.sql.now (bound c.args.params.now) over.fits;
+    }
 
 pub returns-in_err-rows-clause-cause : goal.returns-in_err-rows-clause-cause
 returns-in_err-rows-clause-cause g c clean =
     let old = state g.S.Store c.args.conn.now in
     let over = c.requires.asks in
-    let was : HasCleanDisk old = omega (arith, (c.ask.ensures.rested over.schema over.tabled).follows.lasts.clean, clean) in
+    let was : HasCleanDisk old = omega (
+      arith,
+      (c.ask.ensures.rested over.schema over.tabled).follows.lasts.clean,
+      clean,
+    ) in
     fails_as c.from_residual.result _ _ c.from_residual.ensures.1 (λ failed.
     let it = c.in_err-rows.ensures.cause clean failed in
     inl (asked_cause c.args.sql.now (bound c.args.params.now) old (state g.S.Store c.ask.new.conn) it.0 over.fits

@@ -14,7 +14,8 @@ returns-in-0-clause-cause g c clean goes =
     let it = c.in_ok-look.ensures.done was goes.mode in
     let many : c.in_ok-look.field-0 ≡ 0 = search rules in
     IfErr-weaker c.put_new.result _ _ (λ fault why failed.
-    head_found c.args.round.now c.in_ok-look.field-0 old mid new c.look.ensures.carries.lasts was c.put_new.ensures.carries.lasts (it.does goes.hall)
+    head_found c.args.round.now c.in_ok-look.field-0 old mid new c.look.ensures.carries.lasts was
+    c.put_new.ensures.carries.lasts (it.does goes.hall)
     (new_head c.args.round.now c.in_ok-look.field-0 mid new many (why failed)))
     (c.put_new.ensures.cause clean (goes_on old mid goes c.look.ensures.carries.lasts it.steps))
 
@@ -27,6 +28,7 @@ returns-in-1-clause-cause g c clean goes =
     let it = c.in_ok-look.ensures.done was goes.mode in
     let many : c.in_ok-look.field-0 ≡ 1 = search rules in
     IfErr-weaker c.put_over.result _ _ (λ fault why failed.
-    head_found c.args.round.now c.in_ok-look.field-0 old mid new c.look.ensures.carries.lasts was c.put_over.ensures.carries.lasts (it.does goes.hall)
+    head_found c.args.round.now c.in_ok-look.field-0 old mid new c.look.ensures.carries.lasts was
+    c.put_over.ensures.carries.lasts (it.does goes.hall)
     (over_head c.args.round.now c.in_ok-look.field-0 mid new many (why failed)))
     (c.put_over.ensures.cause clean (goes_on old mid goes c.look.ensures.carries.lasts it.steps))

@@ -10,4 +10,5 @@ invariant-loop-entry g l =
     let base = state g.S.Store l.fn.tx.conn.now in
     let now = state g.S.Store l.tx.conn.now in
     (l.tx.conn.ghost_name ≡ l.fn.tx.conn.ghost_name) × (l.number ≡ l.entry-index) × LeadsUncommitted base now
-    × (HasCleanDisk now → IsTrue base.in_transaction → MakesInside (PutsPlaces l.id (take l.entry-index l.entries)) base now)
+    × (HasCleanDisk now → IsTrue base.in_transaction → MakesInside (PutsPlaces l.id (take l.entry-index l.entries)) base
+    now)

@@ -17,8 +17,10 @@ returns-in-Ok-clause-wrote g c =
     let same : c.conn-2-1.given.0 ≡ c.commit.new.self.0 = search rules in
     let it = rw c.transaction-tx.ensures.begun at c.in_ok-put_inside.ensures in
     let end = state g.S.Store c.commit.new.self.0 in
-    subst (λ h. MakesInTables {R = Unit} {E = StoreFault} (PutRound c.args.row.now) (state g.S.Store c.args.conn.now) (state g.S.Store h) (Ok tt)) (sym same)
-    (committed_wrote g.S.Store c.args.conn.now c.requires.hall c.live.ensures (PutRound c.args.row.now) tt (state g.S.Store c.put_inside.new.tx.conn.now) end
+    subst (λ h. MakesInTables {R = Unit} {E = StoreFault} (PutRound c.args.row.now) (state g.S.Store c.args.conn.now)
+    (state g.S.Store h) (Ok tt)) (sym same)
+    (committed_wrote g.S.Store c.args.conn.now c.requires.hall c.live.ensures (PutRound c.args.row.now) tt
+    (state g.S.Store c.put_inside.new.tx.conn.now) end
     it.carries it.done c.in-Ok.ensures.survives c.in-Ok.ensures.ended c.in-Ok.ensures.ok)
 
 pub returns-in-Ok-clause-rows : goal.returns-in-Ok-clause-rows
@@ -27,7 +29,8 @@ returns-in-Ok-clause-rows g c =
     let row = c.args.row.now in
     let end = state g.S.Store c.commit.new.self.0 in
     let done : HasCleanDisk end → PutsRows row (state g.S.Store c.args.conn.now).now end.now =
-    committed_did g.S.Store c.args.conn.now c.requires.hall (PutsRows row) (state g.S.Store c.put_inside.new.tx.conn.now) end
+    committed_did g.S.Store c.args.conn.now c.requires.hall (PutsRows row)
+    (state g.S.Store c.put_inside.new.tx.conn.now) end
     it.carries it.rows (survived _ _ _ c.in-Ok.ensures.survives) c.in-Ok.ensures.ok in
     search rules
 
@@ -36,8 +39,10 @@ returns-in-Err-clause-wrote g c =
     let same : c.conn-2-1.given.0 ≡ c.commit.new.self.0 = search rules in
     let it = rw c.transaction-tx.ensures.begun at c.in_ok-put_inside.ensures in
     let end = state g.S.Store c.commit.new.self.0 in
-    subst (λ h. MakesInTables {R = Unit} {E = StoreFault} (PutRound c.args.row.now) (state g.S.Store c.args.conn.now) (state g.S.Store h) (Err c.fault_of.result)) (sym same)
-    (refused_wrote g.S.Store c.args.conn.now c.requires.hall c.live.ensures (PutRound c.args.row.now) c.fault_of.result c.in-Err.error (state g.S.Store c.put_inside.new.tx.conn.now) end
+    subst (λ h. MakesInTables {R = Unit} {E = StoreFault} (PutRound c.args.row.now) (state g.S.Store c.args.conn.now)
+    (state g.S.Store h) (Err c.fault_of.result)) (sym same)
+    (refused_wrote g.S.Store c.args.conn.now c.requires.hall c.live.ensures (PutRound c.args.row.now) c.fault_of.result
+    c.in-Err.error (state g.S.Store c.put_inside.new.tx.conn.now) end
     it.carries it.done c.in-Err.ensures.survives c.in-Err.ensures.ended c.in-Err.ensures.err)
 
 pub returns-in_err-put_inside-clause-cause : goal.returns-in_err-put_inside-clause-cause

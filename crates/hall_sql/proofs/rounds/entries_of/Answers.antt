@@ -16,7 +16,8 @@ loop-place-preserved c =
     let same = c.loop-place.invariant.0 in
     let count : length c.loop-place.entries.items ≡ length before = ap length same ∙ length-map before (λ p. p.1) in
     let added = c.in_ok-add_entry.ensures in (
-      added.added ∙ ap (λ l. l ++ place.1 ∷ []) same ∙ sym (map-append (λ (p : PlaceKey × Entry). p.1) before (place ∷ [])),
+      added.added ∙ ap (λ l. l ++ place.1 ∷ []) same ∙ sym (map-append (λ (p : PlaceKey × Entry). p.1) before
+          (place ∷ [])),
       numbered_more before place c.loop-place.invariant.1 (added.next ∙ ap suc count),
     )
 
@@ -25,7 +26,11 @@ returns-in_err-add_entry-clause-other c =
     fails_as c.from_residual.result _ _ c.from_residual.ensures.1 (λ failed numbered.
     let before = c.loop-place.yielded in
     let place : PlaceKey × Entry = c.in-Some.place in
-    let turn = YieldsList-turn (YieldsList-from_vec {s = c.into_iter-place-iterator.result} c.args.places.items (search rules) (search rules)) before c.loop-place.place-iterator c.loop-place.yielded_by c.next.result c.next.new.self place c.in-Some.is c.next.ensures.steps in
-    let count : length c.loop-place.entries.items ≡ length before = ap length c.loop-place.invariant.0 ∙ length-map before (λ p. p.1) in
+    let turn = YieldsList-turn (YieldsList-from_vec {s = c.into_iter-place-iterator.result} c.args.places.items
+    (search rules) (search rules)) before c.loop-place.place-iterator c.loop-place.yielded_by c.next.result
+    c.next.new.self place c.in-Some.is c.next.ensures.steps in
+    let count : length c.loop-place.entries.items ≡ length before = ap length c.loop-place.invariant.0
+    ∙ length-map before (λ p. p.1) in
     c.in_err-add_entry.ensures.other failed (numbered (length before) place
-    (slice_get_read c.args.places.items (length c.args.places.items) (length before) place refl turn.0 turn.1) ∙ ap suc (sym count)))
+    (slice_get_read c.args.places.items (length c.args.places.items) (length before) place refl turn.0 turn.1)
+    ∙ ap suc (sym count)))

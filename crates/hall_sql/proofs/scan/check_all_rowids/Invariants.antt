@@ -9,4 +9,5 @@ abbrev pub invariant-loop-table : goal.invariant-loop-table
 invariant-loop-table g l =
     let old = state g.S.Store l.fn.conn in
     let now = state g.S.Store l.conn in
-    LeadsConnection old now × AddsNoOutcome old now × (HasCleanDisk now → AreScanned (take l.table-index l.tables) old now)
+    LeadsConnection old now × AddsNoOutcome old now × (HasCleanDisk now → AreScanned (take l.table-index l.tables) old
+    now)

@@ -7,7 +7,8 @@ use Rattle.hall_sql.proofs.scan.next_id.Goals as goal
 
 pub returns-in-Err-get-clause-cause : goal.returns-in-Err-get-clause-cause
 returns-in-Err-get-clause-cause g c clean failed =
-    let moves = subst (Advances g.S.Store c.args.rows.now.conn.now c.advance.new.self.conn.now) (sym c.in-Some.ensures) (c.in_default.ensures.ok clean) in
+    let moves = subst (Advances g.S.Store c.args.rows.now.conn.now c.advance.new.self.conn.now) (sym c.in-Some.ensures)
+    (c.in_default.ensures.ok clean) in
     inr (
       c.in_default.ensures.same clean,
       c.in-Some.row.now,
@@ -17,7 +18,8 @@ returns-in-Err-get-clause-cause g c clean failed =
 
 pub returns-else-is_above-clause-cause : goal.returns-else-is_above-clause-cause
 returns-else-is_above-clause-cause g c clean failed =
-    let moves = subst (Advances g.S.Store c.args.rows.now.conn.now c.advance.new.self.conn.now) (sym c.in-Some.ensures) (c.in_default.ensures.ok clean) in
+    let moves = subst (Advances g.S.Store c.args.rows.now.conn.now c.advance.new.self.conn.now) (sym c.in-Some.ensures)
+    (c.in_default.ensures.ok clean) in
     let read = c.in-Ok.ensures.ok in
     inr (
       c.in_default.ensures.same clean,

@@ -10,4 +10,5 @@ invariant-loop-name g l =
     let base = state g.S.Store l.fn.tx.conn.now in
     let now = state g.S.Store l.tx.conn.now in
     (l.tx.conn.ghost_name ≡ l.fn.tx.conn.ghost_name) × LeadsUncommitted base now
-    × (HasCleanDisk now → IsTrue base.in_transaction → MakesInside (PutsTesters l.round (take l.name-index l.names)) base now)
+    × (HasCleanDisk now → IsTrue base.in_transaction → MakesInside (PutsTesters l.round (take l.name-index l.names))
+    base now)

@@ -16,5 +16,11 @@ pub returns-clause-unread : goal.returns-clause-unread
 returns-clause-unread c =
     IfErr-weaker c.look_at_key.result _ _ (λ fault unread failed. none_of (answer_in c.args.row.now) (λ it reads.
     let parts = answer_parts c.args.row.now it reads in
-    unread failed it.key (record { entrant = parts.entrant; round = parts.round; number = parts.number; token = parts.token })))
+    unread failed it.key (record {
+      entrant = parts.entrant;
+      round = parts.round;
+      number = parts.number;
+      token =
+          parts.token;
+    })))
     c.look_at_key.ensures.unread

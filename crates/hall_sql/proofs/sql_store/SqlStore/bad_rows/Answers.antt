@@ -22,20 +22,25 @@ returns-clause-rested g c = rw (← c.self.view_is) (rested_hall c.self.invarian
 pub returns-clause-bad : goal.returns-clause-bad
 returns-clause-bad g c =
     let new = state g.S.Store c.bad_rows.new.conn in
-    subst (λ s. HasCleanDisk new → IfOk c.bad_rows.result (λ bad. AreToldBad all_tables (state g.S.Store s) new bad.items)) c.self.view_is
+    subst (λ s. HasCleanDisk new → IfOk c.bad_rows.result (λ bad. AreToldBad all_tables (state g.S.Store s) new
+    bad.items)) c.self.view_is
     c.bad_rows.ensures.bad
 
 pub returns-clause-whole : goal.returns-clause-whole
 returns-clause-whole g c =
     let new = state g.S.Store c.bad_rows.new.conn in
-    subst (λ s. HasCleanDisk new → IfOk c.bad_rows.result (λ bad. AreNone bad.items → AreAllRead hall_schema (state g.S.Store s).now.trees)) c.self.view_is
-    (λ clean. IfOk-weaker c.bad_rows.result _ _ (λ bad told none. none_in_hall _ bad.items told.1 none) (c.bad_rows.ensures.bad clean))
+    subst (λ s. HasCleanDisk new → IfOk c.bad_rows.result (λ bad. AreNone bad.items
+    → AreAllRead hall_schema (state g.S.Store s).now.trees)) c.self.view_is
+    (λ clean. IfOk-weaker c.bad_rows.result _ _ (λ bad told none. none_in_hall _ bad.items told.1 none)
+    (c.bad_rows.ensures.bad clean))
 
 pub returns-clause-fault : goal.returns-clause-fault
 returns-clause-fault g c =
-    store_fault c.bad_rows.result _ (state g.S.Store c.bad_rows.new.conn) (rested_hall c.self.invariant c.bad_rows.ensures.rested) c.bad_rows.ensures.cause
+    store_fault c.bad_rows.result _ (state g.S.Store c.bad_rows.new.conn)
+    (rested_hall c.self.invariant c.bad_rows.ensures.rested) c.bad_rows.ensures.cause
 
 pub returns-clause-cause : goal.returns-clause-cause
 returns-clause-cause g c =
     let new = state g.S.Store c.bad_rows.new.conn in
-    subst (λ s. HasCleanDisk new → Fails (IsStoreCause (state g.S.Store s) new) c.bad_rows.result) c.self.view_is c.bad_rows.ensures.cause
+    subst (λ s. HasCleanDisk new → Fails (IsStoreCause (state g.S.Store s) new) c.bad_rows.result) c.self.view_is
+    c.bad_rows.ensures.cause
