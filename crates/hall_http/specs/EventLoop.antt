@@ -2,7 +2,7 @@
 use Rattle.std.specs.Prelude.{◌≡◌, ◌≢◌, ◌+◌, ℕ, Option, Some, None, [], ◌∷◌, ◌++◌, length, map}
 use Rattle.std.specs.declared.net.socket_addr.SocketAddr.{SocketAddr}
 use Rattle.hall_http.specs.Coming.{IsFreshPeer, Said, logged, newcomer}
-use Rattle.hall_http.specs.Seats.{AreFresh, AreStill, LetsGo}
+use Rattle.hall_http.specs.Seats.{AreFresh, IsUnheard, LetsGo}
 use Rattle.hall_http.specs.Socket.{traffic_of}
 use Rattle.hall_http.specs.declared.event_loop.EventLoop.{EventLoop}
 use Rattle.hall_http.specs.declared.places.Places.{Places}
@@ -16,7 +16,7 @@ said_by sockets = record {
   nexts = logged sockets.nexts;
   count = length sockets.schedule.places.seated.items;
   most = sockets.schedule.places.most;
-  heard = map (λ one. one.0) sockets.heard.items;
+  heard = map (λ one. one.0) sockets.schedule.places.heard.items;
 }
 
 -- a newcomer has the place that was given last, which was free; and else none was given
@@ -30,18 +30,26 @@ abbrev pub LetsOneGo : Places → Next Socket → Places → Type 0
 LetsOneGo old (next.Gone place) new = LetsGo old place new
 LetsOneGo old _ new = new.let_go.items ≡ old.let_go.items
 
--- a newcomer has a place that was given to it alone, and the number after those before it; and whoever goes is let go
+-- the place of whoever goes is free again; and else none is
+abbrev pub FreesPlace : Places → Next Socket → Places → Type 0
+FreesPlace old (next.Gone place) new = (now : ℕ) × (new.freed.items ≡ old.freed.items ++ (place, now) ∷ [])
+FreesPlace old _ new = new.freed.items ≡ old.freed.items
+
+-- a newcomer has a place that was given to it alone, and the number after those before it; whoever goes is let go, and
+-- its place is free again; and nothing is heard of a turn
 pub record HandsOut (old : Places) (said : Next Socket) (new : Places) : Type 0 where
   pub fresh : IsFreshPeer traffic_of (length old.seated.items) said
   pub count : length new.seated.items ≡ length old.seated.items + newcomer said
   pub most : new.most ≡ old.most
   pub place : GivesPlace old said new
   pub gone : LetsOneGo old said new
+  pub freed : FreesPlace old said new
+  pub heard : new.heard.items ≡ old.heard.items
 
--- so it is where anything is to be done, and it is not the end; else the places are as they were
+-- so it is where anything is to be done, and it is not the end; else they are still; and no time counts meanwhile
 abbrev pub MayHandOut : Places → Option (Next Socket) → Places → Type 0
-MayHandOut old (Some said) new = HandsOut old said new × (said ≢ next.End)
-MayHandOut old None new = AreStill old new
+MayHandOut old (Some said) new = HandsOut old said new × (said ≢ next.End) × (new.elapsed ≡ old.elapsed)
+MayHandOut old None new = IsUnheard old new
 
 -- it was to listen on the address for so many connections, may still let in all of them, and has said and heard nothing
 -- yet

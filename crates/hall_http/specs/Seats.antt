@@ -1,6 +1,7 @@
 -- Who came to the places, and who has gone.
 use Rattle.std.specs.Prelude.{◌≡◌, ◌<◌, ◌+◌, ◌==◌, ◌⊎◌, ℕ, Bool, true, List, [], ◌∷◌, ◌++◌}
-use Rattle.std.specs.Prelude.{Option, Some, None, flat_map, get_or, length, map}
+use Rattle.std.specs.Prelude.{Option, Some, None, flat_map, get_or, is_some, length, map, set}
+use Rattle.mio.specs.declared.net.stream.TcpStream.{TcpStream}
 use Rattle.hall_http.specs.Coming.{Nexts}
 use Rattle.hall_http.specs.Places.{HasExpired, MayMakeRoom, taken, wait_in}
 use Rattle.hall_http.specs.declared.client.Step.{Step}
@@ -14,27 +15,64 @@ use Rattle.hall_http.specs.declared.places.Wait.{Wait}
 use Rattle.hall_http.specs.declared.server.Next.{Next}
 use Rattle.hall_http.specs.declared.server.Next.TheVariants as next
 
--- all places are free, and none was given yet; so many may come
+-- all places are free, none was given yet, nobody was lost and nothing was heard; so many may come
 pub record AreFresh (connections : ℕ) (places : Places) : Type 0 where
   pub free : taken places.visits.items ≡ 0
   pub seated : places.seated.items ≡ []
+  pub lost : places.lost.items ≡ []
   pub let_go : places.let_go.items ≡ []
+  pub heard : places.heard.items ≡ []
   pub most : places.most ≡ connections
 
--- no place was given meanwhile, nobody was let go, and no more or fewer may come in all
+-- no place was given meanwhile, and none was free again; nobody was let go, no more or fewer may come in all, and
+-- nothing was heard of a turn
 abbrev pub AreStill : Places → Places → Type 0
 AreStill old new =
     (new.seated.items ≡ old.seated.items) × (new.most ≡ old.most) × (new.let_go.items ≡ old.let_go.items)
+    × (new.heard.items ≡ old.heard.items) × (new.freed.items ≡ old.freed.items)
+
+-- they are still, and no time counted meanwhile
+abbrev pub IsUnheard : Places → Places → Type 0
+IsUnheard old new = AreStill old new × (new.elapsed ≡ old.elapsed)
+
+-- no other place was touched than this
+abbrev pub TouchesOnly : Places → ℕ → Places → Type 0
+TouchesOnly old place new = (known : Option Visit) × (new.visits.items ≡ set old.visits.items place known)
+
+-- one more place is free again, at this millisecond: this one
+abbrev pub FreesOne : Places → ℕ → Places → Type 0
+FreesOne old place new = new.freed.items ≡ old.freed.items ++ (place, old.elapsed) ∷ []
+
+-- the place is free again where one was there; but no place was given, nobody was let go, no more or fewer may come in
+-- all, nothing was heard of a turn, and no time counted meanwhile
+abbrev pub Frees : Places → ℕ → Places → Type 0
+Frees old place new =
+    (new.seated.items ≡ old.seated.items) × (new.most ≡ old.most) × (new.let_go.items ≡ old.let_go.items)
+    × (new.heard.items ≡ old.heard.items) × (new.elapsed ≡ old.elapsed)
+    × (is_some (get_or old.visits.items place None) ≡ true → FreesOne old place new)
+
+-- who stands so after its turn leaves its place, where it was there; and else no place is free again
+abbrev pub LeavesBy : Step → Places → ℕ → Places → Type 0
+LeavesBy step.Over old place new = is_some (get_or old.visits.items place None) ≡ true → FreesOne old place new
+LeavesBy step.Shut old place new = is_some (get_or old.visits.items place None) ≡ true → FreesOne old place new
+LeavesBy _ old place new = new.freed.items ≡ old.freed.items
+
+-- this was heard of a turn, at this millisecond, and who left its place by it has; else they are still
+abbrev pub HasHeard : Places → ℕ × Step → Places → Type 0
+HasHeard old one new =
+    (new.seated.items ≡ old.seated.items) × (new.most ≡ old.most) × (new.let_go.items ≡ old.let_go.items)
+    × (new.heard.items ≡ old.heard.items ++ (one, old.elapsed) ∷ []) × (new.elapsed ≡ old.elapsed)
+    × LeavesBy one.1 old one.0 new
 
 -- the place is free, and one more may be here
 abbrev pub IsOpen : Places → ℕ → Type 0
 IsOpen places place =
     (place < length places.visits.items) × (get_or places.visits.items place None ≡ None) × (places.here < places.left)
 
--- one more newcomer was lost, and nobody's place was touched
-abbrev pub LosesOne : Places → Places → Type 0
-LosesOne old new =
-    (length new.lost.items ≡ length old.lost.items + 1) × (new.freed.items ≡ old.freed.items)
+-- this newcomer was lost, and nobody's place was touched
+abbrev pub LosesOne : Places → TcpStream → Places → Type 0
+LosesOne old stream new =
+    (new.lost.items ≡ old.lost.items ++ (stream, old.elapsed) ∷ []) × (new.freed.items ≡ old.freed.items)
     × (new.visits.items ≡ old.visits.items)
 
 -- As many as may come have come, and have gone: each that was given a place has left it, and the others couldn't be set
@@ -53,14 +91,11 @@ abbrev pub StandsAt : Places → ℕ → (Visit → Type 0) → Type 0
 StandsAt places place Is =
     (visit : Visit) × (get_or places.visits.items place None ≡ Some visit) × Is visit
 
--- whoever is at the place, if one is, is known so
-abbrev pub IsKnown : Places → ℕ → Visit → Type 0
-IsKnown places place known = (visit : Visit) → get_or places.visits.items place None ≡ Some visit → visit ≡ known
-
 -- the connection at the place has expired; or it may make room, and all places are taken
-abbrev pub MayLetGo : Places → ℕ → ℕ → Type 0
-MayLetGo places place now =
-    StandsAt places place (λ visit. HasExpired visit now ⊎ ((are_full places ≡ true) × MayMakeRoom visit now))
+abbrev pub MayLetGo : Places → ℕ → Type 0
+MayLetGo places place =
+    StandsAt places place
+    (λ visit. HasExpired visit places.elapsed ⊎ ((are_full places ≡ true) × MayMakeRoom visit places.elapsed))
 
 -- one was let go, of this place
 abbrev pub LetsGo : Places → ℕ → Places → Type 0
@@ -78,12 +113,18 @@ Follows old (Ready (Some wait)) now = GoesOn old wait now
 Follows old (Waiting wait) now = GoesOn old wait now
 Follows old (Searching wait) now = GoesOn old wait now
 
+-- whoever was at a place is ready, and what it waited for last is still known
+abbrev pub Wakes : Option Visit → Option Visit → Type 0
+Wakes None new = new ≡ None
+Wakes (Some old) new = new ≡ Some (Ready (wait_in old))
+
 -- what is known of a connection that stood so after its turn
 abbrev pub IsHeard : Step → Visit → Type 0
-IsHeard step.Again visit = Unit {0}
+IsHeard step.Again (Ready last) = Unit {0}
 IsHeard step.Leaves (Ready (Some wait)) = wait.wish ≡ wish.Leaving
-IsHeard (step.Waits what requests) (Waiting wait) = wait.wish ≡ what
-IsHeard (step.Searches requests) (Searching wait) = wait.wish ≡ wish.Searching
+IsHeard (step.Waits what requests) (Waiting wait) =
+    (wait.wish ≡ what) × ((wait.requests ≡ requests) ⊎ (what ≡ wish.Leaving))
+IsHeard (step.Searches requests) (Searching wait) = (wait.wish ≡ wish.Searching) × (wait.requests ≡ requests)
 IsHeard step visit = ⊥
 
 -- the place of one that goes

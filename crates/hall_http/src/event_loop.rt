@@ -1,16 +1,15 @@
 //! The system's sockets: who comes, whose turn it is, and who has waited too long.
-ghost use Rattle.std.specs.Prelude.{◌≡◌, ◌≤◌, ◌+◌, IfOk, IfSome, None, Some, get_or, true};
-ghost use Rattle.hall_http.specs.declared.places.Visit.{Visit};
+ghost use Rattle.std.specs.Prelude.{◌≡◌, ◌≤◌, ◌+◌, IfOk, IfSome, true};
 ghost use Rattle.hall_http.specs.declared.server.Next.TheVariants as Next;
 ghost use Rattle.hall_http.specs.Coming.{logged};
 ghost use Rattle.hall_http.specs.Places.{HasExpired, MayMakeRoom};
-ghost use Rattle.hall_http.specs.Seats.{AreFresh, AreLetGo, AreStill, GoesOn, HaveAllGone, IsHeard, IsOpen, MayLetGo};
-ghost use Rattle.hall_http.specs.Seats.{StandsAt};
+ghost use Rattle.hall_http.specs.Seats.{AreFresh, AreLetGo, AreStill, HasHeard, HaveAllGone, IsOpen, MayLetGo};
+ghost use Rattle.hall_http.specs.Seats.{IsUnheard, StandsAt};
 
 use crate::client::{Step, Wish};
 use crate::clients::MOST_CLIENTS;
 use crate::device::write_all;
-use crate::places::{Places, Visit, Wait};
+use crate::places::{LONGEST_ROUND, Places, Visit};
 use crate::server::{Next, Sockets};
 use crate::socket::Socket;
 use hall_grid::Counted;
@@ -38,10 +37,6 @@ const FRESH: u64 = 1_000;
 
 /// By how many milliseconds those whose requests need more work stand behind all others who may go.
 const LAST: u64 = 1 << 62;
-
-/// The most milliseconds of a wait, or between two waits, that count against anybody's patience. The rest of a longer
-/// time is the hall's own: a request took it, or the machine stood still.
-const LONGEST_ROUND: u64 = 1_000;
 
 /// How often at most the sockets are asked again for what else befell them.
 const MOST_ASKED: usize = 4;
@@ -71,8 +66,6 @@ pub struct EventLoop<'r, N, E> {
     asked: Log<SocketAddr, u64>,
     /// All that was to be done next, and the millisecond of the schedule.
     nexts: Log<Next<Socket>, u64>,
-    /// All that was heard of turns, and the millisecond of the schedule.
-    heard: Log<(usize, Step), u64>,
     /// Where it tells that writes are refused, and that they are taken again.
     journal: Option<Counted<E>>,
     refuses_writes: bool,
@@ -99,8 +92,6 @@ struct Schedule<'r, N> {
     has_heard: bool,
     /// The clock's millisecond when it was last read.
     read: u64,
-    /// How many milliseconds have counted so far.
-    now: u64,
     /// No patience ends before so many.
     quiet_until: u64,
 }
@@ -122,7 +113,6 @@ impl<'r, N: Net + AllocGlobal + time::Clock, E: Drop> EventLoop<'r, N, E> {
             schedule: Schedule::new(rt, address, connections)?,
             asked: Log::new().and(&address, &connections),
             nexts: Log::new(),
-            heard: Log::new(),
             journal,
             refuses_writes: false,
         })
@@ -147,12 +137,11 @@ impl<'r, N: time::Clock, E: Write> Sockets for EventLoop<'r, N, E> {
 
     fn next(&mut self) -> Next<Socket> {
         let next = self.schedule.next();
-        self.nexts = self.nexts.and(&next, &self.schedule.now);
+        self.nexts = self.nexts.and(&next, &self.schedule.places.elapsed());
         next
     }
 
     fn stands(&mut self, place: usize, step: Step) {
-        self.heard = self.heard.and(&(place, step), &self.schedule.now);
         self.schedule.stands(place, step);
     }
 
@@ -194,7 +183,6 @@ impl<'r, N: Net + AllocGlobal + time::Clock> Schedule<'r, N> {
             round: 0,
             has_heard: false,
             read: 0,
-            now: 0,
             quiet_until: u64::MAX,
         })
     }
@@ -205,60 +193,33 @@ impl<'r, N> Schedule<'r, N> {
 
     /// The connection at the place is ready.
     fn wake(&mut self, place: usize)
-        ensures { AreStill self.old.places self.new.places }
+        ensures { IsUnheard self.old.places self.new.places }
     {
-        if let Some(Visit::Waiting(wait)) = self.places.at(place) {
-            self.places.put(place, Visit::Ready(Some(wait)), self.now);
+        if let Some(Visit::Waiting(_)) = self.places.at(place) {
+            self.places.wakes(place);
             let _queued = self.ready.push_back(place);
-        }
-    }
-
-    /// What the connection waits for: where it waited for the same before, its patience goes on.
-    fn wait(&self, place: usize, wish: Wish, requests: usize) -> Wait
-        ensures wish { result.wish ≡ wish }
-        ensures since { GoesOn (get_or self.entry.now.places.visits.items place None) result self.entry.now.now }
-    {
-        if let Some(Visit::Ready(Some(last))) = self.places.at(place)
-            && last.wish == wish
-            && last.requests == requests
-        {
-            return last;
-        }
-        Wait {
-            wish,
-            requests,
-            since: self.now,
         }
     }
 
     /// Whether the connection at the place has ended, and its patience too.
     fn has_left(&self, place: usize) -> bool
         ensures { result ≡ true →
-            StandsAt self.entry.now.places place (λ visit. HasExpired visit self.entry.now.now) }
+            StandsAt self.entry.now.places place (λ visit. HasExpired visit self.entry.now.places.elapsed) }
     {
         match self.places.at(place) {
             Some(Visit::Ready(Some(wait))) => {
-                wait.wish == Wish::Leaving && wait.has_ended(self.now)
+                wait.wish == Wish::Leaving && wait.has_ended(self.places.elapsed())
             }
             _ => false,
         }
     }
 
-    /// The place is free again.
-    fn free(&mut self, place: usize)
-        ensures still { AreStill self.old.places self.new.places }
-        ensures free { get_or self.new.places.visits.items place None ≡ None }
-    {
-        self.places.free(place, self.now);
-        self.try_again();
-    }
-
     /// The connection at the place is let go.
     fn let_go(&mut self, place: usize) -> Option<Next<Socket>>
-        requires { MayLetGo self.old.places place self.old.now }
+        requires { MayLetGo self.old.places place }
         ensures { MayHandOut self.old.places result self.new.places }
     {
-        self.places.let_go(place, self.now);
+        self.places.let_go(place);
         self.try_again();
         Some(Next::Gone(place))
     }
@@ -274,13 +235,13 @@ impl<'r, N> Schedule<'r, N> {
 
     /// The first of those whose requests need more work is ready.
     fn call_searching(&mut self)
-        ensures { AreStill self.old.places self.new.places }
+        ensures { IsUnheard self.old.places self.new.places }
     {
         for _gone in 0..self.searching.len() {
             if let Some(place) = self.searching.pop_front()
-                && let Some(Visit::Searching(wait)) = self.places.at(place)
+                && let Some(Visit::Searching(_)) = self.places.at(place)
             {
-                self.places.put(place, Visit::Ready(Some(wait)), self.now);
+                self.places.wakes(place);
                 let _queued = self.ready.push_back(place);
                 return;
             }
@@ -292,7 +253,7 @@ impl<'r, N> Schedule<'r, N> {
     fn find_place(&self) -> (Option<usize>, Option<usize>)
         ensures open { IfSome result.0 (IsOpen self.entry.now.places) }
         ensures leaves { IfSome result.1 (λ place.
-            StandsAt self.entry.now.places place (λ visit. MayMakeRoom visit self.entry.now.now)) }
+            StandsAt self.entry.now.places place (λ visit. MayMakeRoom visit self.entry.now.places.elapsed)) }
     {
         let mut found = None;
         let mut first = u64::MAX;
@@ -320,15 +281,15 @@ impl<'r, N> Schedule<'r, N> {
     /// nothing unsent; and it had a second to ask. One whose request needs more work may go too, after all others,
     /// since its search is kept for whoever sends the request again.
     fn may_go(&self, visit: Visit) -> Option<u64>
-        ensures { IfSome result (λ _. MayMakeRoom visit self.entry.now.now) }
+        ensures { IfSome result (λ _. MayMakeRoom visit self.entry.now.places.elapsed) }
     {
         match visit {
             Visit::Waiting(wait) => match wait.wish {
-                Wish::Idle if wait.has_lasted(FRESH, self.now) => Some(wait.until()),
+                Wish::Idle if wait.has_lasted(FRESH, self.places.elapsed()) => Some(wait.until()),
                 Wish::Leaving => Some(wait.until()),
                 Wish::Idle | Wish::Asking | Wish::Taking | Wish::Searching => None,
             },
-            Visit::Searching(wait) if wait.has_lasted(FRESH, self.now) => {
+            Visit::Searching(wait) if wait.has_lasted(FRESH, self.places.elapsed()) => {
                 Some(wait.until().saturating_add(LAST))
             }
             Visit::Ready(_) | Visit::Searching(_) => None,
@@ -339,15 +300,15 @@ impl<'r, N> Schedule<'r, N> {
     fn expired(&mut self) -> Option<usize>
         ensures still { self.new.places ≡ self.old.places }
         ensures expired { IfSome result (λ place.
-            StandsAt self.new.places place (λ visit. HasExpired visit self.new.now)) }
+            StandsAt self.new.places place (λ visit. HasExpired visit self.new.places.elapsed)) }
     {
-        if self.now < self.quiet_until {
+        if self.places.elapsed() < self.quiet_until {
             return None;
         }
         self.quiet_until = u64::MAX;
         for place in 0..self.places.len() {
             if let Some(Visit::Waiting(wait)) = self.places.at(place) {
-                if wait.has_ended(self.now) {
+                if wait.has_ended(self.places.elapsed()) {
                     self.quiet_until = 0;
                     return Some(place);
                 }
@@ -366,12 +327,16 @@ impl<'r, N> Schedule<'r, N> {
         }
         let mut until = self.quiet_until;
         if self.backlog == Backlog::Later {
-            until = until.min(self.now.saturating_add(RETRY));
+            until = until.min(self.places.elapsed().saturating_add(RETRY));
         }
         if until == u64::MAX {
             return None;
         }
-        Some(until.saturating_sub(self.now).min(LONGEST_ROUND))
+        Some(
+            until
+                .saturating_sub(self.places.elapsed())
+                .min(LONGEST_ROUND),
+        )
     }
 
     /// Whose turn it is, of those who are ready.
@@ -440,10 +405,10 @@ impl<'r, N> Schedule<'r, N> {
                 .register(&mut stream, Token(place), interests)
         });
         if set.is_err() {
-            self.places.lose(self.now);
+            self.places.lose(&stream);
             return None;
         }
-        let before = self.places.seat(place, self.now);
+        let before = self.places.seat(place);
         let _queued = self.ready.push_back(place);
         Some(Next::Newcomer {
             place,
@@ -453,12 +418,12 @@ impl<'r, N> Schedule<'r, N> {
 }
 
 impl<'r, N: time::Clock> Schedule<'r, N> {
-    /// Reads the clock. Of the milliseconds since it was last read, no more than these count; and so many do where it
+    /// Reads the clock. Of the milliseconds since it was last read, no more than 1,000 count; and so many do where it
     /// can't be read.
-    fn count_time(&mut self, most: u64)
+    fn count_time(&mut self)
         ensures still { AreStill self.old.places self.new.places }
-        ensures on { self.old.now ≤ self.new.now }
-        ensures most { self.new.now ≤ self.old.now + most }
+        ensures on { self.old.places.elapsed ≤ self.new.places.elapsed }
+        ensures most { self.new.places.elapsed ≤ self.old.places.elapsed + 1000 }
     {
         let passed = match self.time.monotonic() {
             Ok(since) => {
@@ -468,25 +433,27 @@ impl<'r, N: time::Clock> Schedule<'r, N> {
                     .saturating_add(since.subsec_millis() as u64);
                 let passed = read.saturating_sub(self.read);
                 self.read = read;
-                passed.min(most)
+                passed
             }
-            Err(_) => most,
+            Err(_) => LONGEST_ROUND,
         };
-        self.now = self.now.saturating_add(passed);
+        self.places.count(passed);
     }
 
     /// Waits until something befalls a socket or a patience ends. Whoever has asked by then is heard before anybody's
     /// patience is judged.
     fn poll_once(&mut self) -> io::Result<()>
-        ensures { AreStill self.old.places self.new.places }
+        ensures still { AreStill self.old.places self.new.places }
+        ensures on { self.old.places.elapsed ≤ self.new.places.elapsed }
+        ensures most { self.new.places.elapsed ≤ self.old.places.elapsed + 2000 }
     {
-        self.count_time(LONGEST_ROUND);
+        self.count_time();
         let patience = self.patience();
         let told = self.hear(patience)?;
-        self.count_time(LONGEST_ROUND);
+        self.count_time();
         // A signal ends a wait too, and then nothing is told.
         let is_cut = told == 0 && patience != Some(0);
-        if is_cut || told == MOST_EVENTS || self.quiet_until <= self.now {
+        if is_cut || told == MOST_EVENTS || self.quiet_until <= self.places.elapsed() {
             self.hear_all()?;
         }
         self.try_again();
@@ -496,7 +463,7 @@ impl<'r, N: time::Clock> Schedule<'r, N> {
 
     /// Hears all that has befallen the sockets so far, without waiting.
     fn hear_all(&mut self) -> io::Result<()>
-        ensures { AreStill self.old.places self.new.places }
+        ensures { IsUnheard self.old.places self.new.places }
     {
         for _asked in 0..MOST_ASKED {
             if self.hear(Some(0))? < MOST_EVENTS {
@@ -508,7 +475,7 @@ impl<'r, N: time::Clock> Schedule<'r, N> {
 
     /// Waits at most so many milliseconds until something befalls a socket, and hears how many things did.
     fn hear(&mut self, patience: Option<u64>) -> io::Result<usize>
-        ensures { AreStill self.old.places self.new.places }
+        ensures { IsUnheard self.old.places self.new.places }
     {
         self.poll
             .poll(&mut self.events, patience.map(Duration::from_millis))?;
@@ -569,34 +536,20 @@ impl<'r, N: time::Clock> Schedule<'r, N> {
 
     /// Hears how the connection at the place stands after its turn.
     fn stands(&mut self, place: usize, step: Step)
-        ensures still { AreStill self.old.places self.new.places }
-        ensures heard { (visit : Visit) → get_or self.new.places.visits.items place None ≡ Some visit →
-            IsHeard step visit }
+        ensures { HasHeard self.old.places (place, step) self.new.places }
     {
-        match step {
-            Step::Again => {
+        self.places.hears(place, step);
+        match self.places.at(place) {
+            Some(Visit::Ready(_)) => {
                 let _queued = self.ready.push_back(place);
             }
-            Step::Searches { requests } => {
-                let wait = self.wait(place, Wish::Searching, requests);
-                self.places.put(place, Visit::Searching(wait), self.now);
+            Some(Visit::Searching(_)) => {
                 let _queued = self.searching.push_back(place);
             }
-            Step::Leaves => {
-                let wait = self.wait(place, Wish::Leaving, 0);
-                self.places.put(place, Visit::Ready(Some(wait)), self.now);
-                let _queued = self.ready.push_back(place);
-            }
-            Step::Waits { wish, requests } => {
-                let requests = match wish {
-                    Wish::Leaving => 0,
-                    _ => requests,
-                };
-                let wait = self.wait(place, wish, requests);
-                self.places.put(place, Visit::Waiting(wait), self.now);
+            Some(Visit::Waiting(wait)) => {
                 self.quiet_until = self.quiet_until.min(wait.until());
             }
-            Step::Over | Step::Shut => self.free(place),
+            None => self.try_again(),
         }
     }
 }

@@ -2,8 +2,9 @@
 ghost use Rattle.std.specs.Prelude.{◌≡◌, ◌≤◌, ◌<◌, ◌+◌, [], ◌∷◌, ◌++◌, All, IfOk, None, Some, get_or, length, true};
 ghost use Rattle.hall_http.specs.Places.{IsLetGo, patience_of, taken};
 
-use crate::client::Wish;
+use crate::client::{Step, Wish};
 use http_server::Log;
+use mio::net::TcpStream;
 use std::alloc::{AllocError, Global};
 use std::mem;
 
@@ -13,6 +14,10 @@ const PATIENCE: u64 = 10_000;
 
 /// How many milliseconds bytes are read off that are no longer answered.
 const LAST_PATIENCE: u64 = 2_000;
+
+/// The most milliseconds of a wait, or between two waits, that count against anybody's patience. The rest of a longer
+/// time is the hall's own: a request took it, or the machine stood still.
+pub(crate) const LONGEST_ROUND: u64 = 1_000;
 
 /// What a connection waited for last, after so many requests, and since which millisecond.
 #[derive(Clone, Copy, PartialEq, Eq)]
@@ -83,14 +88,18 @@ pub(crate) struct Places {
     left: u64,
     /// How many are here.
     here: u64,
+    /// How many milliseconds have counted so far.
+    elapsed: u64,
     /// The places that were given to newcomers, and the millisecond.
     seated: Log<usize, u64>,
     /// The places that were free again, and the millisecond.
     freed: Log<usize, u64>,
-    /// When newcomers were lost.
-    lost: Log<(), u64>,
+    /// The newcomers that were lost, and the millisecond.
+    lost: Log<TcpStream, u64>,
     /// Those that were let go, and the millisecond.
     let_go: Log<LetGo, u64>,
+    /// All that was heard of turns, and the millisecond.
+    heard: Log<(usize, Step), u64>,
     ghost counted: { here ≡ taken visits.items },
     ghost in_all: { left + (length freed.items + length lost.items) ≡ most },
     ghost stays: { length seated.items ≡ length freed.items + here },
@@ -99,8 +108,9 @@ pub(crate) struct Places {
 }
 
 impl Places {
-    ghost use Rattle.hall_http.specs.Seats.{AreFresh, AreStill, Follows, HaveAllGone, IsKnown, IsOpen, LetsGo};
-    ghost use Rattle.hall_http.specs.Seats.{LosesOne, MayLetGo};
+    ghost use Rattle.hall_http.specs.Seats.{AreFresh, AreStill, Follows, Frees, FreesOne, GoesOn, HasHeard};
+    ghost use Rattle.hall_http.specs.Seats.{HaveAllGone, IsHeard, IsOpen, IsUnheard, LetsGo, LosesOne, MayLetGo};
+    ghost use Rattle.hall_http.specs.Seats.{TouchesOnly, Wakes};
     ghost use Rattle.hall_http.specs.Seats.{are_full};
 
     /// So many places, all free, for so many connections.
@@ -116,10 +126,12 @@ impl Places {
             most,
             left: most,
             here: 0,
+            elapsed: 0,
             seated: Log::new(),
             freed: Log::new(),
             lost: Log::new(),
             let_go: Log::new(),
+            heard: Log::new(),
         })
     }
 
@@ -161,47 +173,135 @@ impl Places {
         self.here == self.visits.len() as u64
     }
 
-    /// What is known from now on of the connection at the place, if one is there.
-    pub(crate) fn put(&mut self, place: usize, visit: Visit, now: u64)
-        requires { Follows (get_or self.old.visits.items place None) visit now }
+    /// How many milliseconds have counted so far.
+    pub(crate) fn elapsed(&self) -> u64
+        ensures { result ≡ self.now.elapsed }
+    {
+        self.elapsed
+    }
+
+    /// So many milliseconds more have passed. Of a long time, only the first count.
+    pub(crate) fn count(&mut self, passed: u64)
         ensures still { AreStill self.old self.new }
-        ensures known { IsKnown self.new place visit }
+        ensures visits { self.new.visits.items ≡ self.old.visits.items }
+        ensures on { self.old.elapsed ≤ self.new.elapsed }
+        ensures most { self.new.elapsed ≤ self.old.elapsed + 1000 }
+    {
+        self.elapsed = self.elapsed.saturating_add(passed.min(LONGEST_ROUND));
+    }
+
+    /// Whoever waits at the place, or has asked for more work, is ready.
+    pub(crate) fn wakes(&mut self, place: usize)
+        ensures still { AreStill self.old self.new }
+        ensures elapsed { self.new.elapsed ≡ self.old.elapsed }
+        ensures there { TouchesOnly self.old place self.new }
+        ensures woken { Wakes (get_or self.old.visits.items place None) (get_or self.new.visits.items place None) }
+    {
+        if let Some(Visit::Waiting(wait) | Visit::Searching(wait)) = self.at(place) {
+            self.visits[place] = Some(Visit::Ready(Some(wait)));
+        }
+    }
+
+    /// What the connection waits for: where it waited for the same before, its patience goes on.
+    fn wait(&self, place: usize, wish: Wish, requests: usize) -> Wait
+        ensures wish { result.wish ≡ wish }
+        ensures requests { result.requests ≡ requests }
+        ensures since { GoesOn (get_or self.now.visits.items place None) result self.now.elapsed }
+    {
+        if let Some(Visit::Ready(Some(last))) = self.at(place)
+            && last.wish == wish
+            && last.requests == requests
+        {
+            return last;
+        }
+        Wait {
+            wish,
+            requests,
+            since: self.elapsed,
+        }
+    }
+
+    /// What is known from now on of the connection at the place, if one is there.
+    fn put(&mut self, place: usize, visit: Visit)
+        ensures unheard { IsUnheard self.old self.new }
+        ensures there { TouchesOnly self.old place self.new }
+        ensures known { (known : Visit) → get_or self.new.visits.items place None ≡ Some known → known ≡ visit }
     {
         if self.at(place).is_some() {
             self.visits[place] = Some(visit);
         }
     }
 
+    /// Hears how the connection at the place, if one is there, stands after its turn.
+    pub(crate) fn hears(&mut self, place: usize, step: Step)
+        ensures heard { HasHeard self.old (place, step) self.new }
+        ensures there { TouchesOnly self.old place self.new }
+        ensures known { (visit : Visit) → get_or self.new.visits.items place None ≡ Some visit → IsHeard step visit }
+        ensures follows { (visit : Visit) → get_or self.new.visits.items place None ≡ Some visit →
+            Follows (get_or self.old.visits.items place None) visit self.old.elapsed }
+    {
+        match step {
+            Step::Again => self.wakes(place),
+            Step::Searches { requests } => {
+                let wait = self.wait(place, Wish::Searching, requests);
+                self.put(place, Visit::Searching(wait));
+            }
+            Step::Leaves => {
+                let wait = self.wait(place, Wish::Leaving, 0);
+                self.put(place, Visit::Ready(Some(wait)));
+            }
+            Step::Waits { wish, requests } => {
+                let requests = match wish {
+                    Wish::Leaving => 0,
+                    _ => requests,
+                };
+                let wait = self.wait(place, wish, requests);
+                self.put(place, Visit::Waiting(wait));
+            }
+            Step::Over | Step::Shut => self.free(place),
+        }
+        self.heard = self.heard.and(&(place, step), &self.elapsed);
+    }
+
     /// Gives a newcomer the place. What comes of it is which places were given before.
-    pub(crate) fn seat(&mut self, place: usize, now: u64) -> Log<usize, u64>
+    pub(crate) fn seat(&mut self, place: usize) -> Log<usize, u64>
         requires { IsOpen self.old place }
         ensures before { result.items ≡ self.old.seated.items }
-        ensures seated { self.new.seated.items ≡ self.old.seated.items ++ (place, now) ∷ [] }
+        ensures freed { self.new.freed.items ≡ self.old.freed.items }
+        ensures there { TouchesOnly self.old place self.new }
+        ensures seated { self.new.seated.items ≡ self.old.seated.items ++ (place, self.old.elapsed) ∷ [] }
         ensures most { self.new.most ≡ self.old.most }
         ensures let_go { self.new.let_go.items ≡ self.old.let_go.items }
+        ensures heard { self.new.heard.items ≡ self.old.heard.items }
+        ensures elapsed { self.new.elapsed ≡ self.old.elapsed }
     {
         self.visits[place] = Some(Visit::Ready(None));
         self.here += 1;
-        let seated = self.seated.and(&place, &now);
+        let seated = self.seated.and(&place, &self.elapsed);
         mem::replace(&mut self.seated, seated)
     }
 
     /// A newcomer can't be set up.
-    pub(crate) fn lose(&mut self, now: u64)
+    pub(crate) fn lose(&mut self, stream: &TcpStream)
         requires { self.old.here < self.old.left }
         ensures still { AreStill self.old self.new }
-        ensures lost { LosesOne self.old self.new }
+        ensures lost { LosesOne self.old stream.now self.new }
+        ensures elapsed { self.new.elapsed ≡ self.old.elapsed }
     {
         self.left -= 1;
-        self.lost = self.lost.and(&(), &now);
+        self.lost = self.lost.and(stream, &self.elapsed);
     }
 
     /// The connection at the place is let go.
-    pub(crate) fn let_go(&mut self, place: usize, now: u64)
-        requires { MayLetGo self.old place now }
+    pub(crate) fn let_go(&mut self, place: usize)
+        requires { MayLetGo self.old place }
         ensures gone { LetsGo self.old place self.new }
+        ensures freed { FreesOne self.old place self.new }
+        ensures there { TouchesOnly self.old place self.new }
         ensures seated { self.new.seated.items ≡ self.old.seated.items }
         ensures most { self.new.most ≡ self.old.most }
+        ensures heard { self.new.heard.items ≡ self.old.heard.items }
+        ensures elapsed { self.new.elapsed ≡ self.old.elapsed }
     {
         let Some(visit) = self.at(place) else {
             return;
@@ -211,20 +311,21 @@ impl Places {
             visit,
             is_full: self.are_full(),
         };
-        self.let_go = self.let_go.and(&one, &now);
-        self.free(place, now);
+        self.let_go = self.let_go.and(&one, &self.elapsed);
+        self.free(place);
     }
 
     /// The place is free again.
-    pub(crate) fn free(&mut self, place: usize, now: u64)
-        ensures still { AreStill self.old self.new }
+    fn free(&mut self, place: usize)
+        ensures freed { Frees self.old place self.new }
+        ensures there { TouchesOnly self.old place self.new }
         ensures free { get_or self.new.visits.items place None ≡ None }
     {
         if self.at(place).is_some() {
             self.visits[place] = None;
             self.here -= 1;
             self.left -= 1;
-            self.freed = self.freed.and(&place, &now);
+            self.freed = self.freed.and(&place, &self.elapsed);
         }
     }
 }

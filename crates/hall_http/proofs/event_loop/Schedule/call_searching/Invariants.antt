@@ -1,5 +1,5 @@
-use Rattle.hall_http.specs.Seats.{AreStill}
+use Rattle.hall_http.specs.Seats.{IsUnheard}
 use Rattle.hall_http.proofs.event_loop.Schedule.call_searching.Given as goal
 
 abbrev pub invariant-loop-gone : goal.invariant-loop-gone
-invariant-loop-gone g l = AreStill l.fn.self.places l.self.places
+invariant-loop-gone g l = IsUnheard l.fn.self.places l.self.places

@@ -2,4 +2,4 @@ use Rattle.std.proofs.Common.{◌≡◌}
 use Rattle.hall_http.proofs.event_loop.Schedule.expired.Given as goal
 
 abbrev pub invariant-loop-place : goal.invariant-loop-place
-invariant-loop-place g l = (l.self.places ≡ l.fn.self.places) × (l.self.now ≡ l.fn.self.now)
+invariant-loop-place g l = l.self.places ≡ l.fn.self.places

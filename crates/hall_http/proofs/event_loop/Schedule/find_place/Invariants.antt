@@ -8,5 +8,5 @@ abbrev pub invariant-loop-place : goal.invariant-loop-place
 invariant-loop-place g l = record {
   found : IfSome l.found (λ place. (place < length l.self.places.visits.items)
       × (get_or l.self.places.visits.items place None ≡ None));
-  leaves : IfSome l.leaves (λ place. StandsAt l.self.places place (λ visit. MayMakeRoom visit l.self.now));
+  leaves : IfSome l.leaves (λ place. StandsAt l.self.places place (λ visit. MayMakeRoom visit l.self.places.elapsed));
 }

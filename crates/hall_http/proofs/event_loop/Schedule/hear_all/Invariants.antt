@@ -1,5 +1,5 @@
-use Rattle.hall_http.specs.Seats.{AreStill}
+use Rattle.hall_http.specs.Seats.{IsUnheard}
 use Rattle.hall_http.proofs.event_loop.Schedule.hear_all.Given as goal
 
 abbrev pub invariant-loop-asked : goal.invariant-loop-asked
-invariant-loop-asked g l = AreStill l.fn.self.places l.self.places
+invariant-loop-asked g l = IsUnheard l.fn.self.places l.self.places
