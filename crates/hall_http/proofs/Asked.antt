@@ -42,7 +42,8 @@ action_once : (method : List ℕ) (at : Resource) (p : Parts) (body : List ℕ) 
 action_once method resource.Puzzle p body a b e g = puzzle_once _ method p body a b e g
 action_once method _ p body a b e g = e ∙ sym g
 
-found_once : (method : List ℕ) (found : Result (Resource × Parts) FormFault) (body : List ℕ) (a b : Result Action FormFault)
+found_once : (method : List ℕ) (found : Result (Resource × Parts) FormFault) (body : List ℕ)
+    (a b : Result Action FormFault)
     → ActionFrom method found body a → ActionFrom method found body b → a ≡ b
 found_once method (Err f) body a b e g = e ∙ sym g
 found_once method (Ok at) body a b e g = action_once method at.0 at.1 body a b e g

@@ -1,7 +1,6 @@
 -- What each step of the open connections keeps.
-use Rattle.std.proofs.Common.{◌≡◌, ◌≢◌, ◌⊎◌, ◌∙◌, sym, ap, subst, refl, arith, ℕ, suc, ◌+◌, ◌<◌, ◌==◌, inl, inr}
-use Rattle.std.proofs.Common.{List, [], ◌∷◌, ◌++◌, length, take, drop, get_or, Option, Some, None, append_assoc}
-use Rattle.std.proofs.Common.{true, false}
+use Rattle.std.proofs.Common.{◌≡◌, ◌≢◌, ◌⊎◌, ◌∙◌, sym, ap, subst, refl, arith, ℕ, suc, ◌+◌, ◌<◌, ◌==◌, inl, inr, List}
+use Rattle.std.proofs.Common.{[], ◌∷◌, ◌++◌, length, take, drop, get_or, Option, Some, None, append_assoc, true, false}
 use Rattle.std.specs.Prelude.{Bool, All, slice_set}
 use Rattle.std.specs.Vec.{with_item}
 use Rattle.std.proofs.lemmas.Bool.{eqb-true, eqb-false}
@@ -13,14 +12,12 @@ use Rattle.hall_http.specs.Connection.{Exchange, AreMoments, LeavesOpen, request
 use Rattle.hall_http.specs.Peer.{Traffic, IsUntouched}
 use Rattle.hall_http.specs.Resting.{RestingSession}
 use Rattle.hall_http.specs.Crowd.{AreApart, AreKept, AreThose, AreConnectionsTold, HasGone, IsAt, AreGone, IsPast}
-use Rattle.hall_http.specs.Crowd.{IsHandedOut}
-use Rattle.hall_http.specs.Crowd.{AnswersNoMore, AreOf, AreStill, ComesTo, MayGo, Past, Serves}
+use Rattle.hall_http.specs.Crowd.{IsHandedOut, AnswersNoMore, AreOf, AreStill, ComesTo, MayGo, Past, Serves}
 use Rattle.hall_http.specs.Crowd.{number_past, traffic_past}
 use Rattle.hall_http.specs.Head.{HasNoWholeRequest, IsWholeRequest}
 use Rattle.hall_http.specs.History.{ConnectionHistory, Stands, IsReplying, Ends}
 use Rattle.hall_http.specs.Turns.{Turn, Service, of, AreOpenButLast, AreSent, HasEnded, IsConnectionTold, IsClient}
-use Rattle.hall_http.specs.Turns.{IsRefusedAfter, IsRefusedRightly}
-use Rattle.hall_http.specs.Turns.{IsOverRightly, IsPlaceKept, IsPlaceTurned}
+use Rattle.hall_http.specs.Turns.{IsRefusedAfter, IsRefusedRightly, IsOverRightly, IsPlaceKept, IsPlaceTurned}
 use Rattle.hall_http.specs.Reading.{at_first}
 use Rattle.hall_http.specs.declared.client.Client.{Client}
 use Rattle.hall_http.specs.declared.client.Step.{Step}
@@ -44,9 +41,11 @@ use Rattle.hall_http.proofs.SoFar.{handled_none, still_same}
 abbrev Told : ConnectionHistory → Connection → Bool → List ℕ → Type 0
 Told t k over off =
     AreSent t.exchanges t.went
-    ⊎ (IsRefusedAfter t.exchanges t.went × IsRefusedRightly t.exchanges k.inbox over × HasNoWholeRequest (k.inbox ++ off))
+    ⊎ (IsRefusedAfter t.exchanges t.went × IsRefusedRightly t.exchanges k.inbox over
+    × HasNoWholeRequest (k.inbox ++ off))
 
-replying_told : (t : ConnectionHistory) (k : Connection) (over : Bool) (off : List ℕ) → IsReplying t k → Told t k over off
+replying_told : (t : ConnectionHistory) (k : Connection) (over : Bool) (off : List ℕ) → IsReplying t k
+    → Told t k over off
 replying_told t k over off r =
     inl (inr (
       r.before,
@@ -58,7 +57,8 @@ replying_told t k over off r =
       r.told,
     ))
 
-no_request : (t : ConnectionHistory) (k : Connection) (off : List ℕ) → Ends end.BadHead t k.inbox → (off ≡ []) ⊎ (t.ended ≡ false)
+no_request : (t : ConnectionHistory) (k : Connection) (off : List ℕ) → Ends end.BadHead t k.inbox → (off ≡ [])
+    ⊎ (t.ended ≡ false)
     → HasNoWholeRequest (k.inbox ++ off)
 no_request t k off (goes_on, inl (some, unfinished, over)) (inl none) =
     subst HasNoWholeRequest (sym (ap (λ s. k.inbox ++ s) none ∙ append-nil k.inbox)) unfinished.none
@@ -546,7 +546,8 @@ module _ {P : Type 0} (traffic : P → Traffic) where
         kept_turned = record {
           numbered = record {
             order = kept.numbered.order;
-            known = All-append (λ turn. IsHandedOut few many turn.0) turns (numbered (number k) more) kept.numbered.known
+            known = All-append (λ turn. IsHandedOut few many turn.0) turns (numbered (number k) more)
+                kept.numbered.known
                 (known_more (IsHandedOut few many) (number k) more (kept.numbered.counted place k stood));
             counted = λ other w at.
                 let (v, there, equal) = stood_at other w at in

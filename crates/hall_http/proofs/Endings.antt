@@ -25,5 +25,6 @@ ends_by : (bytes : List ℕ) (raw : RawRequest) (n : ℕ) (b : Bool) → raw.clo
 ends_by bytes raw n true e lent = closing_request bytes raw lent e
 ends_by bytes raw n false e lent = last_or_not bytes n (n == 1000) refl (open_request bytes raw lent e)
 
-pub ends_after : (bytes : List ℕ) (raw : RawRequest) (n : ℕ) → IsLentBy bytes raw → EndsAfter bytes n (then_of raw.closes n)
+pub ends_after : (bytes : List ℕ) (raw : RawRequest) (n : ℕ) → IsLentBy bytes raw
+    → EndsAfter bytes n (then_of raw.closes n)
 ends_after bytes raw n lent = ends_by bytes raw n raw.closes refl lent

@@ -1,7 +1,10 @@
 -- The first request of some bytes, by the head at their front.
-use Rattle.std.proofs.Common.{◌≡◌, ◌∙◌, sym, ap, ap₂, subst, refl, ℕ, ◌+◌, ◌<◌, ◌≤◌, List, [], ◌++◌, length, take, drop, map, arith, append_assoc, length-append, ◌-◌, inl, inr, replicate, Option, Some, None, true, false, if◌then◌else◌}
+use Rattle.std.proofs.Common.{◌≡◌, ◌∙◌, sym, ap, ap₂, subst, refl, ℕ, ◌+◌, ◌<◌, ◌≤◌, List, [], ◌++◌, length, take, drop}
+use Rattle.std.proofs.Common.{map, arith, append_assoc, length-append, ◌-◌, inl, inr, replicate, Option, Some, None}
+use Rattle.std.proofs.Common.{true, false, if◌then◌else◌}
 use Rattle.std.proofs.lemmas.Option.{same_Some}
-use Rattle.std.proofs.lemmas.List.{length-map, length-replicate, length-take-le, append-nil, take-append-le, take-append-drop, take_at}
+use Rattle.std.proofs.lemmas.List.{length-map, length-replicate, length-take-le, append-nil, take-append-le}
+use Rattle.std.proofs.lemmas.List.{take-append-drop, take_at}
 use Rattle.std.proofs.Math.Seq.{take-append-add}
 use Rattle.std.proofs.lemmas.Bool.{and_parts}
 use Rattle.std.specs.Prelude.{nat_le, ◌&&◌, ◌||◌, Bool, slice_range}
@@ -24,9 +27,11 @@ size_of h = body_size (length (print_request h)) (headers_of h)
 -- a whole request at the front has the head that is at the front, and the size that it asks for
 pub same_size : (bytes more front rest : List ℕ) (h : RequestHead) (after : List ℕ)
     → ReadsRequest bytes h after → bytes ++ more ≡ front ++ rest → IsWholeRequest front
-    → (body : List ℕ) × (body_size (length (print_request h)) (headers_of h) ≡ Some (length body)) × (front ≡ print_request h ++ body)
+    → (body : List ℕ) × (body_size (length (print_request h)) (headers_of h) ≡ Some (length body))
+    × (front ≡ print_request h ++ body)
 same_size bytes more front rest h after reads split (k, body, whole) =
-    let longer : ReadsRequest (bytes ++ more) k (body ++ rest) = rw split (ReadsRequest-append front k body rest whole.reads) in
+    let longer : ReadsRequest (bytes ++ more) k (body ++ rest) = rw split
+    (ReadsRequest-append front k body rest whole.reads) in
     let same = (request_prefix_free bytes more h k after (body ++ rest) reads longer).0 in
     (body, rw same whole.size, rw same whole.reads.1)
 
@@ -41,7 +46,8 @@ request_at : (bytes : List ℕ) (h : RequestHead) (after : List ℕ) (n : ℕ) �
     → body_size (length (print_request h)) (headers_of h) ≡ Some n → n ≤ length after
     → IsHeadAndBody (take (length (print_request h) + n) bytes) h (take n after)
 request_at bytes h after n reads size fits =
-    let cut : take (length (print_request h) + n) bytes ≡ print_request h ++ take n after = rw reads.1 (take-append-add (print_request h) after n) in
+    let cut : take (length (print_request h) + n) bytes ≡ print_request h
+    ++ take n after = rw reads.1 (take-append-add (print_request h) after n) in
     record { reads = (reads.0, cut); size = size ∙ ap Some (sym (length-take-le n after fits)) }
 
 pub none_yet : (bytes : List ℕ) (h : RequestHead) (after : List ℕ) (n : ℕ) → ReadsRequest bytes h after
@@ -49,9 +55,11 @@ pub none_yet : (bytes : List ℕ) (h : RequestHead) (after : List ℕ) (n : ℕ)
 none_yet bytes h after n reads size short front rest split whole =
     let (body, asked, front_is) = same_size bytes [] front rest h after reads (append-nil bytes ∙ split) whole in
     let n_is : n ≡ length body = same_Some _ _ (sym size ∙ asked) in
-    let one : length bytes ≡ length (print_request h) + length after = ap length reads.1 ∙ length-append (print_request h) after in
+    let one : length bytes ≡ length (print_request h) + length after = ap length reads.1
+    ∙ length-append (print_request h) after in
     let two : length bytes ≡ length front + length rest = ap length split ∙ length-append front rest in
-    let three : length front ≡ length (print_request h) + length body = ap length front_is ∙ length-append (print_request h) body in
+    let three : length front ≡ length (print_request h) + length body = ap length front_is
+    ∙ length-append (print_request h) body in
     absurd (omega arith)
 
 pub none_in : (bytes : List ℕ) → HasNoRequest bytes → HasNoWholeRequest bytes
@@ -62,11 +70,15 @@ accepted : (size n : ℕ) (headers : List Header) (b : Bool) (o : Option ℕ) �
 accepted size n headers true o h = refl
 accepted size n headers false o h = cc
 
-pub small_head : (size n : ℕ) (headers : List Header) → body_size size headers ≡ Some n → (size ≤ 8192) × (length headers ≤ 32)
+pub small_head : (size n : ℕ) (headers : List Header) → body_size size headers ≡ Some n → (size ≤ 8192)
+    × (length headers ≤ 32)
 small_head size n headers h =
     let yes = accepted size n headers (is_accepted size headers) _ h in
-    let few_keys = and_parts (nat_le size head_limit && nat_le (length headers) field_limit && (length (headers_named (codes "transfer-encoding") headers) == 0)) (nat_le (length (headers_named (codes "hall-key") headers)) 1) yes in
-    let not_coded = and_parts (nat_le size head_limit && nat_le (length headers) field_limit) (length (headers_named (codes "transfer-encoding") headers) == 0) few_keys.0 in
+    let few_keys = and_parts (nat_le size head_limit && nat_le (length headers) field_limit &&
+    (length (headers_named (codes "transfer-encoding") headers) == 0))
+    (nat_le (length (headers_named (codes "hall-key") headers)) 1) yes in
+    let not_coded = and_parts (nat_le size head_limit && nat_le (length headers) field_limit)
+    (length (headers_named (codes "transfer-encoding") headers) == 0) few_keys.0 in
     let both = and_parts (nat_le size head_limit) (nat_le (length headers) field_limit) not_coded.0 in
     (grind (arith, both.0), grind (arith, both.1))
 
@@ -75,7 +87,9 @@ one_key : (size n : ℕ) (headers : List Header) → body_size size headers ≡ 
     → length (headers_named (codes "hall-key") headers) ≤ 1
 one_key size n headers h =
     let yes = accepted size n headers (is_accepted size headers) _ h in
-    let few_keys = and_parts (nat_le size head_limit && nat_le (length headers) field_limit && (length (headers_named (codes "transfer-encoding") headers) == 0)) (nat_le (length (headers_named (codes "hall-key") headers)) 1) yes in
+    let few_keys = and_parts (nat_le size head_limit && nat_le (length headers) field_limit &&
+    (length (headers_named (codes "transfer-encoding") headers) == 0))
+    (nat_le (length (headers_named (codes "hall-key") headers)) 1) yes in
     grind (arith, few_keys.1)
 
 -- what is lent is one whole request
@@ -98,7 +112,8 @@ pub lent_at : (bytes : List ℕ) (headers : List HeaderSpan) (r : RequestSpans) 
     × (path ≡ head.target) × (shown ≡ shown_key head) × (closing ≡ closes head)
 lent_at bytes headers r h n method path shown body closing found size fits methods paths keys bodies close = (
   h,
-  subst (IsHeadAndBody (take (r.len + n) bytes) h) (sym (bodies ∙ ap (λ k. take k (drop r.len bytes)) (rest_of r.len n)))
+  subst (IsHeadAndBody (take (r.len + n) bytes) h) (sym (bodies
+      ∙ ap (λ k. take k (drop r.len bytes)) (rest_of r.len n)))
       (subst (λ (len : ℕ). IsHeadAndBody (take (len + n) bytes) h (take n (drop r.len bytes))) (sym found.len)
       (request_at bytes h (drop r.len bytes) n found.reads size fits)),
   methods ∙ found.method,
@@ -106,17 +121,24 @@ lent_at bytes headers r h n method path shown body closing found size fits metho
   subst (λ (fields : List Header). length (headers_named (codes "hall-key") fields) ≤ 1
       → shown ≡ first_value (headers_named (codes "hall-key") fields)) found.fields keys
       (one_key (length (print_request h)) n (headers_of h) size),
-  close ∙ ap₂ (λ (version : ℕ) (fields : List Header). version == 0 || list_any says_close fields) found.version found.fields,
+  close ∙ ap₂ (λ (version : ℕ) (fields : List Header). version == 0 || list_any says_close fields) found.version
+      found.fields,
 )
 
 pub never_past : (bytes : List ℕ) → HasNoRequest bytes → 8192 ≤ length bytes → NeverHas bytes
 never_past bytes none long more front rest split (k, body, whole) =
     let small = (small_head (length (print_request k)) (length body) (headers_of k) whole.size).0 in
     let p = print_request k in
-    let all : bytes ++ more ≡ p ++ (body ++ rest) = split ∙ ap (λ x. x ++ rest) whole.reads.1 ∙ append_assoc p body rest in
+    let all : bytes ++ more ≡ p ++ (body ++ rest) = split ∙ ap (λ x. x ++ rest) whole.reads.1
+    ∙ append_assoc p body rest in
     let fits : length p ≤ length bytes = omega arith in
-    let front_is : take (length p) bytes ≡ p = sym (take-append-le (length p) bytes more fits) ∙ ap (take (length p)) all ∙ take_at p (body ++ rest) (length p) refl in
-    none k (drop (length p) bytes) (whole.reads.0, sym (take-append-drop (length p) bytes) ∙ ap (λ x. x ++ drop (length p) bytes) front_is)
+    let front_is : take (length p) bytes ≡ p = sym (take-append-le (length p) bytes more fits)
+    ∙ ap (take (length p)) all ∙ take_at p (body ++ rest) (length p) refl in
+    none k (drop (length p) bytes) (
+      whole.reads.0,
+      sym (take-append-drop (length p) bytes)
+          ∙ ap (λ x. x ++ drop (length p) bytes) front_is,
+    )
 
 pub never_over : (bytes : List ℕ) → RequestOverflows 32 bytes → NeverHas bytes
 never_over bytes over more front rest split (k, body, whole) =
@@ -124,8 +146,10 @@ never_over bytes over more front rest split (k, body, whole) =
     let few = (small_head (length (print_request k)) (length body) (headers_of k) whole.size).1 in
     absurd (omega (arith, many, few, length-map k.fields name_and_value))
 
-pub size_at : (bytes : List ℕ) (headers : List HeaderSpan) (r : RequestSpans) (h : RequestHead) → IsRequestAt bytes headers r h
-    → body_size r.len (map (header_bytes bytes) (take r.headers headers)) ≡ body_size (length (print_request h)) (headers_of h)
+pub size_at : (bytes : List ℕ) (headers : List HeaderSpan) (r : RequestSpans) (h : RequestHead)
+    → IsRequestAt bytes headers r h
+    → body_size r.len (map (header_bytes bytes) (take r.headers headers)) ≡ body_size (length (print_request h))
+    (headers_of h)
 size_at bytes headers r h found = rw (found.len, found.fields) refl
 
 accepted_size : (n : ℕ) (b : Bool) (o : Option ℕ) → (if b then o else None) ≡ Some n → o ≡ Some n

@@ -1,6 +1,7 @@
 -- What each step of a connection makes of its history.
-use Rattle.std.proofs.Common.{◌≡◌, ◌≢◌, ◌∙◌, sym, ap, subst, refl, arith, ℕ, ◌+◌, ◌<◌, ◌≤◌, ◌==◌, inl, inr, List, [], ◌∷◌, ◌++◌, if◌then◌else◌}
-use Rattle.std.proofs.Common.{length, take, drop, Option, Some, None, append_assoc, length-append, length-drop, true, false}
+use Rattle.std.proofs.Common.{◌≡◌, ◌≢◌, ◌∙◌, sym, ap, subst, refl, arith, ℕ, ◌+◌, ◌<◌, ◌≤◌, ◌==◌, inl, inr, List, []}
+use Rattle.std.proofs.Common.{◌∷◌, ◌++◌, if◌then◌else◌, length, take, drop, Option, Some, None, append_assoc}
+use Rattle.std.proofs.Common.{length-append, length-drop, true, false}
 use Rattle.std.specs.Prelude.{Bool}
 use Rattle.std.proofs.lemmas.Bool.{eqb-true}
 use Rattle.std.proofs.lemmas.List.{append-nil, take-append-drop, take_all}
@@ -14,7 +15,8 @@ use Rattle.hall_http.specs.History.{ConnectionHistory, nothing, then_heard, then
 use Rattle.hall_http.specs.History.{reads_of, HasHistory, Stands, IsFree, IsReplying, IsRefusing}
 use Rattle.hall_http.specs.Reading.{at_first, after_read, after_answer}
 use Rattle.hall_http.specs.Served.{HaveRead, IsLastRequest, refusal}
-use Rattle.hall_http.specs.Steps.{pending, fresh, IsAfterHearing, IsAfterEnd, IsAfterSending, Answers, Waits, Refuses, EndsAfter, after_reply}
+use Rattle.hall_http.specs.Steps.{pending, fresh, IsAfterHearing, IsAfterEnd, IsAfterSending, Answers, Waits, Refuses}
+use Rattle.hall_http.specs.Steps.{EndsAfter, after_reply}
 use Rattle.hall_http.specs.declared.connection.Connection.{Connection}
 use Rattle.hall_http.specs.declared.connection.ServeEnd.{ServeEnd}
 use Rattle.hall_http.specs.declared.connection.ServeEnd.TheVariants as end
@@ -324,6 +326,8 @@ module _ (t : ConnectionHistory) (k : Connection) (h : HasHistory t k) where
         (subst (λ (s : State). Stands s after (record k { sent = k.sent + count })) (sym at)
         (part_stands ending (stands_at t k (state.Writing ending) h at))))
     sent ending l at (inr (all, is)) =
-        subst (HasHistory after) (sym (is ∙ ap (λ (s : State). record k { sent = 0; reply = Nothing; state = after_reply s }) at))
-        (as_before t.ended after.went k.least Nothing 0 k.reads (after_reply (state.Writing ending)) h.reads h.seldom h.below
+        subst (HasHistory after) (sym (is ∙ ap (λ (s : State). record k
+        { sent = 0; reply = Nothing; state = after_reply s }) at))
+        (as_before t.ended after.went k.least Nothing 0 k.reads (after_reply (state.Writing ending)) h.reads h.seldom
+        h.below
         (omega arith) (whole_stands ending all (stands_at t k (state.Writing ending) h at)))

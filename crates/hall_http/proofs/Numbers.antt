@@ -1,6 +1,6 @@
 -- The requests of one connection among those of all, and who stands at which place.
-use Rattle.std.proofs.Common.{◌≡◌, ◌≢◌, ◌⊎◌, ◌∙◌, sym, ap, refl, arith, ℕ, zero, suc, ◌+◌, ◌<◌, ◌≤◌, ◌==◌, inl, inr, List, [], ◌∷◌, ◌++◌}
-use Rattle.std.proofs.Common.{length, map, get_or, Option, Some, None, true, false}
+use Rattle.std.proofs.Common.{◌≡◌, ◌≢◌, ◌⊎◌, ◌∙◌, sym, ap, refl, arith, ℕ, zero, suc, ◌+◌, ◌<◌, ◌≤◌, ◌==◌, inl, inr}
+use Rattle.std.proofs.Common.{List, [], ◌∷◌, ◌++◌, length, map, get_or, Option, Some, None, true, false}
 use Rattle.std.specs.Prelude.{Bool, All, slice_set, filter}
 use Rattle.std.specs.Option.{is_some}
 use Rattle.std.proofs.lemmas.Bool.{eqb-true, eqb-false}
@@ -20,7 +20,8 @@ exchanges_numbered n (x ∷ xs) = ap (λ ys. x ∷ ys) (exchanges_numbered n xs)
 pub of_append : (n : ℕ) (turns more : List Turn) → of n (turns ++ more) ≡ of n turns ++ of n more
 of_append n turns more =
     ap exchanges_of (filter-append (λ (turn : Turn). turn.0 == n) turns more)
-    ∙ map-append (λ (turn : Turn). turn.1) (filter (λ (turn : Turn). turn.0 == n) turns) (filter (λ (turn : Turn). turn.0 == n) more)
+    ∙ map-append (λ (turn : Turn). turn.1) (filter (λ (turn : Turn). turn.0 == n) turns)
+    (filter (λ (turn : Turn). turn.0 == n) more)
 
 pub test_same : (n : ℕ) → (n == n) ≡ true
 test_same n = grind arith
@@ -46,11 +47,13 @@ of_none n (t ∷ ts) below =
 pub own_more : (n : ℕ) (turns : List Turn) (more : List Exchange) → of n (turns ++ numbered n more) ≡ of n turns ++ more
 own_more n turns more = of_append n turns (numbered n more) ∙ ap (λ s. of n turns ++ s) (of_same n more)
 
-pub others_same : (m n : ℕ) (turns : List Turn) (more : List Exchange) → n ≢ m → of m (turns ++ numbered n more) ≡ of m turns
+pub others_same : (m n : ℕ) (turns : List Turn) (more : List Exchange) → n ≢ m
+    → of m (turns ++ numbered n more) ≡ of m turns
 others_same m n turns more other =
     of_append m turns (numbered n more) ∙ ap (λ s. of m turns ++ s) (of_other m n more other) ∙ append-nil (of m turns)
 
-pub known_more : (Holds : ℕ → Type 0) (n : ℕ) (xs : List Exchange) → Holds n → All (λ turn. Holds turn.0) (numbered n xs)
+pub known_more : (Holds : ℕ → Type 0) (n : ℕ) (xs : List Exchange) → Holds n
+    → All (λ turn. Holds turn.0) (numbered n xs)
 known_more Holds n [] holds = All-nil (λ (turn : Turn). Holds turn.0)
 known_more Holds n (x ∷ xs) holds =
     All-cons (λ (turn : Turn). Holds turn.0) (n, x) (numbered n xs) holds (known_more Holds n xs holds)
@@ -86,7 +89,8 @@ empty_none i = refl
 
 -- which client stands where, after a place was changed
 module _ {X : Type 0} (xs : List (Option X)) (place : ℕ) (v : Option X) (inside : place < length xs) where
-  pub by_test : (other : ℕ) (w : X) (b : Bool) → (other == place) ≡ b → get_or (slice_set xs place v) other None ≡ Some w
+  pub by_test : (other : ℕ) (w : X) (b : Bool) → (other == place) ≡ b → get_or (slice_set xs place v) other None ≡ Some
+      w
       → ((other ≡ place) × (v ≡ Some w)) ⊎ ((other ≢ place) × (get_or xs other None ≡ Some w))
   by_test other w true e at =
       let same : other ≡ place = eqb-true _ _ e in

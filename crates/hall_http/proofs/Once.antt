@@ -1,6 +1,6 @@
 -- What bytes are as requests and as records, they are in one way.
-use Rattle.std.proofs.Common.{◌≡◌, ◌∙◌, sym, ap, ap₂, subst, refl, arith, ℕ, List, [], ◌∷◌, ◌++◌, length, All}
-use Rattle.std.proofs.Common.{Option, Some, None, append_assoc, flat_map, ◌≤◌, take, drop}
+use Rattle.std.proofs.Common.{◌≡◌, ◌∙◌, sym, ap, ap₂, subst, refl, arith, ℕ, List, [], ◌∷◌, ◌++◌, length, All, Option}
+use Rattle.std.proofs.Common.{Some, None, append_assoc, flat_map, ◌≤◌, take, drop}
 use Rattle.std.proofs.lemmas.List.{append-nil, length-take-le, take-append-drop}
 use Rattle.std.proofs.lemmas.List.Elements.{All-head, All-tail}
 use Rattle.httparse.specs.Grammar.{RequestHead, print_request, ReadsRequest}
@@ -56,7 +56,8 @@ whole_front bytes n fits front whole =
 abbrev joined : List (List ℕ) → List ℕ
 joined requests = flat_map (λ request. request) requests
 
-same_lists : (xs ys : List (List ℕ)) (rest left : List ℕ) → All IsWholeRequest xs → All IsWholeRequest ys → HasNoWholeRequest rest
+same_lists : (xs ys : List (List ℕ)) (rest left : List ℕ) → All IsWholeRequest xs → All IsWholeRequest ys
+    → HasNoWholeRequest rest
     → HasNoWholeRequest left → joined xs ++ rest ≡ joined ys ++ left → (xs ≡ ys) × (rest ≡ left)
 same_lists [] [] rest left all each ended over same = (refl, same)
 same_lists [] (y ∷ ys) rest left all each ended over same =
@@ -65,10 +66,12 @@ same_lists (x ∷ xs) [] rest left all each ended over same =
     absurd (over x (joined xs ++ rest) (sym same ∙ append_assoc x (joined xs) rest) (All-head IsWholeRequest x xs all))
 same_lists (x ∷ xs) (y ∷ ys) rest left all each ended over same =
     let (firsts, tails) =
-    one_first x y (joined xs ++ rest) (joined ys ++ left) (All-head IsWholeRequest x xs all) (All-head IsWholeRequest y ys each)
+    one_first x y (joined xs ++ rest) (joined ys ++ left) (All-head IsWholeRequest x xs all)
+    (All-head IsWholeRequest y ys each)
     (sym (append_assoc x (joined xs) rest) ∙ same ∙ append_assoc y (joined ys) left) in
     let (later, rests) =
-    same_lists xs ys rest left (All-tail IsWholeRequest x xs all) (All-tail IsWholeRequest y ys each) ended over tails in
+    same_lists xs ys rest left (All-tail IsWholeRequest x xs all) (All-tail IsWholeRequest y ys each) ended over
+    tails in
     (ap₂ (λ z zs. z ∷ zs) firsts later, rests)
 
 pub one_list : (stream : List ℕ) (xs ys : List (List ℕ)) (rest left : List ℕ) → Requests stream xs rest

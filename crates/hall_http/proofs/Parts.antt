@@ -1,5 +1,6 @@
 -- What the parameters take of an ASCII path is ASCII, and the code finds the first three of them.
-use Rattle.std.proofs.Common.{◌≡◌, ℕ, zero, suc, List, [], ◌∷◌, take, drop, length, ◌-◌, Bool, true, false, ◌&&◌, refl, sym, subst, cond, arith}
+use Rattle.std.proofs.Common.{◌≡◌, ℕ, zero, suc, List, [], ◌∷◌, take, drop, length, ◌-◌, Bool, true, false, ◌&&◌, refl}
+use Rattle.std.proofs.Common.{sym, subst, cond, arith}
 use Rattle.std.specs.Prelude.{leb}
 use Rattle.std.specs.List.{list_all}
 use Rattle.std.specs.Char.{is_ascii}
@@ -36,9 +37,11 @@ IsAscii-cond false xs h = IsAscii-nil
 -- what stands between two places of an ASCII path is ASCII
 IsAscii-part : (path : List ℕ) (start end : ℕ) → IsAscii path → IsAscii (part_of path start end)
 IsAscii-part path start end h =
-    IsAscii-cond (leb start end && leb end (length path)) (take (end - start) (drop start path)) (IsAscii-take (end - start) (drop start path) (IsAscii-drop start path h))
+    IsAscii-cond (leb start end && leb end (length path)) (take (end - start) (drop start path))
+    (IsAscii-take (end - start) (drop start path) (IsAscii-drop start path h))
 
-pub all_ascii : (pattern text path : List ℕ) (names : List (ℕ × ℕ)) (token at : ℕ) → IsAscii path → AllAscii (walk pattern text path names token at)
+pub all_ascii : (pattern text path : List ℕ) (names : List (ℕ × ℕ)) (token at : ℕ) → IsAscii path
+    → AllAscii (walk pattern text path names token at)
 all_ascii pattern text path [] token at h = tt
 all_ascii pattern text path (name ∷ rest) token at h = (IsAscii-part path _ _ h, all_ascii pattern text path rest _ _ h)
 
@@ -46,7 +49,8 @@ all_ascii pattern text path (name ∷ rest) token at h = (IsAscii-part path _ _ 
 abbrev pub Took : List (List ℕ × List ℕ) → List (List ℕ × List ℕ) → List ℕ × List ℕ → Type 0
 Took s t a = (p : List ℕ × List ℕ) × (s ≡ p ∷ t) × Shows p.0 a.0 × Shows p.1 a.1
 
-taken : (s t : List (List ℕ × List ℕ)) (a : List ℕ × List ℕ) → Took s t a → AllAscii s → (part s ≡ a.1) × (parts_after s ≡ t) × AllAscii t
+taken : (s t : List (List ℕ × List ℕ)) (a : List ℕ × List ℕ) → Took s t a → AllAscii s → (part s ≡ a.1)
+    × (parts_after s ≡ t) × AllAscii t
 taken s t a (p, is, key, shown) ascii =
     let all : AllAscii (p ∷ t) = subst AllAscii is ascii in
     (rw is (sym (shown (IsUtf8-from_ascii p.1 all.0))), rw is refl, all.1)
@@ -62,7 +66,8 @@ module _ (s t : List (List ℕ × List ℕ)) (a : List ℕ × List ℕ) (first :
         let y = taken t u b second x.2 in
         rw (x.0, x.1, y.0, y.1, end) refl
 
-    pub three_parts : (v : List (List ℕ × List ℕ)) (c : List ℕ × List ℕ) → Took u v c → record { first = a.1; second = b.1; third = c.1 } ≡ parts_of s
+    pub three_parts : (v : List (List ℕ × List ℕ)) (c : List ℕ × List ℕ) → Took u v c
+        → record { first = a.1; second = b.1; third = c.1 } ≡ parts_of s
     three_parts v c third =
         let x = taken s t a first ascii in
         let y = taken t u b second x.2 in

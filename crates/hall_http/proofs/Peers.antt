@@ -9,7 +9,8 @@ use Rattle.hall_http.specs.Turns.{Service, IsClient, IsClientKept, IsOverRightly
 use Rattle.hall_http.specs.Connection.{Exchange, AreMoments}
 use Rattle.hall_http.specs.Resting.{HasRested, RestingSession}
 use Rattle.hall_http.specs.History.{nothing, then_heard, then_ended, then_answered, then_sent, HasHistory}
-use Rattle.hall_http.specs.Steps.{pending, fresh, IsAfterHearing, IsAfterEnd, IsAfterSending, Looks, StandsRightly, WaitsRightly}
+use Rattle.hall_http.specs.Steps.{pending, fresh, IsAfterHearing, IsAfterEnd, IsAfterSending, Looks, StandsRightly}
+use Rattle.hall_http.specs.Steps.{WaitsRightly}
 use Rattle.hall_http.specs.declared.client.Client.{Client}
 use Rattle.hall_http.specs.declared.client.Step.{Step}
 use Rattle.hall_http.specs.declared.client.Step.TheVariants as step
@@ -146,7 +147,8 @@ module _ {P : Type 0} (traffic : P → Traffic) where
         read_over = λ e. over;
         hung_up = hung ∙ is.hung_up;
         leaving = λ e. let clash = sym (reading_open at) ∙ e in absurd cc;
-        heard = more ∙ ap (λ s. (traffic p).came ++ s) empty ∙ append-nil ((traffic p).came) ∙ heard_all (reading_off at)
+        heard = more ∙ ap (λ s. (traffic p).came ++ s) empty ∙ append-nil ((traffic p).came)
+            ∙ heard_all (reading_off at)
             ∙ sym (append-nil is.history.came);
         sent = same ∙ is.sent;
       }
@@ -332,7 +334,8 @@ module _ {P : Type 0} (traffic : P → Traffic) where
 
     -- the responder rested, and then it was looked at what waits
     pub turned_looked : (h m i : H) (c d : C) (k l : Connection) (p : P) (f v : Bool) (step : Step)
-        → HasRested service.rests h m → k.state ≡ state.Looking → Looks service.answers service.now_gives (m, c) k (i, d) l
+        → HasRested service.rests h m → k.state ≡ state.Looking → Looks service.answers service.now_gives (m, c) k
+        (i, d) l
         → IsOverRightly step (traffic p)
         → IsTurned service traffic (h, c) (client k p f v) (i, d) (client l p f v) step
     turned_looked h m i c d k l p f v second rested at looks over =

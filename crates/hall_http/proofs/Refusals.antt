@@ -21,7 +21,8 @@ sixteen = decimal-digits_value own (codes "16") refl (omega arith) (λ e. omega 
 pub unavailable_reply : BytesOf NotServed (answer_text Unavailable)
 unfolding serde_json_on_literals
 unavailable_reply =
-    ap (λ size. head_bytes status.Unavailable media.Json ++ ((codes "\r\nContent-Length: " ++ (size ++ codes "\r\n\r\n")) ++ compact_text unavailable_data)) (sym sixteen)
+    ap (λ size. head_bytes status.Unavailable media.Json ++ ((codes "\r\nContent-Length: "
+    ++ (size ++ codes "\r\n\r\n")) ++ compact_text unavailable_data)) (sym sixteen)
 
 -- a text of 503 is the reply Unavailable
 pub unavailable_bytes : {S E : Type 0} (bytes : S → List ℕ) (given : Reply) (r : Result S E) → given ≡ NotServed
@@ -32,7 +33,10 @@ unavailable_bytes bytes given (Err e) is told = told
 thirteen : decimal 13 ≡ codes "13"
 thirteen = decimal-digits_value own (codes "13") refl (omega arith) (λ e. omega arith) (omega arith)
 
-pub refusal_text : codes "HTTP/1.1 400 Bad Request\r\nContent-Type: application/json\r\nContent-Length: 13\r\n\r\n{\"form\":\"F7\"}" ≡ refusal
+pub refusal_text : codes
+    "HTTP/1.1 400 Bad Request\r\nContent-Type: application/json\r\nContent-Length: 13\r\n\r\n{\"form\":\"F7\"}" ≡
+    refusal
 unfolding serde_json_on_literals
 refusal_text =
-    ap (λ size. head_bytes status.BadRequest media.Json ++ ((codes "\r\nContent-Length: " ++ (size ++ codes "\r\n\r\n")) ++ compact_text (fault_data fault.NotWhole))) (sym thirteen)
+    ap (λ size. head_bytes status.BadRequest media.Json ++ ((codes "\r\nContent-Length: " ++ (size ++ codes "\r\n\r\n"))
+    ++ compact_text (fault_data fault.NotWhole))) (sym thirteen)

@@ -59,7 +59,8 @@ one_request : (x y : Request) (a b : Result Request FormFault) → a ≡ Ok x �
 one_request x y a b e g same = cc
 
 -- what is asked for by bytes that ask nothing, nobody may make
-pub nobodys : (bytes : List ℕ) (request : Request) → RequestOf bytes (Ok request) → AsksNothing bytes → IsNobodys request
+pub nobodys : (bytes : List ℕ) (request : Request) → RequestOf bytes (Ok request) → AsksNothing bytes
+    → IsNobodys request
 nobodys bytes request reads (inl never) = absurd (never (request, reads))
 nobodys bytes request reads (inr (other, read, nobody)) =
     let same = one_asked bytes (Ok other) (Ok request) read reads in

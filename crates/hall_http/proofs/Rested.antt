@@ -4,7 +4,8 @@ use Rattle.std.specs.Prelude.{Bool}
 use Rattle.hall_http.specs.Connection.{Exchange, Session}
 use Rattle.hall_http.specs.Resting.{AreRests, HasRested, RestingSession, after_rests, still}
 
-pub session_then : {H : Type 0} (answers : H → Option ℕ → List ℕ → List ℕ → H → Type 0) (xs ys : List Exchange) (h m i : H)
+pub session_then : {H : Type 0} (answers : H → Option ℕ → List ℕ → List ℕ → H → Type 0) (xs ys : List Exchange)
+    (h m i : H)
     → Session answers h xs m → Session answers m ys i → Session answers h (xs ++ ys) i
 session_then {H} answers [] ys h m i same rest = subst (λ (m : H). Session answers m ys i) same rest
 session_then answers (x ∷ xs) ys h m i (p, first, more) rest = (p, first, session_then answers xs ys p m i more rest)
@@ -55,7 +56,8 @@ still_on {H} rests h [] i same = subst (λ (z : H × Bool). z.1 ≡ h.1) (sym sa
 still_on rests h (m ∷ left) i (rest, more) = still_on rests m left i more ∙ rest.1
 
 -- a responder that went on rested, and goes on
-still_rests : {H : Type 0} (rests : H → H → Type 0) (h : H) (left : List H) (i : H) (on : Bool) → AreRests rests h left i
+still_rests : {H : Type 0} (rests : H → H → Type 0) (h : H) (left : List H) (i : H) (on : Bool)
+    → AreRests rests h left i
     → HasRested (still rests) (h, on) (i, on)
 still_rests {H} rests h [] i on same = ([], ap (λ (h : H). (h, on)) same)
 still_rests rests h (m ∷ left) i on (rest, more) =

@@ -18,8 +18,7 @@ use Rattle.hall_http.specs.Connection.{Exchange}
 use Rattle.hall_http.specs.Served.{Line, IsHandled, IsServed}
 use Rattle.hall_http.specs.declared.connection.ServeEnd.{ServeEnd}
 use Rattle.hall_http.specs.Serving.{AnswersAt, IsAnsweredOver, AreAnswered, IsNoRequestMade, AreRequestsMade, IsRunOver}
-use Rattle.hall_http.specs.Serving.{RunsOver}
-use Rattle.hall_http.specs.Serving.{IsLeftOver, LeavesRunOver}
+use Rattle.hall_http.specs.Serving.{RunsOver, IsLeftOver, LeavesRunOver}
 use Rattle.hall_http.specs.Laws.{FirstPartsLast, RunsCompose}
 
 -- the exchanges, one after another, over worlds
@@ -29,7 +28,8 @@ Answering world (x ∷ xs) last =
     (next : World) × AnswersAt world x.moment x.request x.reply next × Answering next xs last
 
 -- they are a run of the hall
-not_made : (w v : World) (x : Exchange) (xs : List Exchange) (last : World) → v ≡ w → IsNoRequestMade x → IsRunOver v xs last
+not_made : (w v : World) (x : Exchange) (xs : List Exchange) (last : World) → v ≡ w → IsNoRequestMade x
+    → IsRunOver v xs last
     → IsRunOver w (x ∷ xs) last
 not_made w v x xs last same other run = record {
   requests = run.requests;
@@ -67,7 +67,14 @@ before_run world x None next xs last at (unavailable, same) run =
     not_made world next x xs last same (inr unavailable) run
 
 pub run_over : (world : World) (xs : List Exchange) (last : World) → Answering world xs last → IsRunOver world xs last
-run_over world [] last same = record { requests = []; replies = []; timed = All-nil IsTimed; run = same; made = (refl, refl) }
+run_over world [] last same = record {
+  requests = [];
+  replies = [];
+  timed = All-nil IsTimed;
+  run = same;
+  made =
+      (refl, refl);
+}
 run_over world (x ∷ xs) last (next, step, rest) =
     before_run world x x.moment next xs last refl step (run_over next xs last rest)
 
@@ -162,7 +169,8 @@ leaves_over old xs left settled honest serves (inl (may, run)) =
 leaves_over old xs left settled honest serves (inr (was, run)) = run
 
 -- a store that was only read before them
-pub leaves_read : (old new : Content) (xs : List Exchange) (left : World) → Kept old new → new.honest → Leaves new xs left
+pub leaves_read : (old new : Content) (xs : List Exchange) (left : World) → Kept old new → new.honest
+    → Leaves new xs left
     → Leaves old xs left
 leaves_read old new xs left kept honest (inl (may, run)) = inl (kept.stops honest left may, run)
 leaves_read old new xs left kept honest (inr (serves, run)) =
@@ -185,16 +193,22 @@ module _ {H : Type 0} (content : H → Content) where
     served (inl (always, same)) serves run = inr (
       says.leads.serves honest serves,
       one_before here.world x there.world xs left
-          (subst (λ (w : World). AnswersAt here.world x.moment x.request x.reply w) (sym (same serves)) (always here.world)) run,
+          (subst (λ (w : World). AnswersAt here.world x.moment x.request x.reply w) (sym (same serves))
+          (always here.world)) run,
     )
     served (inr (was, now, step)) serves run = inr (was, one_before here.world x there.world xs left step run)
 
     stayed : Answered → here.may_leave left → there.may_leave left → IsRunOver left xs left → Leaves here (x ∷ xs) left
-    stayed (inl (always, same)) before may run = inl (before, before_run left x x.moment left xs left refl (always left) run)
+    stayed (inl (always, same)) before may run = inl (
+      before,
+      before_run left x x.moment left xs left refl (always left)
+          run,
+    )
     stayed (inr (was, serves, step)) before may run = inr (
       was,
       inl (before_run here.world x x.moment left xs left refl
-          (subst (λ (w : World). AnswersAt here.world x.moment x.request x.reply w) (sym (says.settled honest serves left may)) step)
+          (subst (λ (w : World). AnswersAt here.world x.moment x.request x.reply w)
+          (sym (says.settled honest serves left may)) step)
           run),
     )
 
@@ -224,7 +238,8 @@ module _ {H : Type 0} (content : H → Content) where
       )
     ]
 
-  session_leaves : (h : H) (xs : List Exchange) (i : H) → AreAnswered content h xs i → (content i).honest → (left : World)
+  session_leaves : (h : H) (xs : List Exchange) (i : H) → AreAnswered content h xs i → (content i).honest
+      → (left : World)
       → (content i).may_leave left → Leaves (content h) xs left
   session_leaves h [] i same honest left may =
       inl (subst (λ (i : H). (content i).may_leave left) same may, run_over left [] left refl)
@@ -322,7 +337,8 @@ run_then old mid new (q ∷ requests) more (r ∷ replies) others (next, step, r
 
 -- the requests of both, and their replies
 made_then : (xs ys : List Exchange) (requests more : List (ℕ × Request)) (replies others : List Reply)
-    → AreRequestsMade xs requests replies → AreRequestsMade ys more others → AreRequestsMade (xs ++ ys) (requests ++ more) (replies ++ others)
+    → AreRequestsMade xs requests replies → AreRequestsMade ys more others
+    → AreRequestsMade (xs ++ ys) (requests ++ more) (replies ++ others)
 made_then [] ys requests more replies others (asks, tells) rest =
     subst (λ (qs : List (ℕ × Request)). AreRequestsMade ys (qs ++ more) (replies ++ others)) (sym asks)
     (subst (λ (rs : List Reply). AreRequestsMade ys more (rs ++ others)) (sym tells) rest)

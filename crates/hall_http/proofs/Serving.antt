@@ -1,6 +1,6 @@
 -- Connections that were served by a desk.
-use Rattle.std.proofs.Common.{◌≡◌, ◌≢◌, ◌∙◌, ap, get_or, refl, sym, subst, inl, inr, ℕ, List, [], ◌∷◌, ◌++◌}
-use Rattle.std.proofs.Common.{Option, true, false}
+use Rattle.std.proofs.Common.{◌≡◌, ◌≢◌, ◌∙◌, ap, get_or, refl, sym, subst, inl, inr, ℕ, List, [], ◌∷◌, ◌++◌, Option}
+use Rattle.std.proofs.Common.{true, false}
 use Rattle.std.specs.Prelude.{Bool}
 use Rattle.hall_policy.specs.World.{World}
 use Rattle.hall_store.specs.Store.{Content, IsSettled, Kept, Leads}
@@ -9,9 +9,10 @@ use Rattle.hall_desk.specs.Sane.{Sane}
 use Rattle.hall_desk.specs.Desk.{SaneThen}
 use Rattle.hall_http.specs.Connection.{Exchange, Session}
 use Rattle.hall_http.specs.Coming.{Nexts, Said, since, stays_open}
-use Rattle.hall_http.specs.Crowd.{AreAtTurns, AreHandled, AreKept, AreKeptAtTurns, AreServed, AreThose, EndUnavailable, AreGone, AnswersNoMore}
-use Rattle.hall_http.specs.Crowd.{AllLeave, AreAsSaid, HaveGone, HaveHeard, IsFor, IsToldRightly, StandsThere}
-use Rattle.hall_http.specs.Crowd.{AreHeard, heard_first, heard_last, heard_other, heard_turn}
+use Rattle.hall_http.specs.Crowd.{AreAtTurns, AreHandled, AreKept, AreKeptAtTurns, AreServed, AreThose, EndUnavailable}
+use Rattle.hall_http.specs.Crowd.{AreGone, AnswersNoMore, AllLeave, AreAsSaid, HaveGone, HaveHeard, IsFor}
+use Rattle.hall_http.specs.Crowd.{IsToldRightly, StandsThere, AreHeard, heard_first, heard_last, heard_other}
+use Rattle.hall_http.specs.Crowd.{heard_turn}
 use Rattle.hall_http.specs.Peer.{Traffic}
 use Rattle.hall_http.specs.Resting.{AreRests, RestingSession, after_rests, still}
 use Rattle.hall_http.specs.Laws.{FirstPartsLast}
@@ -28,7 +29,8 @@ use Rattle.hall_http.specs.declared.server.ServeAllEnd.{ServeAllEnd}
 use Rattle.hall_http.proofs.Crowds.{kept_told, kept_those}
 use Rattle.hall_http.proofs.Rested.{still_on}
 use Rattle.hall_http.proofs.SoFar.{for_grown, grows_by, left_grown, turns_grown}
-use Rattle.hall_http.proofs.Runs.{Leaves, Onward, answered_kept, further, leaves_one, leaves_over, leaves_read, onward_runs, run_over, runs_sane}
+use Rattle.hall_http.proofs.Runs.{Leaves, Onward, answered_kept, further, leaves_one, leaves_over, leaves_read}
+use Rattle.hall_http.proofs.Runs.{onward_runs, run_over, runs_sane}
 
 -- where both parts together are empty, so is the first
 no_first : (xs ys : List Exchange) → xs ++ ys ≡ [] → xs ≡ []
@@ -37,7 +39,8 @@ no_first (x ∷ xs) ys none = absurd cc
 
 -- over what is answered and only read, a run of the hall
 module _ {H : Type 0} (content : H → Content) where
-  pub open_leads : (h : H) (xs : List Exchange) (i : H) → AreAnsweredWhileOpen content h xs i → Leads (content h) (content i)
+  pub open_leads : (h : H) (xs : List Exchange) (i : H) → AreAnsweredWhileOpen content h xs i
+      → Leads (content h) (content i)
   open_leads h [] i kept = kept_leads (content h) (content i) kept
   open_leads h (x ∷ xs) i (read, after, kept, says, goes, rest) =
       leads_then (content h) (content read) (content i) (kept_leads (content h) (content read) kept)
@@ -50,7 +53,8 @@ module _ {H : Type 0} (content : H → Content) where
   open_onward h (x ∷ xs) i world (read, after, kept, says, goes, rest) own honest =
       let later = (open_leads after xs i rest).honest honest in
       let before = says.leads.honest later in
-      further (content read) (content after) x xs (content i) world (λ s. kept.world before s ∙ own (kept.serves before s))
+      further (content read) (content after) x xs (content i) world
+      (λ s. kept.world before s ∙ own (kept.serves before s))
       (says.leads.serves later) (says.answers later) (λ next is. open_onward after xs i next rest is honest)
 
   pub open_runs : (h : H) (xs : List Exchange) (i : H) → AreAnsweredWhileOpen content h xs i → (content i).honest

@@ -1,6 +1,6 @@
 -- What was served so far.
-use Rattle.std.proofs.Common.{◌≡◌, ◌∙◌, sym, ap, subst, refl, arith, inl, inr, ℕ, ◌+◌, List, [], ◌∷◌, ◌++◌}
-use Rattle.std.proofs.Common.{◌⊎◌, ◌≢◌, ◌==◌, append_assoc, get_or, length, ◌≤◌, true, false, Option, Some, None}
+use Rattle.std.proofs.Common.{◌≡◌, ◌∙◌, sym, ap, subst, refl, arith, inl, inr, ℕ, ◌+◌, List, [], ◌∷◌, ◌++◌, ◌⊎◌, ◌≢◌}
+use Rattle.std.proofs.Common.{◌==◌, append_assoc, get_or, length, ◌≤◌, true, false, Option, Some, None}
 use Rattle.std.specs.Prelude.{All, Bool}
 use Rattle.std.proofs.lemmas.Bool.{eqb-true, eqb-false}
 use Rattle.std.proofs.lemmas.List.{append-nil, map-append}
@@ -8,12 +8,12 @@ use Rattle.std.proofs.lemmas.List.Elements.{All-nil, All-push}
 use Rattle.http_server.specs.declared.log.Log.{Log}
 use Rattle.hall_http.specs.Peer.{Traffic}
 use Rattle.hall_http.specs.Coming.{Nexts, Said, since}
-use Rattle.hall_http.specs.Crowd.{Admits, AreHandled, AreKept, AreKeptAtTurns, AreOf, AreSomeKept, AreStill, AnswersNoMore, ComesTo, HasAt, IsAt, IsFor, Serves}
-use Rattle.hall_http.specs.Crowd.{AllLeave, AreAsSaid, HasLeft, IsFree, KeepsPlace, MayLose, Past, Receives}
-use Rattle.hall_http.specs.Crowd.{WasHandedOut, WasHere, WasNext, WasToGo, WasTurnedAway, number_past}
-use Rattle.hall_http.specs.Crowd.{AreAtTurns, at_first, at_other, at_turn}
-use Rattle.hall_http.specs.Crowd.{AreHeard, heard_first, heard_last, heard_other, heard_turn}
-use Rattle.hall_http.specs.Crowd.{HaveHeard, IsNoTurn, MayTurnAway, StandsThere, WasStillHere, WasTaken}
+use Rattle.hall_http.specs.Crowd.{Admits, AreHandled, AreKept, AreKeptAtTurns, AreOf, AreSomeKept, AreStill}
+use Rattle.hall_http.specs.Crowd.{AnswersNoMore, ComesTo, HasAt, IsAt, IsFor, Serves, AllLeave, AreAsSaid, HasLeft}
+use Rattle.hall_http.specs.Crowd.{IsFree, KeepsPlace, MayLose, Past, Receives, WasHandedOut, WasHere, WasNext, WasToGo}
+use Rattle.hall_http.specs.Crowd.{WasTurnedAway, number_past, AreAtTurns, at_first, at_other, at_turn, AreHeard}
+use Rattle.hall_http.specs.Crowd.{heard_first, heard_last, heard_other, heard_turn, HaveHeard, IsNoTurn, MayTurnAway}
+use Rattle.hall_http.specs.Crowd.{StandsThere, WasStillHere, WasTaken}
 use Rattle.hall_http.specs.Steps.{StandsRightly}
 use Rattle.hall_http.specs.Turns.{Turn, Service, exchanges_of, goes_on}
 use Rattle.hall_http.specs.declared.client.Client.{Client}
@@ -418,7 +418,8 @@ module _ {P : Type 0} (traffic : P → Traffic) where
         → AreAsSaid traffic (since old then) u
     said_still keeps still gone = rw more (still_said (since old now) s u said one keeps still gone)
 
-    pub said_turn : (place : ℕ) → one ≡ next.Turn place → AreStill traffic s u → MayLose traffic departure.Over place s u
+    pub said_turn : (place : ℕ) → one ≡ next.Turn place → AreStill traffic s u
+        → MayLose traffic departure.Over place s u
         → AreAsSaid traffic (since old then) u
     said_turn place is still lost = rw (more, is) (turn_said (since old now) s u said place still lost)
 
@@ -463,10 +464,12 @@ module _ {H C : Type 0} (service : Service H C) where
       record {
         turns = handled.turns ++ later.turns;
         session = rw all
-            (resting_then service.rests service.answers (exchanges_of handled.turns) (exchanges_of later.turns) before.0 at.0 after.0
+            (resting_then service.rests service.answers (exchanges_of handled.turns) (exchanges_of later.turns) before.0
+            at.0 after.0
             handled.session later.session);
         moments = rw all
-            (moments_then service.now_gives (exchanges_of handled.turns) (exchanges_of later.turns) before.1 at.1 after.1
+            (moments_then service.now_gives (exchanges_of handled.turns) (exchanges_of later.turns) before.1 at.1
+            after.1
             handled.moments later.moments);
         holds = later.holds;
       }

@@ -1,6 +1,6 @@
 -- What the loop of a replay keeps, and how each of its ends follows.
-use Rattle.std.proofs.Common.{◌≡◌, ◌∙◌, sym, ap, subst, refl, arith, ℕ, zero, suc, ◌+◌, ◌<◌, ◌≤◌, inl, inr, List}
-use Rattle.std.proofs.Common.{[], ◌∷◌, ◌++◌, length, take, drop, Option, Some, append_assoc, length-append, length-drop}
+use Rattle.std.proofs.Common.{◌≡◌, ◌∙◌, sym, ap, subst, refl, arith, ℕ, zero, suc, ◌+◌, ◌<◌, ◌≤◌, inl, inr, List, []}
+use Rattle.std.proofs.Common.{◌∷◌, ◌++◌, length, take, drop, Option, Some, append_assoc, length-append, length-drop}
 use Rattle.std.specs.Prelude.{Result, Ok, Err, false, All, MatchResult}
 use Rattle.std.proofs.lemmas.List.{append-nil, take-append-drop, map-append}
 use Rattle.std.proofs.lemmas.List.Concat.{flat_map-append}
@@ -15,8 +15,7 @@ use Rattle.hall_http.specs.declared.fault.ReplayFault.TheVariants as fault
 use Rattle.hall_http.specs.Device.{WritesPart, NoneFailed, ReadFailed, WriteFailed}
 use Rattle.hall_http.specs.Reading.{at_first, after_read, after_answer}
 use Rattle.hall_http.specs.Records.{Record, IsRecord, record_bytes, header_of, NeverHasRecord, IsCut}
-use Rattle.hall_http.specs.Records.{IsUnfinishedRecord}
-use Rattle.hall_http.specs.Records.{bytes_between}
+use Rattle.hall_http.specs.Records.{IsUnfinishedRecord, bytes_between}
 use Rattle.hall_http.specs.Serving.{AreAnswered, IsAnsweredOver}
 use Rattle.hall_http.specs.Replay.{AnsweredRecord, exchange_of, exchanges_of_records, records_of, reply_bytes_of}
 use Rattle.hall_http.specs.Replay.{IsReplayed, ReplayEnded, HaveReadRecords}
@@ -25,12 +24,14 @@ use Rattle.hall_http.specs.Inbox.{ReadsMore}
 use Rattle.hall_http.proofs.Histories.{not_nil}
 use Rattle.hall_http.proofs.Runs.{session_leads, session_runs, session_stops}
 
-records_more : (xs : List AnsweredRecord) (x : AnsweredRecord) → records_of (xs ++ x ∷ []) ≡ records_of xs ++ record_bytes x.asked
+records_more : (xs : List AnsweredRecord) (x : AnsweredRecord) → records_of (xs ++ x ∷ []) ≡ records_of xs
+    ++ record_bytes x.asked
 records_more xs x =
     flat_map-append (λ x. record_bytes x.asked) xs (x ∷ [])
     ∙ ap (λ s. records_of xs ++ s) (append-nil (record_bytes x.asked))
 
-replies_more : (xs : List AnsweredRecord) (x : AnsweredRecord) → reply_bytes_of (xs ++ x ∷ []) ≡ reply_bytes_of xs ++ x.reply
+replies_more : (xs : List AnsweredRecord) (x : AnsweredRecord) → reply_bytes_of (xs ++ x ∷ []) ≡ reply_bytes_of xs
+    ++ x.reply
 replies_more xs x = flat_map-append (λ x. x.reply) xs (x ∷ []) ∙ ap (λ s. reply_bytes_of xs ++ s) (append-nil x.reply)
 
 exchanges_more : (xs : List AnsweredRecord) (x : AnsweredRecord)
@@ -119,7 +120,8 @@ module _ {H : Type 0} (content : H → Content) where
       longer : AreAnswered content old (exchanges_of_records all) next
       longer =
           rw (exchanges_more kept.done x)
-          (session_more (IsAnsweredOver content) old (exchanges_of_records kept.done) new (exchange_of x) next kept.session
+          (session_more (IsAnsweredOver content) old (exchanges_of_records kept.done) new (exchange_of x) next
+          kept.session
           (subst (λ s. IsAnsweredOver content new (Some r.moment) s text next) (sym cut.request) says))
 
       whole_all : All (λ x. IsRecord x.asked) all
@@ -221,7 +223,8 @@ module _ {H : Type 0} (content : H → Content) where
           (kept.replied, steady, inl ((λ e. never_nil (subst NeverHasRecord e never)), inr (never, refl)))
 
       -- after one read more
-      module _ (unfinished : IsUnfinishedRecord inbox) (seldom : reads < 1000000000) (then : Option (List ℕ)) (later : ℕ)
+      module _ (unfinished : IsUnfinishedRecord inbox) (seldom : reads < 1000000000) (then : Option (List ℕ))
+          (later : ℕ)
           (rise : Rises asks later) where
         -- it was refused
         pub unread_device : Consumes after then [] → ReadFailed failed fails broke breaks
@@ -249,7 +252,8 @@ module _ {H : Type 0} (content : H → Content) where
 
   -- nothing was read for want of memory
   pub unbegun : {U : Type 0} (stream wrote : Option (List ℕ)) (store : H) (failed broke asked : ℕ)
-      → IsSettled (content store) → IsReplayed {U = U} content stream stream wrote wrote store store failed failed broke broke asked asked
+      → IsSettled (content store) → IsReplayed {U = U} content stream stream wrote wrote store store failed failed broke
+      broke asked asked
       (Err fault.Memory)
   unbegun stream wrote store failed broke asked settled = record {
     records = [];

@@ -1,5 +1,6 @@
 -- What the bytes on some connections tell to one key.
-use Rattle.std.proofs.Common.{◌≡◌, ◌∙◌, sym, ap, refl, subst, inl, inr, List, ℕ, [], ◌∷◌, Bool, true, false, cond, not, if◌then◌else◌, map, Some}
+use Rattle.std.proofs.Common.{◌≡◌, ◌∙◌, sym, ap, refl, subst, inl, inr, List, ℕ, [], ◌∷◌, Bool, true, false, cond, not}
+use Rattle.std.proofs.Common.{if◌then◌else◌, map, Some}
 use Rattle.std.specs.Prelude.{All, ◌⊎◌, IsTrue, filter, Ok}
 use Rattle.std.specs.FinMap.{get}
 use Rattle.std.proofs.lemmas.List.Elements.{All-head, All-tail, All-nil, All-cons}
@@ -14,12 +15,13 @@ use Rattle.hall_desk.proofs.StepsSane.{run_sane}
 use Rattle.hall_http.specs.Connection.{Exchange}
 use Rattle.hall_http.specs.Request.{RequestOf, AsksRequest}
 use Rattle.hall_http.specs.Serving.{AreRequestsMade}
-use Rattle.hall_http.specs.Told.{AsksFor, AsksForOther, AreRepliesTold, AllServed, AreWithout}
-use Rattle.hall_http.specs.Told.{ComesExchanged, AreExchanged}
+use Rattle.hall_http.specs.Told.{AsksFor, AsksForOther, AreRepliesTold, AllServed, AreWithout, ComesExchanged}
+use Rattle.hall_http.specs.Told.{AreExchanged}
 use Rattle.hall_http.specs.Turns.{Turn, exchanges_of}
-use Rattle.hall_http.specs.Wire.{shows, replies_on, WireHidesOthers, WireHidesAnswers, ShowNoOther, AreWithoutOn, AreExchangedOn, chosen}
-use Rattle.hall_http.specs.Wire.{WireHidesOthersOn, WireHidesAnswersOn}
-use Rattle.hall_http.proofs.Told.{bytes_hide_others, bytes_hide_answers, served_first, served_later, not_made_asks, not_both, not_others, asks_again}
+use Rattle.hall_http.specs.Wire.{shows, replies_on, WireHidesOthers, WireHidesAnswers, ShowNoOther, AreWithoutOn}
+use Rattle.hall_http.specs.Wire.{AreExchangedOn, chosen, WireHidesOthersOn, WireHidesAnswersOn}
+use Rattle.hall_http.proofs.Told.{bytes_hide_others, bytes_hide_answers, served_first, served_later, not_made_asks}
+use Rattle.hall_http.proofs.Told.{not_both, not_others, asks_again}
 
 -- ---- connections that alone show the key
 pub wire_hides_others : WireHidesOthers
@@ -29,10 +31,12 @@ wire_hides_others world last end e turns others mine yours whole left sane known
     (replies_on yours others) whole left sane known alone without served also granted given alike shows_it shown
 
 pub wire_hides_answers : WireHidesAnswers
-wire_hides_answers world last end r a b round e turns others mine yours whole turned sane sealed first second known alone
+wire_hides_answers world last end r a b round e turns others mine yours whole turned sane sealed first second known
+    alone
     exchanged served also alike shows_it shown =
     bytes_hide_answers world last end r a b round e (exchanges_of turns) (exchanges_of others) (replies_on mine turns)
-    (replies_on yours others) whole turned sane sealed first second known alone exchanged served also alike shows_it shown
+    (replies_on yours others) whole turned sane sealed first second known alone exchanged served also alike shows_it
+    shown
 
 -- ---- connections that show no other key
 module _ (test : Request → Bool) where
@@ -68,7 +72,8 @@ module _ (test : Request → Bool) where
     told_one true texts same = ap (λ (all : List (List ℕ)). turn.1.reply ∷ all) same
     told_one false texts same = same
 
-    told_none : (b : Bool) → (b ≡ true → ⊥) → replies_of (cond b (turn ∷ others_here) others_here) ≡ replies_of others_here
+    told_none : (b : Bool) → (b ≡ true → ⊥) → replies_of (cond b (turn ∷ others_here) others_here) ≡ replies_of
+        others_here
     told_none true never = absurd (never refl)
     told_none false never = refl
 
@@ -100,7 +105,8 @@ module _ (test : Request → Bool) where
     ] refl
 
   told_on : (mine : ℕ → Bool) (turns : List Turn) (requests : List (ℕ × Request)) (replies : List Reply)
-      → AllServed (exchanges_of turns) → AreRequestsMade (exchanges_of turns) requests replies → All (NoneOther mine) turns
+      → AllServed (exchanges_of turns) → AreRequestsMade (exchanges_of turns) requests replies
+      → All (NoneOther mine) turns
       → ToldOn mine turns
   told_on mine [] requests replies served made none = record {
     texts = [];
@@ -162,37 +168,42 @@ module _ (last : World) (e : Person) (mine yours : ℕ → Bool) where
       (asks_again (λ request. not (shows e.key request)) turn.1 other.1 again.0 fails))
       (none_without turns rest left (All-tail (NoneOther (shows e.key) mine) turn turns shown)))
 
-  module _ (settled : IsWorld last) (known : get last.people e.name ≡ Some e) (alone : IsTrue (is_entrant_alone e)) where
-    places_without : (turns others : List Turn) → AreWithoutOn last e mine yours turns others → (p q : List Bool)
-        → ArePlaces (shows e.key) mine turns p → ArePlaces (shows e.key) yours others q → p ≡ q
-    places_without [] others none p q first second =
-        first ∙ sym (subst (λ (all : List Turn). ArePlaces (shows e.key) yours all q) none second)
-    places_without (turn ∷ turns) others (inl (struck, left)) p q (inl (inl asks, rest, is, more)) second =
-        absurd (not_others last e settled known alone turn.1 asks struck)
-    places_without (turn ∷ turns) others (inl (struck, left)) p q (inl (inr never, rest, is, more)) second =
-        absurd (never (struck.0, struck.1))
-    places_without (turn ∷ turns) others (inl (struck, left)) p q (inr (fails, more)) second =
-        places_without turns others left p q more second
-    places_without (turn ∷ turns) others (inr (stays, other, rest, are, again, same, left)) p q first second =
-        same_place (shows e.key) mine yours turn other turns rest
-        (asks_again (shows e.key) other.1 turn.1 (sym again.0))
-        (asks_again (λ request. not (shows e.key request)) other.1 turn.1 (sym again.0))
-        (λ asks. (asks.0, subst (λ (bytes : List ℕ). RequestOf bytes (Ok asks.0)) again.0 asks.1)) same
-        (places_without turns rest left) p q first
-        (subst (λ (all : List Turn). ArePlaces (shows e.key) yours all q) are second)
+  module _ (settled : IsWorld last) (known : get last.people e.name ≡ Some e) (alone : IsTrue (is_entrant_alone e))
+    where
+      places_without : (turns others : List Turn) → AreWithoutOn last e mine yours turns others → (p q : List Bool)
+          → ArePlaces (shows e.key) mine turns p → ArePlaces (shows e.key) yours others q → p ≡ q
+      places_without [] others none p q first second =
+          first ∙ sym (subst (λ (all : List Turn). ArePlaces (shows e.key) yours all q) none second)
+      places_without (turn ∷ turns) others (inl (struck, left)) p q (inl (inl asks, rest, is, more)) second =
+          absurd (not_others last e settled known alone turn.1 asks struck)
+      places_without (turn ∷ turns) others (inl (struck, left)) p q (inl (inr never, rest, is, more)) second =
+          absurd (never (struck.0, struck.1))
+      places_without (turn ∷ turns) others (inl (struck, left)) p q (inr (fails, more)) second =
+          places_without turns others left p q more second
+      places_without (turn ∷ turns) others (inr (stays, other, rest, are, again, same, left)) p q first second =
+          same_place (shows e.key) mine yours turn other turns rest
+          (asks_again (shows e.key) other.1 turn.1 (sym again.0))
+          (asks_again (λ request. not (shows e.key request)) other.1 turn.1 (sym again.0))
+          (λ asks. (asks.0, subst (λ (bytes : List ℕ). RequestOf bytes (Ok asks.0)) again.0 asks.1)) same
+          (places_without turns rest left) p q first
+          (subst (λ (all : List Turn). ArePlaces (shows e.key) yours all q) are second)
 
 pub wire_hides_others_on : WireHidesOthersOn
-wire_hides_others_on world last end e turns others mine yours whole left sane known alone again served also granted given
+wire_hides_others_on world last end e turns others mine yours whole left sane known alone again served also granted
+    given
     alike shown =
     let first = told_on (shows e.key) mine turns whole.requests whole.replies served whole.made shown in
     let second = told_on (shows e.key) yours others left.requests left.replies also left.made
     (none_without last e mine yours turns others again shown) in
     let settled = run_sane world whole.requests whole.replies last whole.timed whole.run sane in
     let texts : first.texts ≡ second.texts =
-    bytes_hide_others world last end e (exchanges_of turns) (exchanges_of others) first.texts second.texts whole left sane
-    known alone (without_on last e mine yours turns others again) served also granted given alike first.told second.told in
+    bytes_hide_others world last end e (exchanges_of turns) (exchanges_of others) first.texts second.texts whole left
+    sane
+    known alone (without_on last e mine yours turns others again) served also granted given alike first.told
+    second.told in
     let places : first.places ≡ second.places =
-    places_without last e mine yours settled.typed known alone turns others again first.places second.places first.placed
+    places_without last e mine yours settled.typed known alone turns others again first.places second.places
+    first.placed
     second.placed in
     first.here ∙ (λ i. chosen (places i) (texts i)) ∙ sym second.here
 
@@ -240,17 +251,20 @@ module _ (r a b : List ℕ) (mine yours : ℕ → Bool) where
       first ∙ sym (subst (λ (all : List Turn). ArePlaces (shows key) yours all q) none second)
   places_exchanged key (turn ∷ turns) others (other, rest, are, comes, same, left) p q first second =
       same_place (shows key) mine yours turn other turns rest (turns_to key turn other comes (λ is. is))
-      (turns_to key turn other comes not) (back_to key turn other comes) same (places_exchanged key turns rest left) p q first
+      (turns_to key turn other comes not) (back_to key turn other comes) same (places_exchanged key turns rest left) p q
+      first
       (subst (λ (all : List Turn). ArePlaces (shows key) yours all q) are second)
 
 pub wire_hides_answers_on : WireHidesAnswersOn
-wire_hides_answers_on world last end r a b round e turns others mine yours whole turned sane sealed is_a is_b known alone
+wire_hides_answers_on world last end r a b round e turns others mine yours whole turned sane sealed is_a is_b known
+    alone
     exchange served also alike shown =
     let first = told_on (shows e.key) mine turns whole.requests whole.replies served whole.made shown in
     let second = told_on (shows e.key) yours others turned.requests turned.replies also turned.made
     (none_exchanged r a b mine yours e.key turns others exchange shown) in
     let places : first.places ≡ second.places =
-    places_exchanged r a b mine yours e.key turns others exchange first.places second.places first.placed second.placed in
+    places_exchanged r a b mine yours e.key turns others exchange first.places second.places first.placed
+    second.placed in
     record {
       texts = first.texts;
       words = second.texts;
@@ -258,6 +272,7 @@ wire_hides_answers_on world last end r a b round e turns others mine yours whole
       here = first.here;
       there = second.here ∙ ap (λ (all : List Bool). chosen all second.texts) (sym places);
       exchanged = bytes_hide_answers world last end r a b round e (exchanges_of turns) (exchanges_of others) first.texts
-          second.texts whole turned sane sealed is_a is_b known alone (exchanged_on r a b mine yours turns others exchange)
+          second.texts whole turned sane sealed is_a is_b known alone
+          (exchanged_on r a b mine yours turns others exchange)
           served also alike first.told second.told;
     }

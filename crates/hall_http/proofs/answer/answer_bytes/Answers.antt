@@ -16,11 +16,13 @@ returns-in-Some-clause-untouched g c = c.answer_raw_request.ensures.untouched c.
 
 pub returns-in-Some-clause-unique : goal.returns-in-Some-clause-unique
 returns-in-Some-clause-unique g c = λ h s sane.
-    unique_solutions (g.S.ReadStore.content (kept_by c.answer_raw_request.new.desk)).world (c.answer_raw_request.ensures.sane h s sane)
+    unique_solutions (g.S.ReadStore.content (kept_by c.answer_raw_request.new.desk)).world
+    (c.answer_raw_request.ensures.sane h s sane)
 
 pub returns-in-Some-clause-right : goal.returns-in-Some-clause-right
 returns-in-Some-clause-right g c = λ h s sane.
-    right_answers (g.S.ReadStore.content (kept_by c.answer_raw_request.new.desk)).world (c.answer_raw_request.ensures.sane h s sane)
+    right_answers (g.S.ReadStore.content (kept_by c.answer_raw_request.new.desk)).world
+    (c.answer_raw_request.ensures.sane h s sane)
 
 pub returns-in-None-clause-answers : goal.returns-in-None-clause-answers
 returns-in-None-clause-answers g c = λ h.
@@ -28,10 +30,12 @@ returns-in-None-clause-answers g c = λ h.
     (inl (c.in-None.ensures, refl)) c.answer_fault.ensures.told
 
 pub returns-in-None-clause-unique : goal.returns-in-None-clause-unique
-returns-in-None-clause-unique g c = λ h s sane. unique_solutions (g.S.ReadStore.content (kept_by c.args.desk.now)).world sane
+returns-in-None-clause-unique g c = λ h s sane. unique_solutions (g.S.ReadStore.content (kept_by c.args.desk.now)).world
+    sane
 
 pub returns-in-None-clause-right : goal.returns-in-None-clause-right
-returns-in-None-clause-right g c = λ h s sane. right_answers (g.S.ReadStore.content (kept_by c.args.desk.now)).world sane
+returns-in-None-clause-right g c = λ h s sane. right_answers (g.S.ReadStore.content (kept_by c.args.desk.now)).world
+    sane
 
 pub returns-in-Some-clause-stops : goal.returns-in-Some-clause-stops
 returns-in-Some-clause-stops g c = c.answer_raw_request.ensures.stops c.args.bytes.now c.in-Some.ensures

@@ -16,7 +16,8 @@ returns-in-Ok-clause-answers g c =
     let t = c.args.moment in
     let request = c.in-Ok.request in
     let text : List ℕ = answer_text c.answer_request.result in
-    λ bytes lent h. over_turn (λ before after. AnswersRequest before t request text after) (λ before after. Answers before t bytes text after)
+    λ bytes lent h. over_turn (λ before after. AnswersRequest before t request text after)
+    (λ before after. Answers before t bytes text after)
     (g.S.ReadStore.content (kept_by c.args.desk.now)) (g.S.ReadStore.content (kept_by c.answer_request.new.desk))
     (λ before after says. answers_bytes before t bytes request text after
     (asked_of bytes c.args.raw.now (Ok request) lent c.in-Ok.ensures) c.answer_request.ensures.timed says)
@@ -29,18 +30,21 @@ returns-in-Ok-clause-untouched g c = λ bytes lent nothing.
 
 pub returns-in-Ok-clause-quiet : goal.returns-in-Ok-clause-quiet
 returns-in-Ok-clause-quiet g c = λ bytes lent.
-    quiet_bytes (g.S.ReadStore.content (kept_by c.args.desk.now)) (g.S.ReadStore.content (kept_by c.answer_request.new.desk))
+    quiet_bytes (g.S.ReadStore.content (kept_by c.args.desk.now))
+    (g.S.ReadStore.content (kept_by c.answer_request.new.desk))
     c.args.moment bytes c.in-Ok.request (asked_of bytes c.args.raw.now (Ok c.in-Ok.request) lent c.in-Ok.ensures)
     c.answer_request.ensures.quiet
 
 pub returns-in-Ok-clause-sane : goal.returns-in-Ok-clause-sane
 returns-in-Ok-clause-sane g c = λ h s sane.
-    request_sane (g.S.ReadStore.content (kept_by c.args.desk.now)) (g.S.ReadStore.content (kept_by c.answer_request.new.desk))
+    request_sane (g.S.ReadStore.content (kept_by c.args.desk.now))
+    (g.S.ReadStore.content (kept_by c.answer_request.new.desk))
     c.args.moment c.in-Ok.request _ c.answer_request.ensures.timed (c.answer_request.ensures.answers h) s sane
 
 pub returns-in-Err-Form-clause-answers : goal.returns-in-Err-Form-clause-answers
 returns-in-Err-Form-clause-answers g c =
-    let says : AsksFor c.args.raw.now (Err c.in-Err-Form.fault) = rw c.in-Err-Form.field-0-is at c.in-Err-Form.ensures in
+    let says : AsksFor c.args.raw.now (Err c.in-Err-Form.fault) = rw c.in-Err-Form.field-0-is at
+    c.in-Err-Form.ensures in
     let written : AnswersFault c.in-Err-Form.fault (answer_text c.answer_fault.result) =
     rw c.in-Err-Form.field-0-is at c.answer_fault.ensures.told in
     λ bytes lent h.
@@ -55,7 +59,8 @@ returns-in-Ok-clause-stops g c =
     let t = c.args.moment in
     let request = c.in-Ok.request in
     let text : List ℕ = answer_text c.answer_request.result in
-    λ bytes lent. leaves_turn (λ before left. (made : List ℕ) × ((made ≡ text) ⊎ BytesOf NotServed text) × IsStepReply before t request made left)
+    λ bytes lent. leaves_turn (λ before left. (made : List ℕ) × ((made ≡ text) ⊎ BytesOf NotServed text)
+    × IsStepReply before t request made left)
     (λ before left. (made : List ℕ) × ((made ≡ text) ⊎ BytesOf NotServed text) × Answers before t bytes made left)
     (g.S.ReadStore.content (kept_by c.args.desk.now)) (g.S.ReadStore.content (kept_by c.answer_request.new.desk))
     (λ before left it. (

@@ -27,7 +27,8 @@ returns-in-Ok-clause-answers g c =
     let request = c.args.request.now in
     let text = string_bytes c.in-Ok.text in
     rw c.answer_of.ensures.text
-    (λ h. over_turn (λ before after. IsStepReply before t request text after) (λ before after. AnswersRequest before t request text after)
+    (λ h. over_turn (λ before after. IsStepReply before t request text after)
+    (λ before after. AnswersRequest before t request text after)
     (g.S.ReadStore.content (kept_by c.args.desk.now)) (g.S.ReadStore.content (kept_by c.step_bytes.new.desk))
     (λ before after step. inl step) (c.in-Ok.ensures.ok h))
 
@@ -76,8 +77,10 @@ returns-in-Ok-clause-goes_on g c = λ stays told.
 pub returns-in-Ok-clause-stops : goal.returns-in-Ok-clause-stops
 returns-in-Ok-clause-stops g c =
     let text = string_bytes c.in-Ok.text in
-    rw c.answer_of.ensures.text (leaves_turn (λ before left. (made : List ℕ) × (made ≡ text) × IsStepReply before c.args.moment c.args.request.now made left)
-    (λ before left. (made : List ℕ) × ((made ≡ text) ⊎ BytesOf NotServed text) × IsStepReply before c.args.moment c.args.request.now made left)
+    rw c.answer_of.ensures.text (leaves_turn (λ before left. (made : List ℕ) × (made ≡ text)
+    × IsStepReply before c.args.moment c.args.request.now made left)
+    (λ before left. (made : List ℕ) × ((made ≡ text) ⊎ BytesOf NotServed text)
+    × IsStepReply before c.args.moment c.args.request.now made left)
     (g.S.ReadStore.content (kept_by c.args.desk.now)) (g.S.ReadStore.content (kept_by c.step_bytes.new.desk))
     (λ before left it. (it.0, inl it.1, it.2)) c.in-Ok.ensures.stops)
 

@@ -30,16 +30,19 @@ returns-clause-ok g c =
     let mid = g.S.ReadStore.content (kept_by c.plan.new.self) in
     let new = g.S.ReadStore.content (kept_by c.commit.new.self) in
     let written = subst (λ (reply : Reply). BytesOf reply text) c.reply.ensures c.in_ok-text.ensures in
-    λ h. over_turn (λ before after. Step before t request given after) (λ before after. IsStepReply before t request text after) old new
+    λ h. over_turn (λ before after. Step before t request given after)
+    (λ before after. IsStepReply before t request text after) old new
     (λ before after step. (given, step, written))
     (planned_steps t request StoreFault old mid new plan given planned.kept planned.planned made.leads refl
-    (committed StoreFault g.S.ReadStore.content (kept_by c.plan.new.self) (kept_by c.commit.new.self) (planned_change plan) c.in_ok-_reply._reply (λ none. (made.nothing none).1) made.made) h)
+    (committed StoreFault g.S.ReadStore.content (kept_by c.plan.new.self) (kept_by c.commit.new.self)
+    (planned_change plan) c.in_ok-_reply._reply (λ none. (made.nothing none).1) made.made) h)
 
 pub returns-clause-leads : goal.returns-clause-leads
 returns-clause-leads g c =
     let old = g.S.ReadStore.content (kept_by c.args.desk.now) in
     let mid = g.S.ReadStore.content (kept_by c.plan.new.self) in
-    leads_then old mid (g.S.ReadStore.content (kept_by c.commit.new.self)) (kept_leads old mid c.in_ok-plan.ensures.kept) c.in_ok-_reply.ensures.leads
+    leads_then old mid (g.S.ReadStore.content (kept_by c.commit.new.self))
+    (kept_leads old mid c.in_ok-plan.ensures.kept) c.in_ok-_reply.ensures.leads
 
 pub returns-clause-once : goal.returns-clause-once
 returns-clause-once g c =
@@ -68,7 +71,8 @@ on_err (Err e) holds = holds
 
 -- a change that was refused left the world
 refused : (R E : Type 0) (change : Change) (old new : Content) (fault : E) → (change ≡ Nothing → ⊥)
-    → (change ≡ Nothing) ⊎ MakesInWorld {R = R} change old new (Err fault) → new.honest → new.serves → new.world ≡ old.world
+    → (change ≡ Nothing) ⊎ MakesInWorld {R = R} change old new (Err fault) → new.honest → new.serves
+    → new.world ≡ old.world
 refused R E change old new fault never (inl none) = absurd (never none)
 refused R E change old new fault never (inr made) = made
 
@@ -79,7 +83,8 @@ returns-in_err-_reply-clause-err g c =
     let kept = c.in_ok-plan.ensures.kept in
     let made = c.in_err-_reply.ensures in
     on_err c.from_residual-in_err-_reply.result (λ h s.
-    refused Reply StoreFault (planned_change c.in_ok-plan.plan) mid new c.in_err-_reply.field-0.0 (λ none. let ok = (made.nothing none).0 in cc)
+    refused Reply StoreFault (planned_change c.in_ok-plan.plan) mid new c.in_err-_reply.field-0.0
+    (λ none. let ok = (made.nothing none).0 in cc)
     made.made h s ∙ kept.world (made.leads.honest h) (made.leads.serves h s))
 
 pub returns-clause-stops : goal.returns-clause-stops
@@ -93,10 +98,12 @@ returns-clause-stops g c =
     let new = g.S.ReadStore.content (kept_by c.commit.new.self) in
     let written = subst (λ (reply : Reply). BytesOf reply text) c.reply.ensures c.in_ok-text.ensures in
     leaves_turn (λ before left. Step before c.args.moment c.args.request.now (planned_reply plan) left)
-    (λ before left. (made : List ℕ) × (made ≡ string_bytes c.in_ok-text.text) × IsStepReply before c.args.moment c.args.request.now made left) old new
+    (λ before left. (made : List ℕ) × (made ≡ string_bytes c.in_ok-text.text)
+    × IsStepReply before c.args.moment c.args.request.now made left) old new
     (λ before left step. (text, refl, (planned_reply plan, step, written)))
     (planned_leaves StoreFault c.args.moment c.args.request.now old mid new plan planned.kept planned.planned made.leads
-    (λ none. same_stops g.S.ReadStore.content (kept_by c.plan.new.self) (kept_by c.commit.new.self) (made.nothing none).1) made.stops)
+    (λ none. same_stops g.S.ReadStore.content (kept_by c.plan.new.self) (kept_by c.commit.new.self)
+    (made.nothing none).1) made.stops)
 
 pub returns-in_err-_reply-clause-stops : goal.returns-in_err-_reply-clause-stops
 returns-in_err-_reply-clause-stops g c =
@@ -109,10 +116,17 @@ returns-in_err-_reply-clause-stops g c =
     let new = g.S.ReadStore.content (kept_by c.commit.new.self) in
     let written = subst (λ (reply : Reply). BytesOf reply text) c.reply.ensures c.in_ok-text.ensures in
     leaves_turn (λ before left. Step before c.args.moment c.args.request.now (planned_reply plan) left)
-    (λ before left. (made : List ℕ) × IfOk c.from_residual-in_err-_reply.result (λ text. made ≡ string_bytes text) × IsStepReply before c.args.moment c.args.request.now made left) old new
-    (λ before left step. (text, (if_err c.from_residual-in_err-_reply.result _ _ c.from_residual-in_err-_reply.ensures.1), (planned_reply plan, step, written)))
+    (λ before left. (made : List ℕ) × IfOk c.from_residual-in_err-_reply.result (λ text. made ≡ string_bytes text)
+    × IsStepReply before c.args.moment c.args.request.now made left) old new
+    (λ before left step. (
+      text,
+      (if_err c.from_residual-in_err-_reply.result _ _
+          c.from_residual-in_err-_reply.ensures.1),
+      (planned_reply plan, step, written),
+    ))
     (planned_leaves StoreFault c.args.moment c.args.request.now old mid new plan planned.kept planned.planned made.leads
-    (λ none. same_stops g.S.ReadStore.content (kept_by c.plan.new.self) (kept_by c.commit.new.self) (made.nothing none).1) made.stops)
+    (λ none. same_stops g.S.ReadStore.content (kept_by c.plan.new.self) (kept_by c.commit.new.self)
+    (made.nothing none).1) made.stops)
 
 pub returns-in_err-plan-clause-fault : goal.returns-in_err-plan-clause-fault
 returns-in_err-plan-clause-fault g c =

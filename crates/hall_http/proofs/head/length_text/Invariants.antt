@@ -5,4 +5,5 @@ use Rattle.std.specs.Str.Parse.{digits_value, AllDigits}
 use Rattle.hall_http.proofs.head.length_text.Given as goal
 
 abbrev pub invariant-loop-b : goal.invariant-loop-b
-invariant-loop-b l = (l.value ≡ digits_value 10 (take l.b-index l.text)) × AllDigits 10 (take l.b-index l.text) × (list_all is_ascii_digit (take l.b-index l.text) ≡ true)
+invariant-loop-b l = (l.value ≡ digits_value 10 (take l.b-index l.text)) × AllDigits 10 (take l.b-index l.text)
+    × (list_all is_ascii_digit (take l.b-index l.text) ≡ true)

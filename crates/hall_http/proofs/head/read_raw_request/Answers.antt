@@ -13,7 +13,8 @@ lent_all bytes n raw all lent = subst (λ (front : List ℕ). IsLentBy front raw
 pub returns-then-size-bytes : goal.returns-then-size-bytes
 returns-then-size-bytes c = λ whole.
     c.if-size-bytes.true
-    (whole_front c.args.bytes.now c.in-Whole.size c.in-Whole.ensures.0 (lent_whole _ c.in-Whole.request c.in-Whole.ensures.1) whole)
+    (whole_front c.args.bytes.now c.in-Whole.size c.in-Whole.ensures.0
+    (lent_whole _ c.in-Whole.request c.in-Whole.ensures.1) whole)
 
 pub returns-in-More : goal.returns-in-More
 returns-in-More c = λ whole. c.in-More.ensures.0.none c.args.bytes.now [] (sym (append-nil c.args.bytes.now)) whole

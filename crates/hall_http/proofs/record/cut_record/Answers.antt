@@ -7,8 +7,11 @@ returns-then-bytes-gt-HEADER_LIMIT c =
     never_long c.args.bytes.now (sym c.place_of.ensures ∙ c.in_default.is) c.if-bytes-gt-HEADER_LIMIT.true
 
 pub returns-in_default : goal.returns-in_default
-returns-in_default c =
-    (none_yet c.args.bytes.now (sym c.place_of.ensures ∙ c.in_default.is), omega (arith, c.if-bytes-gt-HEADER_LIMIT.false))
+returns-in_default c = (
+  none_yet c.args.bytes.now (sym c.place_of.ensures ∙ c.in_default.is),
+  omega
+      (arith, c.if-bytes-gt-HEADER_LIMIT.false),
+)
 
 pub returns-in_default-header_of : goal.returns-in_default-header_of
 returns-in_default-header_of c =

@@ -11,8 +11,10 @@ returns-in_err-insert-clause-err c =
     rw (p.1, p.2) is
 
 pub loop-pattern-preserved : goal.loop-pattern-preserved
-loop-pattern-preserved c = kept_more _ _ _ _ _ _ c.loop-pattern-test.true c.in_ok-insert.ensures c.loop-pattern.invariant
+loop-pattern-preserved c = kept_more _ _ _ _ _ _ c.loop-pattern-test.true c.in_ok-insert.ensures
+    c.loop-pattern.invariant
 
 pub returns-clause-ok : goal.returns-clause-ok
 unfolding rows_from
-returns-clause-ok c = rw (at_drop_all (λ xs. rows_from c.loop-pattern.router (texts xs)) c.args.patterns.now c.loop-pattern.pattern-index c.loop-pattern-test.false) at c.loop-pattern.invariant.0
+returns-clause-ok c = rw (at_drop_all (λ xs. rows_from c.loop-pattern.router (texts xs)) c.args.patterns.now
+    c.loop-pattern.pattern-index c.loop-pattern-test.false) at c.loop-pattern.invariant.0

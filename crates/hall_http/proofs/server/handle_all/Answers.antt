@@ -7,9 +7,8 @@ use Rattle.hall_http.specs.declared.server.Next.TheVariants as next
 use Rattle.hall_http.specs.declared.server.ServeAllEnd.TheVariants as end
 use Rattle.hall_http.proofs.Comings.{done_start, done_step, done_turn, done_last, done_all, same_count, since_more}
 use Rattle.hall_http.proofs.SoFar.{grows_none, handled_start, handled_turn, handled_keeps, handled_admits, keeps_all}
-use Rattle.hall_http.proofs.SoFar.{hears_last, hears_turn, loses_grows, receives_grows, stands_there}
-use Rattle.hall_http.proofs.SoFar.{still_same, turn_said}
-use Rattle.hall_http.proofs.SoFar.{said_comes, said_gone, said_none, said_still, said_turn}
+use Rattle.hall_http.proofs.SoFar.{hears_last, hears_turn, loses_grows, receives_grows, stands_there, still_same}
+use Rattle.hall_http.proofs.SoFar.{turn_said, said_comes, said_gone, said_none, said_still, said_turn}
 use Rattle.hall_http.proofs.server.handle_all.Goals as goal
 use Rattle.hall_http.proofs.server.handle_all.Goals.{in-Newcomer, in-Turn+else-not-goes_on, in-Gone}
 
@@ -125,7 +124,8 @@ returns-in-Refused-clause-handled g c =
     let then = g.S.Sockets.said c.next.new.self in
     handled_keeps _ g.S.Peer.Peer.traffic g.H.Responder.may_wait old now _ _ _ c.loop-step.invariant.so_far then
     next.Refused
-    (since_more g.S.Peer.Peer.traffic old now _ c.loop-step.invariant.done next.Refused then c.in-Refused.ensures.nexts) _
+    (since_more g.S.Peer.Peer.traffic old now _ c.loop-step.invariant.done next.Refused then c.in-Refused.ensures.nexts)
+    _
     (grows_none g.S.Peer.Peer.traffic _) (c.in-Refused.ensures.count ∙ same_count _) c.in-Refused.ensures.heard tt
     (keeps_all g.S.Peer.Peer.traffic _)
 

@@ -9,13 +9,16 @@ use Rattle.hall_http.proofs.session.replay.Goals as goal
 
 pub returns-in_err-routes-clause-replayed : goal.returns-in_err-routes-clause-replayed
 returns-in_err-routes-clause-replayed g c =
-    let ends : c.from_residual.result ≡ Err fault.Memory = search rules in rw ends (unbegun g.S.ReadStore.content _ _ _ _ _ _ c.at_rest.ensures)
+    let ends : c.from_residual.result ≡ Err fault.Memory = search rules in rw ends
+    (unbegun g.S.ReadStore.content _ _ _ _ _ _ c.at_rest.ensures)
 
 pub returns-in_err-routes-clause-unique : goal.returns-in_err-routes-clause-unique
-returns-in_err-routes-clause-unique g c = λ h s sane. unique_solutions (g.S.ReadStore.content (kept_by c.args.desk.now)).world sane
+returns-in_err-routes-clause-unique g c = λ h s sane. unique_solutions
+    (g.S.ReadStore.content (kept_by c.args.desk.now)).world sane
 
 pub returns-in_err-routes-clause-right : goal.returns-in_err-routes-clause-right
-returns-in_err-routes-clause-right g c = λ h s sane. right_answers (g.S.ReadStore.content (kept_by c.args.desk.now)).world sane
+returns-in_err-routes-clause-right g c = λ h s sane. right_answers
+    (g.S.ReadStore.content (kept_by c.args.desk.now)).world sane
 
 pub returns-clause-sane : goal.returns-clause-sane
 returns-clause-sane g c =

@@ -21,7 +21,8 @@ loop-place-preserved g c =
     omega (arith, c.loop-place-test.true, c.len-place-end.ensures, c.loop-place.invariant.long) in
     let is = c.forget.ensures.free inside in
     record {
-      long = ap length is ∙ length-set c.loop-place.self.places.items c.loop-place.place None ∙ c.loop-place.invariant.long;
+      long = ap length is ∙ length-set c.loop-place.self.places.items c.loop-place.place None
+          ∙ c.loop-place.invariant.long;
       freed = freed_more _ _ _ inside is c.loop-place.invariant.freed;
       kept = keeps_then g.P.Peer.traffic _ _ _ c.loop-place.invariant.kept c.forget.ensures.kept;
       left = leave_more g.P.Peer.traffic c.args.self.now c.loop-place.self c.forget.new.self
@@ -30,4 +31,5 @@ loop-place-preserved g c =
 
 pub returns-clause-none : goal.returns-clause-none
 returns-clause-none g c =
-    all_freed _ _ (omega (arith, c.loop-place-test.false, c.len-place-end.ensures, c.loop-place.invariant.long)) c.loop-place.invariant.freed
+    all_freed _ _ (omega (arith, c.loop-place-test.false, c.len-place-end.ensures, c.loop-place.invariant.long))
+    c.loop-place.invariant.freed

@@ -10,7 +10,8 @@ finish_at-requires g c =
     λ k is. (
       _,
       c.requires.3.here c.args.place k
-          (read_at c.args.self.now.places.items c.args.place c.index_mut.result.now (Some k) inside c.index_mut.ensures.value is),
+          (read_at c.args.self.now.places.items c.args.place c.index_mut.result.now (Some k) inside
+          c.index_mut.ensures.value is),
     )
 
 pub returns-clause-kept : goal.returns-clause-kept

@@ -73,6 +73,7 @@ returns-clause-kept g c =
           (c.requires c.in-Some.client
           (read_at c.args.self.now.places.items c.args.place c.index_mut.result.now (Some c.in-Some.client) inside
           c.index_mut.ensures.value (sym c.take_at.ensures.taken ∙ c.in-Some.is)))
-          (ap (λ (o : Option (Client g.row.P.Denot)). slice_set c.args.self.now.places.items c.args.place o) c.take_at.ensures.free)
+          (ap (λ (o : Option (Client g.row.P.Denot)). slice_set c.args.self.now.places.items c.args.place o)
+          c.take_at.ensures.free)
           c.and-self.ensures,
     )

@@ -21,7 +21,8 @@ turn_at-requires g c =
     λ k is. (
       _,
       c.requires.3.here c.args.place k
-          (read_at c.args.self.now.places.items c.args.place c.index_mut.result.now (Some k) inside c.index_mut.ensures.value is),
+          (read_at c.args.self.now.places.items c.args.place c.index_mut.result.now (Some k) inside
+          c.index_mut.ensures.value is),
     )
 
 pub returns-clause-serves : goal.returns-clause-serves
@@ -46,7 +47,8 @@ returns-clause-stands g c =
     let inside : c.args.place < length c.args.self.now.places.items =
     omega (arith, c.if-place-len.false, c.len.ensures, c.args.self.now.places.ok.0) in
     λ k at.
-    c.turn_at.ensures.stands k (sym (is_there c.args.self.now.places.items c.args.place c.turn_at.new.place inside) ∙ at)
+    c.turn_at.ensures.stands k (sym (is_there c.args.self.now.places.items c.args.place c.turn_at.new.place inside)
+    ∙ at)
 
 pub returns-then-place-len-clause-none : goal.returns-then-place-len-clause-none
 returns-then-place-len-clause-none g c = λ free. refl

@@ -9,7 +9,9 @@ pub returns-in-Some-clause-answers : goal.returns-in-Some-clause-answers
 returns-in-Some-clause-answers g c = λ bytes lent.
     rw c.in-Some.is
     (answered_at (λ desk. g.S.ReadStore.content (kept_by desk)) _ _ bytes _ _ c.answer_raw_request-answer.ensures.leads
-    c.answer_raw_request-answer.ensures.once (c.answer_raw_request-answer.ensures.quiet bytes lent) (c.answer_raw_request-answer.ensures.stops bytes lent) c.at_rest.ensures (c.answer_raw_request-answer.ensures.answers bytes lent)
+    c.answer_raw_request-answer.ensures.once (c.answer_raw_request-answer.ensures.quiet bytes lent)
+    (c.answer_raw_request-answer.ensures.stops bytes lent) c.at_rest.ensures
+    (c.answer_raw_request-answer.ensures.answers bytes lent)
     (c.answer_raw_request-answer.ensures.untouched bytes lent))
 
 pub returns-in-None-clause-answers : goal.returns-in-None-clause-answers
