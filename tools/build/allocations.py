@@ -21,8 +21,8 @@ TESTS = ("hall_tests", "store_tests", "puzzle_tests", "probe", "test_harness")
 
 # What is looked for: a fault of memory, and what is answered by 503.
 MADE = (
-    r"(?:AllocError|(?:\w+Fault|Self)::Memory|(?:Reply|Answer|Status|Self)::Unavailable|(?:Answer|Self)::Shut"
-    r"|UNAVAILABLE)"
+    r"(?:AllocError|AllocFailed|\w+::OutOfMemory|(?:\w+Fault|Self)::Memory"
+    r"|(?:Reply|Answer|Status|Self)::Unavailable|(?:Answer|Self)::Shut|UNAVAILABLE)"
 )
 # Above the desk's plans, that the store failed.
 FAILED = r"(?:StoreFault::Failed|ToolFault::Store)"
@@ -32,7 +32,7 @@ FOUND_ABOVE = re.compile(rf"\b(?:{MADE}|{FAILED})\b")
 # It may stand in a type, in an import, or in a pattern.
 READ = [
     r"\buse [\w:]+(?:\{[^{}]*\})?;",
-    r"\bAllocError>",
+    r"\bAlloc(?:Error>|Failed<)",
     r"\w+: AllocError\)",
     rf"(?:\w+\()*\b(?:{MADE}|{FAILED})\)* (?:=>|\|)",
 ]
@@ -67,6 +67,10 @@ RENAMED = re.compile(
 PLACES = {
     "hall_sheet/src/list.rt": [
         "match rows.next() { Some(Ok(row)) => Ok(Some(row)), Some(Err(_)) => Err(SheetFault::Memory),",
+    ],
+    # The kit's fault of a file becomes one of its databases.
+    "hall_sql/src/copied_files.rt": [
+        "ErrorKind::OutOfMemory => Err(Error::SqliteFailure(ErrorCode::OutOfMemory)),",
     ],
     "hall_http/src/request.rt": [
         "match puzzle_fault(fault) { Some(found) => Err(RequestFault::Form(FormFault::Puzzle(found))),"
@@ -143,6 +147,18 @@ INVENTED = {
     ),
     "fault_by_another_name": (
         "hall_desk/src/submit.rt", "let n = number_after(facts.count);", "use StoreFault::Memory as Wrong;",
+    ),
+    "fault_by_the_kits_name": (
+        "hall_sql/src/sql_store.rt", "add_answer(&mut self.conn, &row)",
+        "if hits(&row) { return Err(fault_of(&Error::SqliteFailure(ErrorCode::OutOfMemory))); }"
+        " add_answer(&mut self.conn, &row)",
+    ),
+    "fault_of_a_growth_that_was_not": (
+        "hall_desk/src/submit.rt", "let n = number_after(facts.count);", "Err(AllocFailed { value: () })?;",
+    ),
+    "fault_matched_with_itself": (
+        "hall_desk/src/submit.rt", "let n = number_after(facts.count);",
+        "match ErrorKind::OutOfMemory { ErrorKind::OutOfMemory => return Err(StoreFault::Memory), _ => () }",
     ),
     "any_fault_taken_for_memory": (
         "hall_sql/src/feed.rt", "let mut rows = match conn.query(sql, params) {",
