@@ -30,6 +30,7 @@ use Rattle.hall_sql.proofs.Wordings.{like_itself}
 use Rattle.hall_sql.proofs.WriteCauseLemmas.{cause_over}
 use Rattle.hall_desk.specs.Checked.{IsChecked}
 use Rattle.hall_tool.specs.CheckRun.{CopyFails, CopyText, IsCopyUnread, IsFoundWritten, OldFails, OldText}
+use Rattle.hall_tool.specs.CheckRun.{PresentFails}
 use Rattle.hall_tool.specs.Shown.{IsShownBy}
 use Rattle.hall_tool.specs.WorldText.{WorldText}
 use Rattle.hall_tool.specs.declared.ending.Ending.{Ending}
@@ -95,6 +96,11 @@ copy_text budget source left empty filled last count text status migrates kept (
     )
 
 -- ---- why nothing was found
+
+-- after each row of the present version was found to be a record
+pub present_fails : (old mid new : State) → Kept (content_of mid) (content_of new)
+    → (HasCleanDisk mid → AreAllRead hall_schema old.now.trees) → CanFail new → PresentFails old new
+present_fails old mid new kept whole can clean = inr (whole (kept.honest clean), can)
 
 -- the store failed where that is what is told
 pub store_failed : {R : Type 0} (fault : StoreFault) (e : ToolFault) → ((fault ≡ store.Memory) × (e ≡ Memory))

@@ -84,9 +84,16 @@ abbrev pub OldFails : State → State → Type 0
 OldFails old new =
     HasCleanDisk new → IsStoreCause old new ⊎ (CannotCopy (old_content_of old).world ⊎ IsCopyUnread old)
 
--- why nothing was found of a hall, which was left so: of the present version, a call that reads it can fail
+-- Why nothing was found of tables of the present version, where their device was honest to the end: the cause lies in
+-- their store, or each of their rows is a record, and a call that reads them as they were left can fail. A row that is
+-- no record is told, and so is no cause.
+abbrev pub PresentFails : State → State → Type 0
+PresentFails old new =
+    HasCleanDisk new → IsStoreCause old new ⊎ (AreAllRead hall_schema old.now.trees × CanFail new)
+
+-- why nothing was found of a hall, which was left so
 abbrev pub FoundFails : {S : Type 0} → Ghosts S → FoundHall S → Held S → Type 0
-FoundFails g (Present held) last = CanFail (state g last)
+FoundFails g (Present held) last = PresentFails (state g held) (state g last)
 FoundFails g (Old held) last = OldFails (state g held) (state g last)
 
 -- ---- the command

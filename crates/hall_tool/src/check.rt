@@ -2,10 +2,10 @@
 ghost use Rattle.std.specs.Prelude.{◌≡◌, Err, IfOk, IfErr, IsErrOf, string_bytes};
 ghost use Rattle.sqlite.specs.Held.{state};
 ghost use Rattle.hall_store.specs.Store.{Kept};
-ghost use Rattle.hall_sql.specs.CanFail.{CanFail};
 ghost use Rattle.hall_sql.specs.Standing.{KeptTablesIn};
 ghost use Rattle.hall_sql.specs.Tables.{old_schema};
-ghost use Rattle.hall_tool.specs.CheckRun.{CopyFails, CopyText, IsCheckAt, OldFails, OldText, PresentText};
+ghost use Rattle.hall_tool.specs.CheckRun.{CopyFails, CopyText, IsCheckAt, OldFails, OldText, PresentFails};
+ghost use Rattle.hall_tool.specs.CheckRun.{PresentText};
 ghost use Rattle.hall_tool.specs.Machine.{files_of};
 ghost use Rattle.hall_tool.specs.Shown.{IsShownBy};
 ghost use Rattle.hall_tool.specs.Status.{IsOfMemoryOrStore};
@@ -54,9 +54,10 @@ fn present_ending<S: Alter + Drop>(
 ) -> Result<Ending, ToolFault>
     ensures text { IfOk result (λ ending. PresentText budget (state S.Store store.old) (state S.Store store.new)
         (string_bytes ending.line) ending.status) }
-    ensures fault { IsErrOf result ToolFault.Store → CanFail (state S.Store store.new) }
+    ensures fault { IsErrOf result ToolFault.Store → PresentFails (state S.Store store.old) (state S.Store store.new) }
     ensures cause { IfErr result IsOfMemoryOrStore }
 {
+    // A row that is no record is told before any call that would fail at it.
     let bad = match store.bad_rows(alloc) {
         Ok(bad) => bad,
         Err(fault) => return Err(told(fault)),
