@@ -6,7 +6,7 @@ use Rattle.sqlite.specs.Recovery.{Image}
 use Rattle.sqlite.specs.State.{State}
 use Rattle.hall_sql.specs.Opened.{IsImageFound}
 use Rattle.hall_sql.specs.OpenedRead.{HasFoundHall, IsTakenToRead, OpensToRead, StartsToRead}
-use Rattle.hall_sql.specs.Standing.{HasAdopted, StoodOrEmpty}
+use Rattle.hall_sql.specs.Standing.{AddsNoOutcome, HasAdopted, MakesAtMost, StoodOrEmpty}
 use Rattle.hall_sql.specs.Tables.{IsHallSchema, no_schema}
 use Rattle.hall_sql.specs.declared.open_read.FoundHall.{FoundHall}
 use Rattle.hall_sql.specs.declared.open_read.FoundHall.TheVariants.{Present, Old}
@@ -19,6 +19,13 @@ found_hall was held some adopted = (adopted, λ clean. go (adopted.stood clean))
     go : StoodOrEmpty was held → IsHallSchema was.now.schema
     go (inl stood) = stood.0
     go (inr made) = absurd (some made.0)
+
+-- and none were made
+pub makes_none : (was left : State) → (was.now.schema ≡ no_schema → ⊥) → MakesAtMost was left → AddsNoOutcome was left
+makes_none was left some makes clean db it = elim (makes clean db it) [
+  | inl earlier ↦ earlier
+  | inr made ↦ absurd (some made.0)
+]
 
 -- what the files handed out, and was taken over, is a hall that they held
 pub opens_so : {F S : Type 0} (g : Ghosts S) (image_at : List ℕ → Image) (tells : F → List ℕ → Bool → F → Type 0)

@@ -10,9 +10,9 @@ use Rattle.hall_store.specs.declared.fault.StoreFault.TheVariants.{Failed}
 use Rattle.hall_sql.specs.AdoptCause.{AdoptFails, AdoptOldFails}
 use Rattle.hall_sql.specs.Migrate.{old_content_of}
 use Rattle.hall_sql.specs.Opened.{IsHandedBack, OpensAs, Starts, StartsOld}
-use Rattle.hall_sql.specs.Standing.{HasAdopted, HasAdoptedOld, MakesAtMost}
+use Rattle.hall_sql.specs.Standing.{AddsNoOutcome, HasAdopted, HasAdoptedOld}
 use Rattle.hall_sql.specs.Content.{content_of}
-use Rattle.hall_sql.specs.Tables.{IsHallSchema, no_schema}
+use Rattle.hall_sql.specs.Tables.{IsHallSchema, IsOldSchema, no_schema}
 use Rattle.hall_sql.specs.declared.open.OpenFault.{OpenFault}
 use Rattle.hall_sql.specs.declared.open.OpenFault.TheVariants.{Missing, Unopened, Old as WasOld, Refused}
 use Rattle.hall_sql.specs.declared.open_read.FoundHall.{FoundHall}
@@ -27,10 +27,13 @@ abbrev pub IsTakenToRead : {S : Type 0} → Ghosts S → Held S → FoundHall S 
 IsTakenToRead g was (Present held) = HasFoundHall (state g was) (state g held)
 IsTakenToRead g was (Old held) = HasAdoptedOld (state g was) (state g held)
 
--- Why a connection is refused: its database has no table, or is another's, or the cause lies elsewhere, as where it is
--- taken over to be written.
+-- Why a connection is refused: its database has no table; or its tables aren't those of the version before, and the
+-- cause is one for which it isn't taken over to be written; or they are, and the cause is one of that version's.
 abbrev pub RefusesToRead : State → State → Type 0
-RefusesToRead was left = (was.now.schema ≡ no_schema) ⊎ (AdoptFails was left ⊎ AdoptOldFails was left)
+RefusesToRead was left =
+    (was.now.schema ≡ no_schema)
+    ⊎ ((¬ IsOldSchema was.now.schema × AdoptFails was left)
+    ⊎ (IsOldSchema was.now.schema × AdoptOldFails was left))
 
 -- The files told that there is a file at the path, and then handed out the database that they held, and it was taken
 -- over as a hall's of this version.
@@ -56,6 +59,6 @@ IsCauseToRead {F} g image_at tells refuses opens closes old path new (Unopened e
     (there : F) × tells old path false there × refuses there path error new
 IsCauseToRead {F} g image_at tells refuses opens closes old path new (Refused fault) =
     (there : F) × tells old path false there
-    × IsHandedBack MakesAtMost (λ was left. fault ≡ Failed → RefusesToRead was left)
+    × IsHandedBack AddsNoOutcome (λ was left. fault ≡ Failed → RefusesToRead was left)
     g image_at opens closes there path new
 IsCauseToRead g image_at tells refuses opens closes old path new WasOld = ⊥

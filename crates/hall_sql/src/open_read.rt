@@ -4,7 +4,7 @@ ghost use Rattle.sqlite.specs.Held.{state};
 ghost use Rattle.sqlite.specs.State.{HasCleanDisk};
 ghost use Rattle.hall_store.specs.declared.fault.StoreFault.TheVariants.{Failed};
 ghost use Rattle.hall_sql.specs.OpenedRead.{IsCauseToRead, IsTakenToRead, OpensToRead, RefusesToRead, StartsToRead};
-ghost use Rattle.hall_sql.specs.Standing.{HasDeclined, MakesAtMost};
+ghost use Rattle.hall_sql.specs.Standing.{AddsNoOutcome, HasDeclined};
 ghost use Rattle.hall_sql.specs.Tables.{IsOldSchema};
 
 use crate::adoption::has_nothing;
@@ -29,7 +29,7 @@ fn take_old<S: Alter + Drop>(conn: Connection<S>) -> Result<FoundHall<S>, Declin
     requires old { IsOldSchema (state S.Store conn).now.schema }
     ensures taken { IfOk result (IsTakenToRead S.Store conn) }
     ensures declined { IfErr result (λ declined. HasDeclined (state S.Store conn) (state S.Store declined.conn)) }
-    ensures stops { IfErr result (λ declined. MakesAtMost (state S.Store conn) (state S.Store declined.conn)) }
+    ensures stops { IfErr result (λ declined. AddsNoOutcome (state S.Store conn) (state S.Store declined.conn)) }
     ensures cause { IfErr result (λ declined. HasCleanDisk (state S.Store declined.conn) → declined.fault ≡ Failed
         → RefusesToRead (state S.Store conn) (state S.Store declined.conn)) }
 {
@@ -48,7 +48,7 @@ fn take_old<S: Alter + Drop>(conn: Connection<S>) -> Result<FoundHall<S>, Declin
 fn take<S: Alter + Drop>(conn: Connection<S>) -> Result<FoundHall<S>, Declined<S>>
     ensures taken { IfOk result (IsTakenToRead S.Store conn) }
     ensures declined { IfErr result (λ declined. HasDeclined (state S.Store conn) (state S.Store declined.conn)) }
-    ensures stops { IfErr result (λ declined. MakesAtMost (state S.Store conn) (state S.Store declined.conn)) }
+    ensures stops { IfErr result (λ declined. AddsNoOutcome (state S.Store conn) (state S.Store declined.conn)) }
     ensures cause { IfErr result (λ declined. HasCleanDisk (state S.Store declined.conn) → declined.fault ≡ Failed
         → RefusesToRead (state S.Store conn) (state S.Store declined.conn)) }
 {
