@@ -34,6 +34,7 @@ WithPerson old person new =
 abbrev pub WithPuzzle : World → PuzzleRow → World → Type 0
 WithPuzzle old row new = get old.puzzles row.key ≡ None → new ≡ record old { puzzles = insert old.puzzles row.key row }
 
+-- the round, without its list
 abbrev pub WithRound : World → Round → World → Type 0
 WithRound old round new =
     get old.rounds round.id ≡ None → new ≡ record old { rounds = insert old.rounds round.id round }
@@ -42,9 +43,11 @@ abbrev pub WithPlace : World → PlaceKey × Entry → World → Type 0
 WithPlace old place new =
     get old.places place.0 ≡ None → new ≡ record old { places = insert old.places place.0 place.1 }
 
+-- the answer
 abbrev pub WithAnswer : World → AnswerRow → World → Type 0
 WithAnswer old row new = get old.answers row.key ≡ None → new ≡ record old { answers = insert old.answers row.key row }
 
+-- the protest
 abbrev pub WithProtest : World → ProtestRow → World → Type 0
 WithProtest old row new =
     get old.protests row.key ≡ None → new ≡ record old { protests = insert old.protests row.key row }
@@ -65,15 +68,19 @@ abbrev pub AddsPuzzle : Database → PuzzleRow → Database → Type 0
 AddsPuzzle old row new =
     (text : List ℕ) × CanonicalText text row.puzzle × AddsRow 3 WithPuzzle (puzzle_params text row) old row new
 
+-- the round's head
 abbrev pub AddsHead : Database → Round → Database → Type 0
 AddsHead old round new = AddsRow 5 WithRound (head_params round) old round new
 
+-- the entry of a round's list
 abbrev pub AddsPlace : Database → PlaceKey × Entry → Database → Type 0
 AddsPlace old place new = PutsPlace place.0.round place.0.number place.1 old new
 
+-- the answer's
 abbrev pub AddsAnswer : Database → AnswerRow → Database → Type 0
 AddsAnswer old row new = AddsRow 9 WithAnswer (answer_params row) old row new
 
+-- the protest's
 abbrev pub AddsProtest : Database → ProtestRow → Database → Type 0
 AddsProtest old row new = AddsRow 12 WithProtest (protest_params row) old row new
 

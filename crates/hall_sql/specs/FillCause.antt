@@ -44,16 +44,20 @@ abbrev pub RefusesToAddPuzzle : PuzzleRow → Database → Type 0
 RefusesToAddPuzzle row db =
     (text : List ℕ) × CanonicalText text row.puzzle × IsStatementRefused ADD_PUZZLE.now (puzzle_params text row) db
 
+-- that of the round's head
 abbrev pub RefusesToAddHead : Round → Database → Type 0
 RefusesToAddHead round db = IsStatementRefused ADD_HEAD.now (head_params round) db
 
+-- that of the entry of a round's list
 abbrev pub RefusesToAddPlace : PlaceKey × Entry → Database → Type 0
 RefusesToAddPlace place db =
     IsStatementRefused ADD_PLACE.now (place_params place.0.round place.0.number place.1) db
 
+-- that of the answer's
 abbrev pub RefusesToAddAnswer : AnswerRow → Database → Type 0
 RefusesToAddAnswer row db = IsStatementRefused ADD_ANSWER.now (answer_params row) db
 
+-- that of the protest's
 abbrev pub RefusesToAddProtest : ProtestRow → Database → Type 0
 RefusesToAddProtest row db = IsStatementRefused ADD_PROTEST.now (protest_params row) db
 
@@ -88,16 +92,19 @@ AnswersAreRefused rows db =
     IsNextRefused AddsAnswer RefusesToAddAnswer rows.answers.items db
     ⊎ IsRefusedAfter AddsAnswer (ProtestsAreRefused rows) rows.answers.items db
 
+-- an entry of a list, or what follows all of them
 abbrev pub PlacesAreRefused : Rows → Database → Type 0
 PlacesAreRefused rows db =
     IsNextRefused AddsPlace RefusesToAddPlace rows.places.items db
     ⊎ IsRefusedAfter AddsPlace (AnswersAreRefused rows) rows.places.items db
 
+-- a round's head, or what follows all of them
 abbrev pub HeadsAreRefused : Rows → Database → Type 0
 HeadsAreRefused rows db =
     IsNextRefused AddsHead RefusesToAddHead rows.heads.items db
     ⊎ IsRefusedAfter AddsHead (PlacesAreRefused rows) rows.heads.items db
 
+-- a puzzle, or what follows all of them
 abbrev pub PuzzlesAreRefused : Rows → Database → Type 0
 PuzzlesAreRefused rows db =
     IsNextRefused AddsPuzzle RefusesToAddPuzzle rows.puzzles.items db
