@@ -2,6 +2,7 @@
 use Rattle.std.specs.Prelude.{◌≡◌, ◌≢◌, ◌<◌, ◌≤◌, ◌+◌, ◌⊎◌, ⊤, ℕ, List, [], ◌∷◌, ◌++◌, All, Option, Some, None}
 use Rattle.std.specs.Prelude.{Bool, true, false, length}
 use Rattle.std.proofs.Common.{get_or}
+use Rattle.hall_http.specs.Limits.{most_connections}
 use Rattle.hall_http.specs.Answered.{IsUnavailable}
 use Rattle.hall_http.specs.Peer.{Traffic, IsOver, IsUntouched}
 use Rattle.hall_http.specs.Request.{ReachesStore}
@@ -213,11 +214,11 @@ WasStillHere {P} traffic gone number other =
     (front : List (Past P)) × (one : Past P) × (rest : List (Past P)) × (gone ≡ front ++ one ∷ rest)
     × (number_past traffic one ≡ number) × All (λ past. number_past traffic past ≢ other) front
 
--- After these steps the place couldn't be given to the newcomer of this number. It isn't one of the 500; or another had
+-- After these steps the place couldn't be given to the newcomer of this number. It isn't one of those that there are; or another had
 -- it, which was handed out for it before, wasn't let go since, and was still here. Or there was no memory.
 abbrev pub WasTaken : {P : Type 0} → (P → Traffic) → List (Past P) → Nexts P → ℕ → ℕ → Away → Type 0
 WasTaken traffic gone steps place number away.NoPlace =
-    (500 ≤ place) ⊎ ((other : ℕ) × IsFor traffic gone steps place other × WasStillHere traffic gone number other)
+    (most_connections ≤ place) ⊎ ((other : ℕ) × IsFor traffic gone steps place other × WasStillHere traffic gone number other)
 WasTaken traffic gone steps place number (away.NoMemory refusal) = Unit {0}
 
 -- By what the sockets said, the connection of this number that was handed out for the place was to go so, or may have,

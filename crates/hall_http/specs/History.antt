@@ -1,6 +1,7 @@
 -- What a connection has heard and was told, and what is true of it.
 use Rattle.std.specs.Prelude.{◌≡◌, ◌≢◌, ◌<◌, ◌≤◌, ◌+◌, ◌⊎◌, ℕ, Bool, true, false, if◌then◌else◌, List, [], ◌∷◌, ◌++◌}
 use Rattle.std.specs.Prelude.{length, take, All, Some, None}
+use Rattle.hall_http.specs.Limits.{most_reads, most_requests}
 use Rattle.hall_http.specs.Outgoing.{outgoing_text}
 use Rattle.hall_http.specs.Connection.{Exchange, requests_of, replies_of, AreOpen}
 use Rattle.hall_http.specs.Head.{IsWholeRequest, IsUnfinished, IsUnfinishedBelow, NeverHas}
@@ -54,7 +55,7 @@ Ends end.BadHead t unread =
 Ends end.Limit t unread =
     AreOpen t.exchanges × (t.ended ≡ false)
     × (HasAnsweredAll t.exchanges unread t.pieces
-    ⊎ ((length t.exchanges < 1000) × (t.pieces ≡ 100000) × IsUnfinished unread))
+    ⊎ ((length t.exchanges < most_requests) × (t.pieces ≡ most_reads) × IsUnfinished unread))
 Ends end.Device t unread = ⊥
 
 -- all that is told by then
@@ -91,7 +92,7 @@ IsSending _ t k = IsReplying t k
 -- how a connection stands
 abbrev pub Stands : State → ConnectionHistory → Connection → Type 0
 Stands state.Looking t k = IsFree t
-Stands state.Reading t k = IsFree t × IsUnfinished k.inbox × (t.pieces < 100000)
+Stands state.Reading t k = IsFree t × IsUnfinished k.inbox × (t.pieces < most_reads)
 Stands (state.Writing None) t k = IsReplying t k × MayGoOn t.exchanges
 Stands (state.Writing (Some e)) t k = IsSending e t k × Ends e t k.inbox
 Stands (state.Ended e) t k = (t.went ≡ told_at e t.exchanges) × Ends e t k.inbox
@@ -102,9 +103,9 @@ pub record HasHistory (t : ConnectionHistory) (k : Connection) : Type 0 where
   pub reading : HaveRead t.exchanges t.pieces k.inbox
   pub whole : All (λ x. IsWholeRequest x.request) t.exchanges
   pub requests : k.requests ≡ length t.exchanges
-  pub few : length t.exchanges ≤ 1000
+  pub few : length t.exchanges ≤ most_requests
   pub reads : k.reads ≡ reads_of t
-  pub seldom : reads_of t ≤ 100000
+  pub seldom : reads_of t ≤ most_reads
   pub bounded : length k.inbox ≤ 81920
   pub below : IsUnfinishedBelow k.least k.inbox
   pub inside : k.sent ≤ length (outgoing_text k.reply)

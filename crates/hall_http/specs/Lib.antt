@@ -1,3 +1,4 @@
+pub mod Limits
 pub mod Given
 pub mod Clock
 pub mod Words

@@ -4,6 +4,7 @@ use Rattle.std.specs.Io.KnownBytes.{Appends, Consumes, IsAtEnd}
 use Rattle.serde_json.specs.Written.{compact_text}
 use Rattle.hall_grid.specs.Device.{MadeCalls, Tally}
 use Rattle.hall_store.specs.Store.{Content, IsSettled, Leads}
+use Rattle.hall_http.specs.Limits.{most_reads, most_requests}
 use Rattle.hall_http.specs.Head.{IsWholeRequest, IsUnfinished, NeverHas}
 use Rattle.hall_http.specs.Reading.{Reading, IsLastRead}
 use Rattle.hall_http.specs.Device.{WritesPart, NoneFailed, ReadFailed, WriteFailed}
@@ -36,7 +37,7 @@ IsNoRequest after unread pieces reads =
 
 -- the connection stays open after each of these requests, and a further one may come
 abbrev pub MayGoOn : List Exchange → Type 0
-MayGoOn xs = AreOpen xs × (length xs < 1000)
+MayGoOn xs = AreOpen xs × (length xs < most_requests)
 
 -- the connection closes after the last request, and after none before it; nothing is read after it
 abbrev pub ClosesLast : List Exchange → List ℕ → ℕ → Type 0
@@ -47,7 +48,7 @@ ClosesLast xs unread pieces =
 -- 1,000 requests were answered, and nothing was read after the last
 abbrev pub HasAnsweredAll : List Exchange → List ℕ → ℕ → Type 0
 HasAnsweredAll xs unread pieces =
-    (length xs ≡ 1000)
+    (length xs ≡ most_requests)
     × ((before : List Exchange) × (last : Exchange) × IsLastRequest before last xs pieces unread)
 
 -- a part of the last reply wasn't written; nothing is read after its request
@@ -108,7 +109,7 @@ ConnectionEnded end.BadHead old new xs unread pieces reads =
     × IsNoRequest new.left unread pieces reads
 ConnectionEnded end.Limit old new xs unread pieces reads =
     Appends old.written new.written (replies_of xs) × NoCallFailed old new × AreOpen xs × (reads ≡ pieces)
-    × (HasAnsweredAll xs unread pieces ⊎ ((length xs < 1000) × (reads ≡ 100000) × IsUnfinished unread))
+    × (HasAnsweredAll xs unread pieces ⊎ ((length xs < most_requests) × (reads ≡ most_reads) × IsUnfinished unread))
 ConnectionEnded end.Device old new xs unread pieces reads =
     (Appends old.written new.written (replies_of xs) × OneReadFailed old new × MayGoOn xs × IsUnfinished unread
     × (reads ≡ pieces + 1))
@@ -127,8 +128,8 @@ pub record IsHandled {H C : Type 0} (answers : H → Option ℕ → List ℕ →
   pub session : Session answers before.0 exchanges after.0
   pub whole : All (λ x. IsWholeRequest x.request) exchanges
   pub moments : AreMoments now_gives before.1 exchanges after.1
-  pub few : length exchanges ≤ 1000
-  pub seldom : reads ≤ 100000
+  pub few : length exchanges ≤ most_requests
+  pub seldom : reads ≤ most_reads
   pub made : MadeCalls reads old.reads new.reads
   pub reading : HaveRead exchanges pieces unread
   pub consumed : Consumes old.left new.left (requests_of exchanges ++ unread)
@@ -151,8 +152,8 @@ pub record IsServed {H C : Type 0} (content : H → Content) (now_gives : C → 
   pub leads : Leads (content before.0) (content after.0)
   pub run : (content after.0).honest → RunsOver (content before.0) exchanges (content after.0)
   pub stops : LeavesRunOver (content before.0) exchanges (content after.0)
-  pub few : length exchanges ≤ 1000
-  pub seldom : reads ≤ 100000
+  pub few : length exchanges ≤ most_requests
+  pub seldom : reads ≤ most_reads
   pub made : MadeCalls reads old.reads new.reads
   pub reading : HaveRead exchanges pieces unread
   pub consumed : Consumes old.left new.left (requests_of exchanges ++ unread)

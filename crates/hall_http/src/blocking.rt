@@ -5,6 +5,7 @@ ghost use Rattle.hall_grid.specs.Device.{Rises};
 ghost use Rattle.hall_desk.specs.Desk.{kept_by, SaneThen};
 ghost use Rattle.hall_desk.specs.Sane.{Sane};
 ghost use Rattle.hall_desk.specs.Promises.{HasUniqueSolutions, RightAnswersAreSolutions};
+ghost use Rattle.hall_http.specs.Limits.{most_reads};
 ghost use Rattle.hall_http.specs.Feeding.{IsFed};
 ghost use Rattle.hall_http.specs.Served.{IsHandled, IsServed, line};
 
@@ -108,7 +109,7 @@ fn serve_requests<H: Responder, R: Read, W: Write, C: Clock>(
 /// Reads once, and has the connection hear what came.
 fn feed<R: Read>(connection: &mut Connection, reader: &mut Counted<R>) -> Result<(), DeviceFault>
     requires room { length connection.old.inbox ≤ 77824 }
-    requires few { connection.old.reads ≤ 100000 }
+    requires few { connection.old.reads ≤ most_reads }
     ensures fed { OnOk result (IsFed (R.remaining reader.old.device) (R.remaining reader.new.device)
         reader.old.failures reader.new.failures connection.old connection.new) }
     ensures asked { Rises reader.old.calls reader.new.calls }

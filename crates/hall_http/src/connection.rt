@@ -2,6 +2,7 @@
 //! be told is handed out.
 ghost use Rattle.std.specs.Prelude.{◌≡◌, ◌≤◌, ◌<◌, ◌+◌, ℕ, Option, length, true, false};
 ghost use Rattle.hall_http.specs.Head.{IsUnfinishedBelow};
+ghost use Rattle.hall_http.specs.Limits.{most_reads, most_requests};
 ghost use Rattle.hall_http.specs.Outgoing.{outgoing_text};
 ghost use Rattle.hall_http.specs.Resting.{HasRested};
 ghost use Rattle.hall_http.specs.Steps.{pending, fresh, IsAfterHearing, IsAfterSending, IsAfterEnd, Looks, gated};
@@ -123,7 +124,7 @@ impl Connection {
     /// Hears some more bytes, which one read gave.
     pub(crate) fn hear(&mut self, piece: &[u8])
         requires room { length self.old.inbox + length piece.now ≤ 81920 }
-        requires few { self.old.reads ≤ 100000 }
+        requires few { self.old.reads ≤ most_reads }
         ensures { IsAfterHearing self.old piece.now self.new }
     {
         match self.inbox.add(piece) {
@@ -136,7 +137,7 @@ impl Connection {
 
     /// Hears that the input is at its end, as one read told.
     pub(crate) fn end_input(&mut self)
-        requires { self.old.reads ≤ 100000 }
+        requires { self.old.reads ≤ most_reads }
         ensures { IsAfterEnd self.old self.new }
     {
         self.reads += 1;
@@ -179,7 +180,7 @@ impl Connection {
         clock: &mut C,
     ) -> bool
         requires below { IsUnfinishedBelow self.old.least self.old.inbox }
-        requires few { self.old.requests ≤ 1000 }
+        requires few { self.old.requests ≤ most_requests }
         ensures { Looks (gated H.answers H.goes_on) C.now_gives ((responder.old, true), clock.old) self.old
             ((responder.new, result), clock.new) self.new }
     {

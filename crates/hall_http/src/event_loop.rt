@@ -1,5 +1,6 @@
 //! The system's sockets: who comes, whose turn it is, and who has waited too long.
 ghost use Rattle.std.specs.Prelude.{◌≡◌, ◌≤◌, ◌+◌, IfOk, IfSome, true};
+ghost use Rattle.hall_http.specs.Limits.{most_counted};
 ghost use Rattle.hall_http.specs.declared.server.Next.TheVariants as Next;
 ghost use Rattle.hall_http.specs.Coming.{logged};
 ghost use Rattle.hall_http.specs.Places.{HasExpired, MayMakeRoom};
@@ -423,7 +424,7 @@ impl<'r, N: time::Clock> Schedule<'r, N> {
     fn count_time(&mut self)
         ensures still { AreStill self.old.places self.new.places }
         ensures on { self.old.places.elapsed ≤ self.new.places.elapsed }
-        ensures most { self.new.places.elapsed ≤ self.old.places.elapsed + 1000 }
+        ensures most { self.new.places.elapsed ≤ self.old.places.elapsed + most_counted }
     {
         let passed = match self.time.monotonic() {
             Ok(since) => {
@@ -445,7 +446,7 @@ impl<'r, N: time::Clock> Schedule<'r, N> {
     fn poll_once(&mut self) -> io::Result<()>
         ensures still { AreStill self.old.places self.new.places }
         ensures on { self.old.places.elapsed ≤ self.new.places.elapsed }
-        ensures most { self.new.places.elapsed ≤ self.old.places.elapsed + 2000 }
+        ensures most { self.new.places.elapsed ≤ self.old.places.elapsed + most_counted + most_counted }
     {
         self.count_time();
         let patience = self.patience();

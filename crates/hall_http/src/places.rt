@@ -108,6 +108,7 @@ pub(crate) struct Places {
 }
 
 impl Places {
+    ghost use Rattle.hall_http.specs.Limits.{most_counted};
     ghost use Rattle.hall_http.specs.Seats.{AreFresh, AreStill, Follows, Frees, FreesOne, GoesOn, HasHeard};
     ghost use Rattle.hall_http.specs.Seats.{HaveAllGone, IsHeard, IsOpen, IsUnheard, LetsGo, LosesOne, MayLetGo};
     ghost use Rattle.hall_http.specs.Seats.{TouchesOnly, Wakes};
@@ -185,7 +186,7 @@ impl Places {
         ensures still { AreStill self.old self.new }
         ensures visits { self.new.visits.items ≡ self.old.visits.items }
         ensures on { self.old.elapsed ≤ self.new.elapsed }
-        ensures most { self.new.elapsed ≤ self.old.elapsed + 1000 }
+        ensures most { self.new.elapsed ≤ self.old.elapsed + most_counted }
     {
         self.elapsed = self.elapsed.saturating_add(passed.min(LONGEST_ROUND));
     }

@@ -1,5 +1,6 @@
 //! Many connections at once: which of them goes a step is the sockets' choice, and what a step is isn't.
 ghost use Rattle.std.specs.Prelude.{◌≡◌, ◌≢◌, ◌+◌, [], ◌∷◌, ◌++◌, true, IfOk, OnErr, length};
+ghost use Rattle.hall_http.specs.Limits.{most_connections};
 ghost use Rattle.hall_http.specs.declared.client.Step.TheVariants as Step;
 ghost use Rattle.hall_http.specs.declared.server.ServeAllEnd.TheVariants as ServeAllEnd;
 ghost use Rattle.hall_http.specs.declared.server.Next.TheVariants as Next;
@@ -118,7 +119,7 @@ fn serve_clients<S: Store, N: Sockets, C: Clock>(
     clock: &mut C,
 ) -> ServeAllEnd
     requires none { AreKept N.Peer.traffic (N.said sockets.old).count (N.said sockets.old).count [] clients.old }
-    requires long { length clients.old.places.items ≡ 500 }
+    requires long { length clients.old.places.items ≡ most_connections }
     ensures served { (all : AreServed S.content C.now_gives N.Peer.traffic result
         (kept_by desk.old, clock.old) (kept_by desk.new, clock.new) clients.new.gone.items)
         × AreAtTurns N.Peer.traffic clients.new.gone.items (since (N.said sockets.old) (N.said sockets.new)) all.turns
@@ -144,7 +145,7 @@ fn handle_all<H: Responder, S: Sockets, C: Clock>(
     clock: &mut C,
 ) -> ServeAllEnd
     requires none { AreKept S.Peer.traffic (S.said sockets.old).count (S.said sockets.old).count [] clients.old }
-    requires long { length clients.old.places.items ≡ 500 }
+    requires long { length clients.old.places.items ≡ most_connections }
     ensures done { AreDone S.Peer.traffic result (S.said sockets.old) (S.said sockets.new) }
     ensures over { result ≡ ServeAllEnd.Served → S.is_over sockets.new }
     ensures said { AreAsSaid S.Peer.traffic (since (S.said sockets.old) (S.said sockets.new)) clients.new }

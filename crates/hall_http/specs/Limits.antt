@@ -1,0 +1,18 @@
+-- How much the server takes on.
+use Rattle.std.specs.Prelude.{ℕ}
+
+-- the requests of a connection that are answered
+abbrev pub most_requests : ℕ
+most_requests = 1000
+
+-- the reads of a connection that give bytes, but for those that are read off after its end
+abbrev pub most_reads : ℕ
+most_reads = 100000
+
+-- the connections that are here at once
+abbrev pub most_connections : ℕ
+most_connections = 500
+
+-- the milliseconds between two looks at the clock that count against a patience
+abbrev pub most_counted : ℕ
+most_counted = 1000
