@@ -37,7 +37,7 @@ use Rattle.hall_store.specs.declared.change.RoundFlag.{RoundFlag}
 use Rattle.hall_store.specs.declared.fault.StoreFault.{StoreFault}
 use Rattle.hall_store.specs.declared.fault.StoreFault.TheVariants.{Failed}
 use Rattle.hall_sql.specs.CanFail.{CanFail, CanRefuse, HasReason, KeepsNoWorld, RefusesChange, RefusesPuzzle}
-use Rattle.hall_sql.specs.Cause.{FeedFails, FindFails, IsAnyUnread, IsStoreCause, ReadFails, RoundFails, StopsAtRow}
+use Rattle.hall_sql.specs.Cause.{FeedFails, IsStoreCause, ReadFails, RoundFails, StopsAtRow}
 use Rattle.hall_sql.specs.Columns.{answer_params, person_params, protest_params}
 use Rattle.hall_sql.specs.Content.{content_of}
 use Rattle.hall_sql.specs.Feed.{IsTurnedAway}
@@ -58,9 +58,8 @@ use Rattle.hall_sql.proofs.ContentLemmas.{all_read}
 use Rattle.hall_sql.proofs.FeedLemmas.{Lists, records}
 use Rattle.hall_sql.proofs.Selections.{selected}
 use Rattle.hall_sql.proofs.StoreLemmas.{rested_stayed}
-use Rattle.hall_sql.proofs.UnreadRows.{BeginsUnread, TellsTwice, TellsUnread, head_twice, head_unread, person_twice}
-use Rattle.hall_sql.proofs.UnreadRows.{person_unread, places_of_unread, protest_twice, protest_unread, puzzle_twice}
-use Rattle.hall_sql.proofs.UnreadRows.{puzzle_unread, testers_of_unread}
+use Rattle.hall_sql.proofs.UnreadRows.{BeginsUnread, TellsUnread, head_unread, person_unread, places_of_unread}
+use Rattle.hall_sql.proofs.UnreadRows.{protest_unread, puzzle_unread, testers_of_unread}
 use Rattle.hall_sql.proofs.Wordings.{Wording, hall_in, worded}
 
 -- ---- reasons
@@ -117,20 +116,14 @@ module _ {X : Type 0} (read : Row → Option X) (sql : List ℕ) (params : Row) 
       let has = of_hall old hall clean (shown_was_open sql params old new it.0 it.1) in
       inr (inl (unread old new it.0 has it.1 it.2))
 
-  of_find : TellsTwice sql params → FindFails read sql params old new → IsRead old new
-  of_find twice (inl fails) = of_read fails
-  of_find twice (inr it) =
-      let has = of_hall old hall clean (shown_was_open sql params old new it.0 it.1) in
-      inr (inr (inl (twice old new it.0 has it.1 it.2)))
-
 of_round : (id : List ℕ) (old new : State) → IsHall old → HasCleanDisk old → RoundFails id old new → IsRead old new
-of_round id old new hall clean (inl head) = of_find round_in HEAD.now (Text id ∷ []) (head_unread id) old new hall clean
-    (head_twice id) head
+of_round id old new hall clean (inl head) = of_read round_in HEAD.now (Text id ∷ []) (head_unread id) old new hall clean
+    head
 of_round id old new hall clean (inr (inl places)) = of_read place_in PLACES_OF.now (Text id ∷ []) (places_of_unread id)
     old new hall clean places
 of_round id old new hall clean (inr (inr (inl testers))) = of_read tester_in TESTERS_OF.now (Text id ∷ [])
     (testers_of_unread id) old new hall clean testers
-of_round id old new hall clean (inr (inr (inr none))) = inr (inr (inr (id, none)))
+of_round id old new hall clean (inr (inr (inr none))) = inr (inr (id, none))
 
 by_read : (old new : State) → KeptRows old new → HasCleanDisk new → IsRead old new → HasReason KeepsNone new
 by_read old new stayed clean (inl cause) = by_store KeepsNone old new stayed clean cause
@@ -150,14 +143,6 @@ module _ {R : Type 0} (result : Result R StoreFault) {old new : State} (hall : I
         → (HasCleanDisk new → Fails (ReadFails read sql params old new) result) → Fails (CanFail new) result
     read_fault read sql params unread cause =
         by_rest (ReadFails read sql params old new) (λ was why. of_read read sql params unread old new hall was why)
-        cause
-
-    pub find_fault : {X : Type 0} (read : Row → Option X) (sql : List ℕ) (params : Row) → TellsUnread read sql params
-        → TellsTwice sql params
-        → (HasCleanDisk new → Fails (FindFails read sql params old new) result) → Fails (CanFail new) result
-    find_fault read sql params unread twice cause =
-        by_rest (FindFails read sql params old new) (λ was why. of_find read sql params unread old new hall was twice
-        why)
         cause
 
     pub round_fault : (id : List ℕ) → (HasCleanDisk new → Fails (RoundFails id old new) result)
@@ -293,11 +278,7 @@ read_told (inr bad) = inr (inl bad)
 person_told : (person : Person) (mid left : State) → IsHallSchema mid.now.schema → PersonIsRefused person mid left
     → KeepsNoWorld mid.now.trees ⊎ (IsUnknown person.name mid.now
     × IsStatementRefused ADD_PERSON.now (person_params person) mid.now)
-person_told person mid left has (inl it) = inl (go it.2)
-  where
-    go : IsAnyUnread person_in it.0 ⊎ (1 < length it.0) → KeepsNoWorld mid.now.trees
-    go (inl any) = inl (person_unread person.name mid left it.0 has it.1 any)
-    go (inr many) = inr (inl (person_twice person.name mid left it.0 has it.1 many))
+person_told person mid left has (inl it) = inl (inl (person_unread person.name mid left it.0 has it.1 it.2))
 person_told person mid left has (inr it) = inr it
 
 module _ {R : Type 0} (old new : State) (result : Result R StoreFault) (hall : IsHall old) where
@@ -334,8 +315,8 @@ module _ {R : Type 0} (old new : State) (result : Result R StoreFault) (hall : I
     where
       go : HasCleanDisk old → SetStateFails key known old new → IsTold (SetState key known) old new
       go was (inl find) =
-          read_told (of_find puzzle_row_in PUZZLE.now (Text key.author ∷ Text key.label ∷ [])
-          (puzzle_unread key.author key.label) old new hall was (puzzle_twice key.author key.label) find)
+          read_told (of_read puzzle_row_in PUZZLE.now (Text key.author ∷ Text key.label ∷ [])
+          (puzzle_unread key.author key.label) old new hall was find)
       go was (inr it) = put (put_told (record it.0 { state = known }) old new it.2)
         where
           put : IsStoreCause old new ⊎ RefusesPuzzle (record it.0 { state = known }) old.now
@@ -356,8 +337,7 @@ module _ {R : Type 0} (old new : State) (result : Result R StoreFault) (hall : I
       change_fault (SetRoundFlag id flag) old new result (SetFlagFails id flag old new) stayed cause go
     where
       go : HasCleanDisk old → SetFlagFails id flag old new → IsTold (SetRoundFlag id flag) old new
-      go was (inl find) = read_told (of_find round_in HEAD.now (Text id ∷ []) (head_unread id) old new hall was
-          (head_twice id) find)
+      go was (inl find) = read_told (of_read round_in HEAD.now (Text id ∷ []) (head_unread id) old new hall was find)
       go was (inr (round, kept, inl cause)) = inl cause
       go was (inr (round, kept, inr refused)) = inr (inr (round, kept, refused))
 
@@ -385,8 +365,7 @@ module _ {R : Type 0} (old new : State) (result : Result R StoreFault) (hall : I
     where
       go : HasCleanDisk old → RuleFails key ruling old new → IsTold (RuleProtest key ruling) old new
       go was (inl find) =
-          read_told (of_find protest_in PROTEST.now (Text key.entrant ∷ Text key.round ∷ Text key.token ∷ [])
-          (protest_unread key.entrant key.round key.token) old new hall was
-          (protest_twice key.entrant key.round key.token) find)
+          read_told (of_read protest_in PROTEST.now (Text key.entrant ∷ Text key.round ∷ Text key.token ∷ [])
+          (protest_unread key.entrant key.round key.token) old new hall was find)
       go was (inr (row, kept, inl cause)) = inl cause
       go was (inr (row, kept, inr refused)) = inr (inr (row, kept, refused))

@@ -80,10 +80,12 @@ pub mod FillCauseLemmas
 pub mod SelectedLemmas
 pub mod FeedListings
 pub mod EachLemmas
+pub mod OneRow
 pub mod OpenedLemmas
 pub mod StoppedLemmas
 pub mod RecordParts
 pub mod UnreadLemmas
+pub mod UnreadMarks
 pub mod WholeRows
 pub mod RowReads
 pub mod CountLemmas

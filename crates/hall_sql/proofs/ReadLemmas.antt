@@ -9,19 +9,19 @@ use Rattle.hall_store.specs.Store.{Fails}
 use Rattle.hall_store.specs.declared.fault.StoreFault.{StoreFault}
 use Rattle.hall_store.specs.declared.fault.StoreFault.TheVariants.{Memory, Failed}
 use Rattle.hall_sql.specs.CanFail.{CanFail}
-use Rattle.hall_sql.specs.Cause.{AreRead, FindFails, IsFound, ReadFails}
+use Rattle.hall_sql.specs.Cause.{AreRead, IsFound, ReadFails}
 use Rattle.hall_sql.specs.Counts.{AreSoMany}
 use Rattle.hall_sql.specs.Feed.{AreAll}
-use Rattle.hall_sql.specs.Reads.{Reads, ReadsRows, FindsRow, ReadsTable}
+use Rattle.hall_sql.specs.Reads.{Reads, ReadsRows, ReadsTable}
 use Rattle.hall_sql.specs.Rows.{world_of}
 use Rattle.hall_sql.specs.Standing.{AreAllKeyed, AreKeyedIn, IsHall, KeptAnyTables, KeptTables}
 use Rattle.hall_sql.specs.Tables.{IsHallSchema}
 use Rattle.hall_sql.specs.Versions.{IsAnyHall, IsVersion}
 use Rattle.hall_sql.specs.Whole.{AreRecords}
 use Rattle.hall_sql.proofs.CauseLemmas.{fails_as}
-use Rattle.hall_sql.proofs.FailLemmas.{find_fault, read_fault}
+use Rattle.hall_sql.proofs.FailLemmas.{read_fault}
 use Rattle.hall_sql.proofs.StoreLemmas.{read_whole, rested_hall, rested_kept, told, told_so}
-use Rattle.hall_sql.proofs.UnreadRows.{TellsTwice, TellsUnread}
+use Rattle.hall_sql.proofs.UnreadRows.{TellsUnread}
 use Rattle.hall_sql.proofs.Versions.{told_any}
 
 -- ---- one query
@@ -90,17 +90,16 @@ answers_count read sql params {old} {new} answer Means hall rested count has mea
 pub finds_row : {X : Type 0} (read : Row → Option X) (sql : List ℕ) (params : Row) {old new : State}
     (result : Result (Option X) StoreFault)
     (Means : World → Option X → Type 0) → IsHall old → KeptTables old new → TellsUnread read sql params
-    → TellsTwice sql params
     → (HasCleanDisk new → IfOk result (IsFound read sql params old new))
-    → (HasCleanDisk new → Fails (FindFails read sql params old new) result)
+    → (HasCleanDisk new → Fails (ReadFails read sql params old new) result)
     → ((found : Option X) → IsFound read sql params old new found → IsTrue old.is_open → IsHallSchema old.now.schema
     → AreAllKeyed old.now.trees → Means (world_of old.now.trees) found)
-    → FindsRow read sql params old new result Means
-finds_row read sql params {old} {new} result Means hall rested unread twice has cause means =
-    reads_by read sql params result Means hall rested (FindFails read sql params old new)
+    → ReadsRows read sql params old new result Means
+finds_row read sql params {old} {new} result Means hall rested unread has cause means =
+    reads_by read sql params result Means hall rested (ReadFails read sql params old new)
     (IsFound read sql params old new)
     (λ found it. (it.records, it.are)) has
-    (find_fault result hall rested read sql params unread twice cause) cause means
+    (read_fault result hall rested read sql params unread cause) cause means
 
 -- a call that is refused
 pub refused : {R : Type 0} {old new : State} (result : Result R StoreFault) (Means : World → R → Type 0)

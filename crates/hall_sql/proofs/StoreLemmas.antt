@@ -19,6 +19,7 @@ use Rattle.hall_sql.specs.Standing.{AreKeyedIn, IsHall, IsOver, IsTabled, KeptTa
 use Rattle.hall_sql.specs.Standing.{KeptRowsIn}
 use Rattle.hall_sql.specs.Content.{content_of}
 use Rattle.hall_sql.proofs.LastLemmas.{follows_leads, last_then, quiet_then}
+use Rattle.hall_sql.proofs.UnreadMarks.{mark_kept}
 
 -- the hall's tables are tables of a schema
 pub over_hall : {Fits : Schema → Type 0} {s : State} → IsHall s
@@ -74,7 +75,7 @@ rested_kept old new rested =
       serves = leads.serves;
       counts = leads.counts;
       lasts = leads.lasts;
-      writes = omega arith;
+      writes = mark_kept old new rested.follows rested.same;
       stops = λ clean left it. (it.0, rested.stops clean it.0 it.1, it.2);
       world = λ clean opens. ap (λ (d : Database). world_of d.trees) (rested.same clean opens);
     }

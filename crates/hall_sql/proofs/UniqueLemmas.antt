@@ -53,7 +53,7 @@ differs a b Less e apart = as_truth (test Ne (value_cmp (Int a) (Int b))) ∙ ap
 differs a b Equal e apart = absurd (apart refl)
 differs a b Greater e apart = as_truth (test Ne (value_cmp (Int a) (Int b))) ∙ ap (test Ne) e
 
-rows_differ : (u v : Value) → is_int u ≡ true → is_int v ≡ true → value_cmp u v ≢ Equal → differ v u ≡ true
+pub rows_differ : (u v : Value) → is_int u ≡ true → is_int v ≡ true → value_cmp u v ≢ Equal → differ v u ≡ true
 rows_differ (Int a) (Int b) p q apart =
     differs b a (value_cmp (Int b) (Int a)) refl (λ tie. apart
     (value_cmp_total.antisymm (Int a) (Int b) ∙ ap ordering_reverse tie))
@@ -70,7 +70,7 @@ pub first_not : (b c : Bool) → not b && c ≡ true → b ≡ false
 first_not true c h = absurd cc
 first_not false c h = refl
 
-both_true : (a b : Bool) → a ≡ true → b ≡ true → a && b ≡ true
+pub both_true : (a b : Bool) → a ≡ true → b ≡ true → a && b ≡ true
 both_true a b p q = rw (p, q)
 
 module _ {K X : Type 0} {R : K → K → Ordering} (total : IsTotalOrder R) (same : IsAntisymmetric R) (key : X → K)

@@ -1,16 +1,19 @@
--- Where a query of the hall's shows a row that is no record, a row of its table is none; and where one by a key shows
--- two rows, two stand under the key.
-use Rattle.std.proofs.Common.{◌≡◌, ◌<◌, inr, ℕ, pos, List, [], ◌∷◌, ◌++◌, map, filter, length, is_some, true, false}
+-- Where a query of the hall's shows a row that is no record, a row of its table is none; and one by a key shows at most
+-- one row.
+use Rattle.std.proofs.Common.{Bool, ◌≡◌, ◌≤◌, inr, ℕ, pos, List, [], ◌∷◌, ◌++◌, map, filter, length, is_some, true, false}
 use Rattle.std.proofs.Common.{Option, Some, None, IsTrue, Contains, refl, sym, ap, subst, ◌∙◌, arith}
 use Rattle.std.proofs.lemmas.List.{length-map}
 use Rattle.std.proofs.lemmas.List.Sorted.{length_permutation}
 use Rattle.std.proofs.lemmas.Option.{slice_get-get_or}
 use Rattle.std.specs.List.{AllByRecursion, list_all}
 use Rattle.sqlite_trees.proofs.ListLemmas.{all-filter, all-map, all-permutation, all-slice_get, all_weaker}
+use Rattle.sqlite_trees.specs.declared.store.Store.{Ghosts}
+use Rattle.sqlite_value.specs.Keys.{first_key}
 use Rattle.sqlite_value.specs.declared.keys.Key.{Key}
 use Rattle.sqlite.specs.declared.types.Value.TheVariants.{Int, Null, Text}
 use Rattle.sqlite.specs.Command.TheVariants.{Select}
-use Rattle.sqlite.specs.Effect.{Database}
+use Rattle.sqlite.specs.Effect.{Database, IsDatabase}
+use Rattle.sqlite.specs.Held.{Held, state}
 use Rattle.sqlite.specs.Listing.{understood, reads_listing}
 use Rattle.sqlite.specs.Order.{Row}
 use Rattle.sqlite.specs.Program.{overlay}
@@ -20,11 +23,12 @@ use Rattle.sqlite.specs.Term.{Term, holds, eval_all}
 use Rattle.sqlite.specs.Tree.{Trees}
 use Rattle.sqlite.proofs.Callers.{IsPlain, command_of, begins_as}
 use Rattle.hall_sql.specs.AllRead.{AreAllRead}
-use Rattle.hall_sql.specs.CanFail.{KeepsTwice}
+use Rattle.hall_sql.specs.Asked.{AsksOne}
 use Rattle.hall_sql.specs.Cause.{IsAnyUnread}
+use Rattle.hall_sql.specs.Inside.{IsHallData}
 use Rattle.hall_sql.specs.Rows.{answer_in, columns_from, person_in, place_in, protest_in, puzzle_row_in, round_in}
 use Rattle.hall_sql.specs.Rows.{tester_in}
-use Rattle.hall_sql.specs.Standing.{IsSelection}
+use Rattle.hall_sql.specs.Standing.{AreKeyed, IsSelection}
 use Rattle.hall_sql.specs.Statements.{equals, plain_query}
 use Rattle.hall_sql.specs.Tables.{IsHallSchema, hall_schema}
 use Rattle.hall_sql.specs.declared.answers.TheConstants.{ALL_ANSWERS, ANSWER, ANSWERS_GIVEN, ANSWERS_IN, ANSWERS_OF}
@@ -33,10 +37,12 @@ use Rattle.hall_sql.specs.declared.people.TheConstants.{ALL_PEOPLE, PERSON, PERS
 use Rattle.hall_sql.specs.declared.protests.TheConstants.{ALL_PROTESTS, PROTEST, PROTESTS_IN, PROTESTS_OF}
 use Rattle.hall_sql.specs.declared.puzzles.TheConstants.{ALL_PUZZLES, PUZZLE, PUZZLES_OF}
 use Rattle.hall_sql.specs.declared.rounds.TheConstants.{ALL_PLACES, ALL_ROUNDS, HEAD, PLACES_OF, PLACES_WITH}
+use Rattle.hall_sql.specs.declared.tables.HallTable.TheVariants.{Answers, People, Protests, Puzzles, Rounds}
 use Rattle.hall_sql.specs.declared.testers.TheConstants.{ALL_TESTERS, TESTERS_OF}
 use Rattle.hall_sql.proofs.AnswerTexts as answers
 use Rattle.hall_sql.proofs.CallLemmas.{answers_selection}
 use Rattle.hall_sql.proofs.HeadTexts.{head_is, id_terms}
+use Rattle.hall_sql.proofs.OneRow.{AreUnique, has_key, one_passes}
 use Rattle.hall_sql.proofs.PeopleTexts.{all_people_are, name_order, person_by_key_is, person_columns, person_is}
 use Rattle.hall_sql.proofs.ProtestTexts as protests
 use Rattle.hall_sql.proofs.PuzzleTexts as puzzles
@@ -45,7 +51,7 @@ use Rattle.hall_sql.proofs.RoundQueries.{places_of_is, places_with_is, puzzle_te
 use Rattle.hall_sql.proofs.RoundTexts.{all_rounds_are, id_order, round_columns}
 use Rattle.hall_sql.proofs.Selections.{selected}
 use Rattle.hall_sql.proofs.TesterTexts as testers
-use Rattle.hall_sql.proofs.Versions.{AsksAll}
+use Rattle.hall_sql.proofs.Versions.{AsksAll, own_keys, unique_in}
 use Rattle.hall_sql.proofs.Wordings.{Wording, hall_in, hall_like, worded}
 
 -- over the tables of a hall, a row that the query shows and that is no record is one of theirs
@@ -61,11 +67,15 @@ BeginsUnread read sql params =
     (old : State) (rows : List Row) → IsHallSchema old.now.schema → Begins sql params old rows → IsAnyUnread read rows
     → ¬ (AreAllRead hall_schema old.now.trees)
 
--- and two that it shows stand under one key
-abbrev pub TellsTwice : List ℕ → Row → Type 1
-TellsTwice sql params =
-    (old new : State) (rows : List Row) → IsHallSchema old.now.schema → Shown sql params old new rows → 1 < length rows
-    → KeepsTwice old.now.trees
+-- over tables of a hall that obey their rules, it shows one row at most
+abbrev pub TellsOne : List ℕ → Row → Type 1
+TellsOne sql params =
+    (old new : State) (rows : List Row) → IsHallData old.now → IsDatabase old.now → Shown sql params old new rows
+    → length rows ≤ 1
+
+-- so it asks for one
+pub asks_one : {S : Type 0} (g : Ghosts S) (sql : List ℕ) (params : Row) → TellsOne sql params → AsksOne g sql params
+asks_one g sql params tells old new rows hall sound shown = tells (state g old) (state g new) rows hall sound shown
 
 -- not each row is a record where one is none
 pub some_unread : {X : Type 0} (read : Row → Option X) (rows : List Row) → IsAnyUnread read rows
@@ -126,16 +136,21 @@ module _ {X : Type 0} (read : Row → Option X) (count tree : ℕ) (sql : List �
       all-front [] rest each = tt
       all-front (r ∷ front) rest each = (each.0, all-front front rest each.1)
 
-  -- as many rows are shown as pass
-  pub as_many : (old new : State) (rows : List Row) → IsHallSchema old.now.schema → Shown sql params old new rows
-      → 1 < length rows
-      → 1 < length (filter (λ row. list_all (holds (params ∷ row ∷ [])) terms) (old.now.trees tree))
-  as_many old new rows has shown many =
-      let sel = selection old new rows has shown in
+  abbrev passes : Row → Bool
+  passes row = list_all (holds (params ∷ row ∷ [])) terms
+
+  -- as many rows are shown as pass: one at most, where they are asked for by a key
+  pub one_shown : (places asked : List ℕ) → ((row : Row) → passes row ≡ has_key places asked params row)
+      → ((db : Database) → IsHallData db → AreKeyed (db.trees tree))
+      → ((db : Database) → IsHallSchema db.schema → IsDatabase db → AreUnique places (db.trees tree))
+      → TellsOne sql params
+  one_shown places asked agrees keyed unique old new rows hall sound shown =
+      let sel = selection old new rows hall.schema shown in
       let same : length rows ≡ length sel.found = ap length sel.shown ∙ length-map sel.found _ in
-      let passed = length_permutation (filter (λ row. list_all (holds (params ∷ row ∷ [])) terms) (old.now.trees tree))
-      sel.found sel.same in
-      omega (arith, many, same, passed)
+      let passed = length_permutation (filter passes (old.now.trees tree)) sel.found sel.same in
+      let few = one_passes places asked params passes agrees (old.now.trees tree) (keyed old.now hall)
+      (unique old.now hall.schema sound) in
+      omega (arith, few, same, passed)
 
 -- all rows of a table
 module _ {X : Type 0} (read : Row → Option X) (count tree : ℕ) (sql : List ℕ) (project : List Term)
@@ -159,15 +174,11 @@ module _ (name : List ℕ) where
       (λ u. (person_is u).1)
       (λ u. (person_is u).2) (λ db. refl) (λ r. refl) (λ trees all. all.0)
 
-  pub person_twice : TellsTwice PERSON.now (Text name ∷ [])
-  person_twice old new rows has shown many = (
-    (0, equals 1 0 ∷ []),
-    (0, omega arith, refl),
-    Text name ∷ [],
-    as_many person_in 3 0 PERSON.now (Text name ∷ []) (equals 1 0 ∷ []) person_columns [] _ (λ u. (person_is u).0)
-        (λ u. (person_is u).1)
-        (λ u. (person_is u).2) (λ db. refl) (λ r. refl) (λ trees all. all.0) old new rows has shown many,
-  )
+  pub person_one : TellsOne PERSON.now (Text name ∷ [])
+  unfolding first_key
+  person_one =
+      one_shown person_in 3 0 PERSON.now (Text name ∷ []) (equals 1 0 ∷ []) person_columns [] _ (λ u. (person_is u).0) (λ u. (person_is u).1) (λ u. (person_is u).2) (λ db. refl) (λ r. refl) (λ trees all. all.0) (1 ∷ []) (0 ∷ []) (λ row. refl)
+      (λ db hall. hall.keyed.0) (λ db has sound. unique_in db.schema People db.trees (inr has) sound)
 
   pub person_by_key_unread : TellsUnread person_in PERSON_BY_KEY.now (Text name ∷ [])
   person_by_key_unread =
@@ -175,16 +186,11 @@ module _ (name : List ℕ) where
       (λ u. (person_by_key_is u).0)
       (λ u. (person_by_key_is u).1) (λ u. (person_by_key_is u).2) (λ db. refl) (λ r. refl) (λ trees all. all.0)
 
-  pub person_by_key_twice : TellsTwice PERSON_BY_KEY.now (Text name ∷ [])
-  person_by_key_twice old new rows has shown many = (
-    (0, equals 2 0 ∷ []),
-    (1, omega arith, refl),
-    Text name ∷ [],
-    as_many person_in 3 0 PERSON_BY_KEY.now (Text name ∷ []) (equals 2 0 ∷ []) person_columns [] _
-        (λ u. (person_by_key_is u).0)
-        (λ u. (person_by_key_is u).1) (λ u. (person_by_key_is u).2) (λ db. refl) (λ r. refl) (λ trees all. all.0) old
-        new rows has shown many,
-  )
+  pub person_by_key_one : TellsOne PERSON_BY_KEY.now (Text name ∷ [])
+  unfolding first_key
+  person_by_key_one =
+      one_shown person_in 3 0 PERSON_BY_KEY.now (Text name ∷ []) (equals 2 0 ∷ []) person_columns [] _ (λ u. (person_by_key_is u).0) (λ u. (person_by_key_is u).1) (λ u. (person_by_key_is u).2) (λ db. refl) (λ r. refl) (λ trees all. all.0) (2 ∷ []) (0 ∷ []) (λ row. refl)
+      (λ db hall. hall.keyed.0) (λ db has sound. own_keys db.schema db.trees has sound)
 
 pub people_unread : TellsUnread person_in ALL_PEOPLE.now []
 people_unread =
@@ -201,16 +207,11 @@ module _ (author label : List ℕ) where
       (λ u. (puzzles.puzzle_is u).0) (λ u. (puzzles.puzzle_is u).1) (λ u. (puzzles.puzzle_is u).2) (λ db. refl)
       (λ r. refl) (λ trees all. all.1.0)
 
-  pub puzzle_twice : TellsTwice PUZZLE.now (Text author ∷ Text label ∷ [])
-  puzzle_twice old new rows has shown many = (
-    (3, puzzles.key_terms),
-    (2, omega arith, refl),
-    Text author ∷ Text label ∷ [],
-    as_many puzzle_row_in 5 3 PUZZLE.now (Text author ∷ Text label ∷ []) puzzles.key_terms puzzles.puzzle_columns [] _
-        (λ u. (puzzles.puzzle_is u).0) (λ u. (puzzles.puzzle_is u).1) (λ u. (puzzles.puzzle_is u).2) (λ db. refl)
-        (λ r. refl)
-        (λ trees all. all.1.0) old new rows has shown many,
-  )
+  pub puzzle_one : TellsOne PUZZLE.now (Text author ∷ Text label ∷ [])
+  unfolding first_key
+  puzzle_one =
+      one_shown puzzle_row_in 5 3 PUZZLE.now (Text author ∷ Text label ∷ []) puzzles.key_terms puzzles.puzzle_columns [] _ (λ u. (puzzles.puzzle_is u).0) (λ u. (puzzles.puzzle_is u).1) (λ u. (puzzles.puzzle_is u).2) (λ db. refl) (λ r. refl) (λ trees all. all.1.0) (1 ∷ 2 ∷ []) (0 ∷ 1 ∷ []) (λ row. refl)
+      (λ db hall. hall.keyed.1.0) (λ db has sound. unique_in db.schema Puzzles db.trees (inr has) sound)
 
 pub puzzles_of_unread : (author : List ℕ) → TellsUnread puzzle_row_in PUZZLES_OF.now (Text author ∷ [])
 puzzles_of_unread author =
@@ -234,15 +235,11 @@ module _ (id : List ℕ) where
       (λ u. (head_is u).2)
       (λ db. refl) (λ r. refl) (λ trees all. all.1.1.0)
 
-  pub head_twice : TellsTwice HEAD.now (Text id ∷ [])
-  head_twice old new rows has shown many = (
-    (5, id_terms),
-    (3, omega arith, refl),
-    Text id ∷ [],
-    as_many round_in 10 5 HEAD.now (Text id ∷ []) id_terms round_columns [] _ (λ u. (head_is u).0) (λ u. (head_is u).1)
-        (λ u. (head_is u).2)
-        (λ db. refl) (λ r. refl) (λ trees all. all.1.1.0) old new rows has shown many,
-  )
+  pub head_one : TellsOne HEAD.now (Text id ∷ [])
+  unfolding first_key
+  head_one =
+      one_shown round_in 10 5 HEAD.now (Text id ∷ []) id_terms round_columns [] _ (λ u. (head_is u).0) (λ u. (head_is u).1) (λ u. (head_is u).2) (λ db. refl) (λ r. refl) (λ trees all. all.1.1.0) (1 ∷ []) (0 ∷ []) (λ row. refl)
+      (λ db hall. hall.keyed.1.1.0) (λ db has sound. unique_in db.schema Rounds db.trees (inr has) sound)
 
   pub places_of_unread : TellsUnread place_in PLACES_OF.now (Text id ∷ [])
   places_of_unread =
@@ -293,17 +290,11 @@ module _ (entrant round : List ℕ) (number : ℕ) (token : List ℕ) where
       (λ r. refl)
       (λ trees all. all.1.1.1.1.0)
 
-  pub answer_twice : TellsTwice ANSWER.now (Text entrant ∷ Text round ∷ Int (pos number) ∷ Text token ∷ [])
-  answer_twice old new rows has shown many = (
-    (9, answers.key_terms),
-    (4, omega arith, refl),
-    Text entrant ∷ Text round ∷ Int (pos number) ∷ Text token ∷ [],
-    as_many answer_in 8 9 ANSWER.now (Text entrant ∷ Text round ∷ Int (pos number) ∷ Text token ∷ []) answers.key_terms
-        answers.answer_columns []
-        _ (λ u. (answers.answer_is u).0) (λ u. (answers.answer_is u).1) (λ u. (answers.answer_is u).2) (λ db. refl)
-        (λ r. refl)
-        (λ trees all. all.1.1.1.1.0) old new rows has shown many,
-  )
+  pub answer_one : TellsOne ANSWER.now (Text entrant ∷ Text round ∷ Int (pos number) ∷ Text token ∷ [])
+  unfolding first_key
+  answer_one =
+      one_shown answer_in 8 9 ANSWER.now (Text entrant ∷ Text round ∷ Int (pos number) ∷ Text token ∷ []) answers.key_terms answers.answer_columns [] _ (λ u. (answers.answer_is u).0) (λ u. (answers.answer_is u).1) (λ u. (answers.answer_is u).2) (λ db. refl) (λ r. refl) (λ trees all. all.1.1.1.1.0) (1 ∷ 2 ∷ 3 ∷ 4 ∷ []) (0 ∷ 1 ∷ 2 ∷ 3 ∷ []) (λ row. refl)
+      (λ db hall. hall.keyed.1.1.1.1.0) (λ db has sound. unique_in db.schema Answers db.trees (inr has) sound)
 
 module _ (entrant round : List ℕ) (number : ℕ) where
   pub answers_given_unread : TellsUnread answer_in ANSWERS_GIVEN.now (Text entrant ∷ Text round ∷ Int (pos number) ∷ [])
@@ -363,17 +354,11 @@ module _ (entrant round token : List ℕ) where
       (λ r. refl)
       (λ trees all. all.1.1.1.1.1.0)
 
-  pub protest_twice : TellsTwice PROTEST.now (Text entrant ∷ Text round ∷ Text token ∷ [])
-  protest_twice old new rows has shown many = (
-    (12, protests.key_terms),
-    (5, omega arith, refl),
-    Text entrant ∷ Text round ∷ Text token ∷ [],
-    as_many protest_in 7 12 PROTEST.now (Text entrant ∷ Text round ∷ Text token ∷ []) protests.key_terms
-        protests.protest_columns [] _
-        (λ u. (protests.protest_is u).0) (λ u. (protests.protest_is u).1) (λ u. (protests.protest_is u).2) (λ db. refl)
-        (λ r. refl)
-        (λ trees all. all.1.1.1.1.1.0) old new rows has shown many,
-  )
+  pub protest_one : TellsOne PROTEST.now (Text entrant ∷ Text round ∷ Text token ∷ [])
+  unfolding first_key
+  protest_one =
+      one_shown protest_in 7 12 PROTEST.now (Text entrant ∷ Text round ∷ Text token ∷ []) protests.key_terms protests.protest_columns [] _ (λ u. (protests.protest_is u).0) (λ u. (protests.protest_is u).1) (λ u. (protests.protest_is u).2) (λ db. refl) (λ r. refl) (λ trees all. all.1.1.1.1.1.0) (1 ∷ 2 ∷ 3 ∷ []) (0 ∷ 1 ∷ 2 ∷ []) (λ row. refl)
+      (λ db hall. hall.keyed.1.1.1.1.1.0) (λ db has sound. unique_in db.schema Protests db.trees (inr has) sound)
 
 pub protests_of_unread : (entrant round : List ℕ) → TellsUnread protest_in PROTESTS_OF.now
     (Text entrant ∷ Text round ∷ [])

@@ -1,13 +1,14 @@
 -- What is said of the hall's tables of either version.
 use Rattle.std.proofs.Common.{◌≡◌, inl, inr, ℕ, List, [], ◌∷◌, flat_map, map, Bool, true, false, ◌&&◌, Option, Some}
 use Rattle.std.proofs.Common.{option_to_list, IsTrue, Result, IfOk, refl, ◌∙◌}
+use Rattle.std.proofs.lemmas.Bool.{and_parts}
 use Rattle.std.specs.Cmp.{IsTotalOrder}
 use Rattle.std.specs.declared.cmp.Ordering.{Ordering}
 use Rattle.std.specs.FinMap.{IsAntisymmetric, values}
 use Rattle.std.specs.List.{AllByRecursion, list_any}
 use Rattle.std.specs.List.Sorted.{IsPermutation}
 use Rattle.sqlite_schema.specs.declared.schema.Constraint.TheVariants.{Unique}
-use Rattle.sqlite_schema.specs.Rules.{agree, differ, passes}
+use Rattle.sqlite_schema.specs.Rules.{agree, clashes, differ, passes}
 use Rattle.sqlite_trees.proofs.ListLemmas.{all_weaker, filter_all, all_of}
 use Rattle.sqlite_trees.specs.Tree.{rowid}
 use Rattle.sqlite_value.specs.Keys.{plain}
@@ -135,6 +136,17 @@ unique_in schema Protests trees =
 unique_in schema Testers trees =
     by_hall (IsUnique Testers trees) (λ u d. from_rule (hall_in u) Testers trees (λ row h. first_not _ _ h)
     (d.obeys.rules Unique).1.1.1.1.1.1.0) schema
+
+-- nor do two people of a hall have one key
+abbrev HasOwnKeys : Trees → Schema → Type 0
+HasOwnKeys trees schema =
+    IsDatabase (record { schema = schema; trees = trees })
+    → AllByRecursion (λ row. clashes plain (2 ∷ []) (trees 0) row ≡ false) (trees 0)
+
+pub own_keys : (schema : Schema) (trees : Trees) → IsHallSchema schema → HasOwnKeys trees schema
+own_keys schema trees =
+    by_hall (HasOwnKeys trees) (λ u d. all_weaker _ _ (λ row h. first_not _ _ (and_parts _ _ h).1) (trees 0)
+    (d.obeys.rules Unique).0) schema
 
 -- What is computed of a text over a schema: it asks for all rows of the table in this tree, in this order.
 pub record AsksAll (text : List ℕ) (tree : ℕ) (project : List Term) (order : List (Term × Key)) (names : List (List ℕ))

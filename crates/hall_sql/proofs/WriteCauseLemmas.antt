@@ -14,7 +14,7 @@ use Rattle.sqlite.specs.declared.error.Error.TheVariants.{SqliteFailure}
 use Rattle.sqlite.specs.Order.{Row}
 use Rattle.sqlite.specs.Does.{Does}
 use Rattle.sqlite.specs.Listing.{understood}
-use Rattle.sqlite.specs.State.{State, HasCleanDisk, IsMisplaced, Escapes, EndsScope, RunsCommand, Executes, ExecutesIn}
+use Rattle.sqlite.specs.State.{IsLive, State, HasCleanDisk, IsMisplaced, Escapes, EndsScope, RunsCommand, Executes, ExecutesIn}
 use Rattle.sqlite.specs.State.{mode_of, text_of, is_pragma, shows_rows}
 use Rattle.sqlite.specs.Steps.{FailsToCommit}
 use Rattle.sqlite.proofs.Callers.{IsPlain, command_of, statement_of}
@@ -37,11 +37,12 @@ use Rattle.hall_grid.specs.Canonical.{CanonicalText}
 use Rattle.hall_policy.specs.declared.record.PuzzleRow.{PuzzleRow}
 use Rattle.hall_policy.specs.declared.record.Round.{Round}
 use Rattle.hall_sql.specs.Columns.{HasSoMany, puzzle_params, stands_under}
-use Rattle.hall_sql.specs.RoundColumns.{head_params}
+use Rattle.hall_sql.specs.RoundColumns.{head_params, HasSoManyHeads}
 use Rattle.hall_sql.specs.RoundPuts.{CountsHeads}
 use Rattle.hall_sql.specs.declared.puzzles.TheConstants.{ADD_PUZZLE, REPLACE_PUZZLE}
 use Rattle.hall_sql.specs.declared.round_writes.TheConstants.{ADD_HEAD, REPLACE_HEAD}
 use Rattle.hall_sql.proofs.EachLemmas.{next_item}
+use Rattle.hall_sql.proofs.OneRow.{one_head, one_puzzle}
 use Rattle.hall_sql.specs.WriteCause.{PuzzleIsRefused, PutPuzzleFails, HeadIsRefused, IsHeadRefused, IsEdit, IsWritten}
 use Rattle.hall_sql.specs.WriteCause.{IsWrittenIn, enforced, IsStatementRefused, RunFails, Refuses, RefusesInside}
 use Rattle.hall_sql.specs.WriteCause.{RefusesToAsk, IsUnderWay, InsideFails}
@@ -219,7 +220,12 @@ run_served sql params a b c before opens same (inr refused) = inr (subst (IsStat
 -- a transaction goes on over the hall's tables
 pub goes_on : (a b : State) → IsUnderWay a → LeadsConnection a b → KeptTransaction a b → IsUnderWay b
 goes_on a b goes lasts steps =
-    record { mode = steps.mode; unlimited = lasts.limit ∙ goes.unlimited; hall = steps.hall goes.hall }
+    record {
+      mode = steps.mode;
+      unlimited = lasts.limit ∙ goes.unlimited;
+      hall = steps.hall goes.hall;
+      sound = steps.sound goes.hall goes.sound;
+    }
 
 -- ---- several calls
 
@@ -313,11 +319,24 @@ over_refused row text count a b is one (inl cause) = inl cause
 over_refused row text count a b is one (inr refused) = inr (subst (λ n. PuzzleIsRefused row n a.now) (sym one)
     (text, is, refused))
 
-pub many_refused : (row : PuzzleRow) (count : ℕ) (db : Database) → ¬ (count ≡ 0) → ¬ (count ≡ 1)
-    → PuzzleIsRefused row count db
-many_refused row zero db some more = absurd (some refl)
-many_refused row (suc zero) db some more = absurd (more refl)
-many_refused row (suc (suc n)) db some more = tt
+never_many : (count : ℕ) → count ≤ 1 → ¬ (count ≡ 0) → ¬ (count ≡ 1) → ⊥
+never_many zero few some more = some refl
+never_many (suc zero) few some more = more refl
+never_many (suc (suc n)) few some more = omega (arith, few)
+
+-- where neither none nor one stands under the key, the cause lies in the store: it is shut
+pub many_refused : {Why : Type 0} (row : PuzzleRow) (count : ℕ) (s : State) → IsHall s → IsLive s → HasCleanDisk s
+    → HasSoMany row.key s count
+    → ¬ (count ≡ 0) → ¬ (count ≡ 1) → IsStoreCause s s ⊎ Why
+many_refused row count s hall live clean many some more = elim (cases_Bool s.is_open) [
+  | inl opens ↦
+      let ours : IsHallData s.now = record {
+        schema = (hall.settled clean opens).1;
+        keyed = hall.keyed clean opens;
+      } in
+      absurd (never_many count (subst (λ n. n ≤ 1) many (one_puzzle row.key s.now ours (live opens).0)) some more)
+  | inr shut ↦ inl (inr shut)
+]
 
 pub puzzle_found : (row : PuzzleRow) (count : ℕ) (a b c : State) → a.faults ≤ b.faults → IsTrue b.is_open
     → b.now ≡ a.now
@@ -348,11 +367,11 @@ pub over_head : (round : Round) (count : ℕ) (a b : State) → count ≡ 1 → 
 over_head round count a b one (inl cause) = inl cause
 over_head round count a b one (inr refused) = inr (subst (λ n. HeadIsRefused round n a.now) (sym one) refused)
 
-pub many_heads : (round : Round) (count : ℕ) (db : Database) → ¬ (count ≡ 0) → ¬ (count ≡ 1)
-    → HeadIsRefused round count db
-many_heads round zero db some more = absurd (some refl)
-many_heads round (suc zero) db some more = absurd (more refl)
-many_heads round (suc (suc n)) db some more = tt
+-- neither none nor one stands under the id: that is never so
+pub many_heads : (id : List ℕ) (count : ℕ) (s : State) → IsUnderWay s → HasSoManyHeads id s.now count → ¬ (count ≡ 0)
+    → ¬ (count ≡ 1) → ⊥
+many_heads id count s goes many some more =
+    never_many count (subst (λ n. n ≤ 1) many (one_head id s.now goes.hall goes.sound)) some more
 
 pub head_found : (round : Round) (count : ℕ) (a b c : State) → LeadsConnection a b → HasCleanDisk b
     → LeadsConnection b c → CountsHeads round.id count a.now b.now
@@ -369,16 +388,16 @@ module _ {S : Type 0} (g : Ghosts S) (held : Held S) (hall : IsHall (state g hel
   base = state g (record held { in_transaction = true })
 
   -- what was refused inside it was rolled back
-  pub whole_cause : {Refused : Type 0} (mid end : State) → HasCleanDisk (state g held) → LeadsConnection mid end
+  pub whole_cause : {Refused : Type 0} → IsLive (state g held) → (mid end : State) → HasCleanDisk (state g held) → LeadsConnection mid end
       → (IsUnderWay base → IsStoreCause base mid ⊎ Refused) → IsStoreCause (state g held) end ⊎ Refused
-  whole_cause mid end clean lasts why = elim (cases_Bool (state g held).is_open) [
+  whole_cause live mid end clean lasts why = elim (cases_Bool (state g held).is_open) [
     | inl opens ↦
         let ours : IsHallData base.now = record {
           schema = (hall.settled clean opens).1;
           keyed = hall.keyed clean
               opens;
         } in
-        elim (why (record { mode = refl; unlimited = hall.unlimited; hall = ours })) [
+        elim (why (record { mode = refl; unlimited = hall.unlimited; hall = ours; sound = (live opens).0 })) [
           | inl cause ↦ inl (cause_later base mid end lasts cause)
           | inr refused ↦ inr refused
         ]

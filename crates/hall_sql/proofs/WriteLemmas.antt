@@ -24,6 +24,7 @@ use Rattle.hall_store.proofs.Knowing.{leads_then}
 use Rattle.hall_sql.proofs.LastLemmas.{follows_leads}
 use Rattle.hall_sql.proofs.SparedLemmas.{same_spared}
 use Rattle.hall_sql.proofs.StoreLemmas.{opens_hall, rested_stayed, stays_on}
+use Rattle.hall_sql.proofs.UnreadMarks.{mark_once}
 
 -- a write outside a transaction is committed
 pub writes_hall : (old new : State) (command : Command) (text : List ℕ) (given : Row) (count : ℕ)
@@ -74,7 +75,7 @@ made_wrote change old new done hall lasts stops made =
           counts = lasts.counts;
           lasts = λ clean opens. inl (it clean).serves;
         };
-        once = omega arith;
+        once = mark_once old new;
         stops = stops_at change old new stops;
         made = λ clean. ((it clean).serves, (it clean).world);
       };
@@ -89,7 +90,7 @@ stayed_wrote change old new fault stops rested = record {
   hall = rested.tabled;
   makes = record {
     leads = follows_leads old new rested.follows;
-    once = omega arith;
+    once = mark_once old new;
     stops = stops_at change old new stops;
     made = λ clean opens. ap (λ (d : Database). world_of d.trees) (rested.same clean opens);
   };
@@ -123,7 +124,7 @@ rested_then {R} {E} change old mid new result rested serves wrote =
       makes = record {
         leads = leads_then (content_of old) (content_of mid) (content_of new) (follows_leads old mid rested.follows)
             wrote.makes.leads;
-        once = omega arith;
+        once = mark_once old new;
         stops = λ opens clean left it. elim (wrote.makes.stops (serves (before clean)) clean left it) [
           | inl earlier ↦ inl (earlier.0, rested.stops (before clean) earlier.0 earlier.1, earlier.2)
           | inr made ↦ inr (opens, made.1 ∙ ap (changed change) (world clean))
@@ -154,7 +155,7 @@ rested_made change old new done rested serves nothing = record {
   hall = rested.tabled;
   makes = record {
     leads = follows_leads old new rested.follows;
-    once = omega arith;
+    once = mark_once old new;
     stops = stops_at change old new (no_stops change old new rested.stops);
     made = λ clean.
         let world = ap (λ (d : Database). world_of d.trees) (rested.same clean (serves clean)) in
@@ -174,7 +175,7 @@ wrote_too {R} {E} change other old new result same wrote = record {
   hall = wrote.hall;
   makes = record {
     leads = wrote.makes.leads;
-    once = omega arith;
+    once = mark_once old new;
     stops = λ opens clean left it. elim (wrote.makes.stops opens clean left it) [
       | inl earlier ↦ inl earlier
       | inr made ↦ inr (opens, made.1 ∙ (same (wrote.makes.leads.honest clean)).0)

@@ -1,6 +1,6 @@
 -- Tables of which each row is a record.
 use Rattle.std.specs.Prelude.{◌==◌, ℕ, Bool, IsTrue, is_some, if◌then◌else◌}
-use Rattle.std.specs.List.{AllByRecursion}
+use Rattle.std.specs.List.{AllByRecursion, list_all}
 use Rattle.sqlite.specs.Effect.{Database}
 use Rattle.sqlite.specs.Order.{Row}
 use Rattle.sqlite.specs.Schema.{Schema}
@@ -27,6 +27,10 @@ IsRead trees tree = AllByRecursion (λ row. IsTrue (is_record tree row)) (trees 
 -- each row of each table of the schema is a record
 abbrev pub AreAllRead : Schema → Trees → Type 0
 AreAllRead schema trees = AllByRecursion (λ table. IsRead trees table.tree) schema.tables
+
+-- so it is, as a test
+abbrev pub are_all_read : Schema → Trees → Bool
+are_all_read schema trees = list_all (λ table. list_all (is_record table.tree) (trees table.tree)) schema.tables
 
 -- where each row of the hall's tables was a record, each is one still
 abbrev pub StaysRead : Database → Database → Type 0

@@ -1,7 +1,11 @@
 -- The text of a query that is refused for no cause of its own.
-use Rattle.std.specs.Prelude.{◌≡◌, ◌&&◌, ℕ, Bool, true, false, List, [], length, nat_le, nat_eq, Result, Ok, Err, None}
+use Rattle.std.specs.Prelude.{◌≡◌, ◌≤◌, ◌&&◌, ℕ, Bool, true, false, List, [], length, nat_le, nat_eq, Result, Ok, Err, None}
+use Rattle.sqlite_trees.specs.declared.store.Store.{Ghosts}
+use Rattle.sqlite.specs.Effect.{IsDatabase}
+use Rattle.sqlite.specs.Held.{Held, state}
 use Rattle.sqlite.specs.Order.{Row}
 use Rattle.sqlite.specs.Schema.{Schema}
+use Rattle.sqlite.specs.State.{Shown}
 use Rattle.sqlite.specs.Tree.{Trees}
 use Rattle.sqlite.specs.Given.{IsPlain}
 use Rattle.sqlite.specs.Listing.{understood, reads_listing}
@@ -13,6 +17,7 @@ use Rattle.sqlite_sql.specs.Program.{ProgramOverflows}
 use Rattle.sqlite_typing.specs.Types.{accepts_program}
 use Rattle.sqlite_resolve.specs.declared.compiled.Compiled.{Compiled}
 use Rattle.sqlite_resolve.specs.declared.error.CompileError.{CompileError}
+use Rattle.hall_sql.specs.Inside.{IsHallData}
 use Rattle.hall_sql.specs.Tables.{IsHallSchema}
 
 -- it has no RETURNING
@@ -46,3 +51,9 @@ pub record IsAskedIn (sql : List ℕ) (params : Row) (schema : Schema) : Type 0 
 -- over the tables of a hall, also where another made them, the text is one query that may be asked
 abbrev pub IsAsked : List ℕ → Row → Type 0
 IsAsked sql params = (schema : Schema) → IsHallSchema schema → IsAskedIn sql params schema
+
+-- over a hall's tables that obey their rules, the query answers one row at most
+abbrev pub AsksOne : {S : Type 0} → Ghosts S → List ℕ → Row → Type 0
+AsksOne {S} g sql params =
+    (old new : Held S) (rows : List Row) → IsHallData (state g old).now → IsDatabase (state g old).now
+    → Shown sql params (state g old) (state g new) rows → length rows ≤ 1

@@ -1,12 +1,11 @@
 -- Why a connection may refuse a call, other than out of memory: as its state alone tells.
-use Rattle.std.specs.Prelude.{◌≡◌, ◌⊎◌, ◌<◌, ◌+◌, ℕ, false, List, [], ◌∷◌, All, Contains, drop, take, length, Some}
-use Rattle.std.specs.List.{filter, list_all}
+use Rattle.std.specs.Prelude.{◌≡◌, ◌⊎◌, ◌<◌, ◌+◌, ℕ, false, List, ◌∷◌, drop, take, length, Some}
+use Rattle.std.specs.List.{filter}
 use Rattle.std.specs.FinMap.{get}
 use Rattle.sqlite.specs.Effect.{Database}
-use Rattle.sqlite.specs.Order.{Row}
 use Rattle.sqlite.specs.State.{State, HasCleanDisk}
-use Rattle.sqlite.specs.Term.{Term, holds}
 use Rattle.sqlite.specs.Tree.{Trees}
+use Rattle.hall_policy.specs.World.{World}
 use Rattle.hall_policy.specs.declared.record.Person.{Person}
 use Rattle.hall_policy.specs.declared.record.ProtestRow.{ProtestRow}
 use Rattle.hall_policy.specs.declared.record.PuzzleRow.{PuzzleRow}
@@ -22,7 +21,6 @@ use Rattle.hall_sql.specs.Columns.{answer_params, person_params, protest_params,
 use Rattle.hall_sql.specs.Inside.{IsHallData}
 use Rattle.hall_sql.specs.RoundColumns.{head_params}
 use Rattle.hall_sql.specs.Rows.{world_of}
-use Rattle.hall_sql.specs.Statements.{equals}
 use Rattle.hall_sql.specs.Tables.{hall_schema}
 use Rattle.hall_sql.specs.WriteCause.{IsStatementRefused, PuzzleIsRefused, IsHeadRefused, RestIsRefused, IsUnknown}
 use Rattle.hall_sql.specs.WriteCause.{ImportsEach}
@@ -33,28 +31,13 @@ use Rattle.hall_sql.specs.declared.round_writes.TheConstants.{REPLACE_HEAD}
 
 -- ---- what is kept
 
--- By what a row is looked up, and in which table's tree: a person by name and by key, a puzzle by author and label, a
--- round by id, an answer by entrant, round, number and token, a protest by entrant, round and token.
-abbrev pub lookups : List (ℕ × List Term)
-lookups =
-    (0, equals 1 0 ∷ [])
-    ∷ (0, equals 2 0 ∷ [])
-    ∷ (3, equals 1 0 ∷ equals 2 1 ∷ [])
-    ∷ (5, equals 1 0 ∷ [])
-    ∷ (9, equals 1 0 ∷ equals 2 1 ∷ equals 3 2 ∷ equals 4 3 ∷ [])
-    ∷ (12, equals 1 0 ∷ equals 2 1 ∷ equals 3 2 ∷ []) ∷ []
+-- what the world keeps under a round's id is no round with its lists
+abbrev pub KeepsNoRound : World → Type 0
+KeepsNoRound world = (id : List ℕ) × HasNoRound world id
 
--- two rows of a table stand under one key, as SQL compares
-abbrev pub KeepsTwice : Trees → Type 0
-KeepsTwice trees =
-    (lookup : ℕ × List Term) × Contains lookups lookup × (key : Row)
-    × (1 < length (filter (λ row. list_all (holds (key ∷ row ∷ [])) lookup.1) (trees lookup.0)))
-
--- What the tables keep is no world: a row is no record, or two rows stand under one key, or what is kept under a
--- round's id is no round with its lists.
+-- What the tables keep is no world: a row is no record, or what is kept under a round's id is no round with its lists.
 abbrev pub KeepsNoWorld : Trees → Type 0
-KeepsNoWorld trees =
-    (¬ (AreAllRead hall_schema trees)) ⊎ (KeepsTwice trees ⊎ ((id : List ℕ) × HasNoRound (world_of trees) id))
+KeepsNoWorld trees = (¬ (AreAllRead hall_schema trees)) ⊎ KeepsNoRound (world_of trees)
 
 -- ---- what is refused
 

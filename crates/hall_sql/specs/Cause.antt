@@ -1,5 +1,5 @@
 -- Why a read of the tables answers that it failed.
-use Rattle.std.specs.Prelude.{◌≡◌, ◌≢◌, ◌⊎◌, ◌<◌, ◌≤◌, ◌∷◌, ◌++◌, ℕ, false, List, [], length, map, slice_get}
+use Rattle.std.specs.Prelude.{◌≡◌, ◌≢◌, ◌⊎◌, ◌≤◌, ◌∷◌, ◌++◌, ℕ, false, List, [], length, map, slice_get}
 use Rattle.std.specs.Prelude.{Contains, IsTrue, Option, Some, None}
 use Rattle.sqlite.specs.declared.types.Value.TheVariants.{Text}
 use Rattle.sqlite.specs.Order.{Row}
@@ -32,11 +32,6 @@ abbrev pub ReadFails : {X : Type 0} → (Row → Option X) → List ℕ → Row 
 ReadFails read sql params old new =
     IsStoreCause old new ⊎ ((rows : List Row) × Shown sql params old new rows × IsAnyUnread read rows)
 
--- Why a read of at most one row fails: so, or the query answers more than one.
-abbrev pub FindFails : {X : Type 0} → (Row → Option X) → List ℕ → Row → State → State → Type 0
-FindFails read sql params old new =
-    ReadFails read sql params old new ⊎ ((rows : List Row) × Shown sql params old new rows × (1 < length rows))
-
 -- what was found, the places and the testers' names make no round with its lists: there are places and no round, or
 -- they are not numbered from 1 on, or the puzzles there are no list of a round, or the names are no list of testers
 abbrev pub AreNoRound : Option Round → List (PlaceKey × Entry) → List (List ℕ) → Type 0
@@ -52,7 +47,7 @@ HasNoRound world id = (¬ IsRoundKept world id None) × (¬ HasWholeList world i
 -- right.
 abbrev pub RoundFails : List ℕ → State → State → Type 0
 RoundFails id old new =
-    FindFails round_in HEAD.now (Text id ∷ []) old new
+    ReadFails round_in HEAD.now (Text id ∷ []) old new
     ⊎ (ReadFails place_in PLACES_OF.now (Text id ∷ []) old new
     ⊎ (ReadFails tester_in TESTERS_OF.now (Text id ∷ []) old new ⊎ HasNoRound (world_of old.now.trees) id))
 

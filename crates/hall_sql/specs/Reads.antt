@@ -6,7 +6,7 @@ use Rattle.hall_policy.specs.World.{World}
 use Rattle.hall_store.specs.Store.{Kept, Served, Fails}
 use Rattle.hall_store.specs.declared.fault.StoreFault.{StoreFault}
 use Rattle.hall_sql.specs.CanFail.{CanFail}
-use Rattle.hall_sql.specs.Cause.{FindFails, ReadFails}
+use Rattle.hall_sql.specs.Cause.{ReadFails}
 use Rattle.hall_sql.specs.Content.{content_of}
 use Rattle.hall_sql.specs.Standing.{KeptAnyTables, KeptTables}
 use Rattle.hall_sql.specs.Whole.{AreRecords}
@@ -22,17 +22,11 @@ pub record Reads {R : Type 0} (old new : State) (result : Result R StoreFault) (
   pub whole : HasCleanDisk new → IfOk result (λ _. Whole)
   pub cause : HasCleanDisk new → Fails Why result
 
--- a read of all rows that a query answers
+-- a read of all rows that a query answers, or of the one, if any, where it answers no more
 abbrev pub ReadsRows : {X R : Type 0} → (Row → Option X) → List ℕ → Row → State → State → Result R StoreFault →
     (World → R → Type 0) → Type 0
 ReadsRows read sql params old new result Means =
     Reads old new result Means (AreRecords read sql params old new) (ReadFails read sql params old new)
-
--- a read of the one row that a query answers, if any
-abbrev pub FindsRow : {X R : Type 0} → (Row → Option X) → List ℕ → Row → State → State → Result R StoreFault →
-    (World → R → Type 0) → Type 0
-FindsRow read sql params old new result Means =
-    Reads old new result Means (AreRecords read sql params old new) (FindFails read sql params old new)
 
 -- A read of a whole table, over the tables of either version.
 pub record ReadsTable {X R : Type 0} (read : Row → Option X) (sql : List ℕ) (old new : State)

@@ -13,7 +13,7 @@ use Rattle.sqlite.specs.declared.error.Error.TheVariants.{SqliteFailure}
 use Rattle.sqlite.specs.declared.error.ErrorCode.TheVariants.{OutOfMemory}
 use Rattle.sqlite.specs.declared.types.Value.TheVariants.{Text}
 use Rattle.sqlite.specs.Does.{Does}
-use Rattle.sqlite.specs.Effect.{Database}
+use Rattle.sqlite.specs.Effect.{Database, IsDatabase}
 use Rattle.sqlite.specs.Given.{IsPlain}
 use Rattle.sqlite.specs.Held.{Held, state}
 use Rattle.sqlite.specs.Listing.{understood}
@@ -37,7 +37,7 @@ use Rattle.hall_store.specs.Store.{Fails}
 use Rattle.hall_store.specs.declared.change.RoundFlag.{RoundFlag}
 use Rattle.hall_store.specs.declared.fault.StoreFault.{StoreFault}
 use Rattle.hall_sql.specs.Asked.{is_whole}
-use Rattle.hall_sql.specs.Cause.{IsStoreCause, IsAnyUnread, FindFails}
+use Rattle.hall_sql.specs.Cause.{IsStoreCause, IsAnyUnread, ReadFails}
 use Rattle.hall_sql.specs.Columns.{person_params, puzzle_params, ruling_params, HasSoMany}
 use Rattle.hall_sql.specs.Inside.{IsHallData}
 use Rattle.hall_sql.specs.RoundColumns.{head_params, place_params, tester_params, HasSoManyHeads}
@@ -112,14 +112,14 @@ RefusesToAsk sql params old new =
 
 -- ---- puzzles
 
--- the statement that puts a puzzle, as its canonical text, where so many rows stand under its key is refused, or there
--- are more than one
+-- the statement that puts a puzzle, as its canonical text, where so many rows stand under its key is refused; more than
+-- one never do
 abbrev pub PuzzleIsRefused : PuzzleRow → ℕ → Database → Type 0
 PuzzleIsRefused row zero db =
     (text : List ℕ) × CanonicalText text row.puzzle × IsStatementRefused ADD_PUZZLE.now (puzzle_params text row) db
 PuzzleIsRefused row (suc zero) db =
     (text : List ℕ) × CanonicalText text row.puzzle × IsStatementRefused REPLACE_PUZZLE.now (puzzle_params text row) db
-PuzzleIsRefused row (suc (suc more)) db = Unit
+PuzzleIsRefused row (suc (suc more)) db = ⊥
 
 -- why a put of a puzzle fails
 abbrev pub PutPuzzleFails : PuzzleRow → State → State → Type 0
@@ -129,7 +129,7 @@ PutPuzzleFails row old new =
 -- Why a puzzle's state isn't set: the puzzle can't be read, or it can't be put in that state.
 abbrev pub SetStateFails : PuzzleKey → PuzzleState → State → State → Type 0
 SetStateFails key known old new =
-    FindFails puzzle_row_in PUZZLE.now (Text key.author ∷ Text key.label ∷ []) old new
+    ReadFails puzzle_row_in PUZZLE.now (Text key.author ∷ Text key.label ∷ []) old new
     ⊎ ((row : PuzzleRow) × (get (world_of old.now.trees).puzzles key ≡ Some row)
     × PutPuzzleFails (record row { state = known }) old new)
 
@@ -138,7 +138,7 @@ SetStateFails key known old new =
 -- Why a ruling fails: the protest can't be read, or there is one, and the statement that rules it is refused.
 abbrev pub RuleFails : ProtestKey → Ruling → State → State → Type 0
 RuleFails key ruling old new =
-    FindFails protest_in PROTEST.now (Text key.entrant ∷ Text key.round ∷ Text key.token ∷ []) old new
+    ReadFails protest_in PROTEST.now (Text key.entrant ∷ Text key.round ∷ Text key.token ∷ []) old new
     ⊎ ((row : ProtestRow) × (get (world_of old.now.trees).protests key ≡ Some row)
     × RunFails RULE_PROTEST.now (ruling_params key (Some ruling)) old new)
 
@@ -147,15 +147,15 @@ RuleFails key ruling old new =
 -- Why a flag isn't set: the round's head can't be read, or the statement that replaces it is refused.
 abbrev pub SetFlagFails : List ℕ → RoundFlag → State → State → Type 0
 SetFlagFails id flag old new =
-    FindFails round_in HEAD.now (Text id ∷ []) old new
+    ReadFails round_in HEAD.now (Text id ∷ []) old new
     ⊎ ((round : Round) × (get (world_of old.now.trees).rounds id ≡ Some round)
     × RunFails REPLACE_HEAD.now (head_params (flagged flag round)) old new)
 
--- the statement that puts a head where so many rows stand under its id is refused, or there are more than one
+-- the statement that puts a head where so many rows stand under its id is refused; more than one never do
 abbrev pub HeadIsRefused : Round → ℕ → Database → Type 0
 HeadIsRefused round zero db = IsStatementRefused ADD_HEAD.now (head_params round) db
 HeadIsRefused round (suc zero) db = IsStatementRefused REPLACE_HEAD.now (head_params round) db
-HeadIsRefused round (suc (suc more)) db = Unit
+HeadIsRefused round (suc (suc more)) db = ⊥
 
 -- the statement that puts the head is refused, over as many rows as stand under its id
 abbrev pub IsHeadRefused : Round → Database → Type 0
@@ -224,11 +224,10 @@ PutRoundFails row old new =
 
 -- ---- people
 
--- the query for a person's name answers rows that are no one person
+-- the query for a person's name answers rows of which one is no person
 abbrev pub IsUnfound : List ℕ → State → State → Type 0
 IsUnfound name old new =
-    (rows : List Row) × Shown PERSON.now (Text name ∷ []) old new rows
-    × (IsAnyUnread person_in rows ⊎ (1 < length rows))
+    (rows : List Row) × Shown PERSON.now (Text name ∷ []) old new rows × IsAnyUnread person_in rows
 
 -- nobody of that name is known
 abbrev pub IsUnknown : List ℕ → Database → Type 0
@@ -268,11 +267,12 @@ ImportFails {S} g people old new = IsStoreCause old new ⊎ OneIsRefused g peopl
 
 -- ---- inside a transaction
 
--- a transaction is under way over the hall's tables
+-- a transaction is under way over the hall's tables, which obey their rules
 pub record IsUnderWay (s : State) : Type 0 where
   pub mode : IsTrue s.in_transaction
   pub unlimited : s.step_limit ≡ None
   pub hall : IsHallData s.now
+  pub sound : IsDatabase s.now
 
 -- why a call inside it fails
 abbrev pub InsideFails : {R : Type 0} → State → State → Type 0 → Result R StoreFault → Type 0

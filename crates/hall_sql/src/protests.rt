@@ -17,9 +17,8 @@ ghost use Rattle.hall_sql.specs.Standing.{IsHall};
 ghost use Rattle.hall_sql.specs.Content.{MakesInTables, content_of};
 ghost use Rattle.sqlite.specs.declared.types.Value.TheVariants.{Text};
 ghost use Rattle.hall_sql.specs.Rows.{protest_in};
-ghost use Rattle.hall_sql.specs.Reads.{FindsRow, ReadsRows, ReadsTable};
+ghost use Rattle.hall_sql.specs.Reads.{ReadsRows, ReadsTable};
 ghost use Rattle.hall_sql.specs.Whole.{AreRecords};
-ghost use Rattle.hall_sql.specs.Cause.{FindFails};
 ghost use Rattle.hall_sql.specs.Versions.{IsAnyHall};
 ghost use Rattle.hall_sql.specs.WriteCause.{InsideFails, RunFails, RuleFails};
 
@@ -43,7 +42,7 @@ pub(crate) fn protest<S: Alter>(
     key: &ProtestKey,
 ) -> Result<Option<ProtestRow>, StoreFault>
     requires hall { IsHall (state S.Store conn.old) }
-    ensures reads { FindsRow protest_in PROTEST.now
+    ensures reads { ReadsRows protest_in PROTEST.now
         (Text key.now.entrant ∷ Text key.now.round ∷ Text key.now.token ∷ []) (state S.Store conn.old)
         (state S.Store conn.new) result (λ world found. found ≡ get world.protests key.now) }
     ensures alone { HasCleanDisk (state S.Store conn.new) → IfOk result

@@ -18,13 +18,13 @@ ghost use Rattle.hall_sql.specs.Standing.{IsHall, KeptTables};
 ghost use Rattle.hall_sql.specs.Content.{MakesInTables};
 ghost use Rattle.sqlite.specs.declared.types.Value.TheVariants.{Text};
 ghost use Rattle.hall_sql.specs.Rows.{puzzle_row_in};
-ghost use Rattle.hall_sql.specs.Reads.{FindsRow, ReadsRows, ReadsTable};
+ghost use Rattle.hall_sql.specs.Reads.{ReadsRows, ReadsTable};
 ghost use Rattle.hall_sql.specs.Cause.{IsStoreCause};
 ghost use Rattle.hall_sql.specs.Versions.{IsAnyHall};
 ghost use Rattle.hall_sql.specs.WriteCause.{RunFails, PuzzleIsRefused, PutPuzzleFails};
 ghost use Rattle.hall_sql.specs.WriteCause.{InsideFails, SetStateFails};
 
-use crate::calls::{ask, run, write_in};
+use crate::calls::{ask, live, run, write_in};
 use crate::reads::{find, read, read_any};
 use hall_grid::write_puzzle;
 use hall_policy::{Name, PuzzleKey, PuzzleRow, PuzzleState};
@@ -44,7 +44,7 @@ pub(crate) fn puzzle<S: Alter>(
     key: &PuzzleKey,
 ) -> Result<Option<PuzzleRow>, StoreFault>
     requires hall { IsHall (state S.Store conn.old) }
-    ensures { FindsRow puzzle_row_in PUZZLE.now (Text key.now.author ∷ Text key.now.label ∷ []) (state S.Store conn.old)
+    ensures { ReadsRows puzzle_row_in PUZZLE.now (Text key.now.author ∷ Text key.now.label ∷ []) (state S.Store conn.old)
         (state S.Store conn.new) result (λ world found. found ≡ get world.puzzles key.now) }
 {
     find(
@@ -244,6 +244,7 @@ fn put_found<S: Alter>(
     ensures cause { HasCleanDisk (state S.Store conn.new) → Fails (IsStoreCause (state S.Store conn.old)
         (state S.Store conn.new) ⊎ PuzzleIsRefused row.now count (state S.Store conn.old).now) result }
 {
+    live(conn);
     match count {
         0 => put_new(conn, row, text),
         1 => put_over(conn, row, text),

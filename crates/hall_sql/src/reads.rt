@@ -5,10 +5,10 @@ ghost use Rattle.sqlite.specs.Held.{state};
 ghost use Rattle.sqlite.specs.State.{HasCleanDisk};
 ghost use Rattle.hall_store.specs.Store.{Fails};
 ghost use Rattle.hall_sql.specs.Standing.{IsHall, IsOver, KeptTables, KeptAnyTables};
-ghost use Rattle.hall_sql.specs.Asked.{IsAsked, IsAskedIn};
-ghost use Rattle.hall_sql.specs.Cause.{ReadFails, FindFails, AreRead, IsFound};
+ghost use Rattle.hall_sql.specs.Asked.{AsksOne, IsAsked, IsAskedIn};
+ghost use Rattle.hall_sql.specs.Cause.{ReadFails, AreRead, IsFound};
 
-use crate::calls::ask;
+use crate::calls::{ask, live};
 use crate::record::{Record, at_most_one, read_all};
 use hall_store::StoreFault;
 use sqlite::types::ValueRef;
@@ -53,7 +53,7 @@ pub(crate) fn read<S: Alter, T: Record + Drop>(
     read_any(conn, alloc, sql, params)
 }
 
-/// The one row of the query as a record, if there is any. More than one is refused.
+/// The one row, as a record, of a query that answers no more than one.
 pub(crate) fn find<S: Alter, T: Record + Drop>(
     conn: &mut Connection<S>,
     alloc: Global,
@@ -61,12 +61,14 @@ pub(crate) fn find<S: Alter, T: Record + Drop>(
     params: &[ValueRef<'_>],
 ) -> Result<Option<T>, StoreFault>
     requires asks { IsAsked sql.now (bound params.now) }
+    requires one { AsksOne S.Store sql.now (bound params.now) }
     requires hall { IsHall (state S.Store conn.old) }
     ensures rested { KeptTables (state S.Store conn.old) (state S.Store conn.new) }
     ensures found { HasCleanDisk (state S.Store conn.new) → IfOk result
         (IsFound T.Record.read sql.now (bound params.now) (state S.Store conn.old) (state S.Store conn.new)) }
     ensures cause { HasCleanDisk (state S.Store conn.new) → Fails
-        (FindFails T.Record.read sql.now (bound params.now) (state S.Store conn.old) (state S.Store conn.new)) result }
+        (ReadFails T.Record.read sql.now (bound params.now) (state S.Store conn.old) (state S.Store conn.new)) result }
 {
+    live(conn);
     at_most_one(read(conn, alloc, sql, params)?)
 }

@@ -14,9 +14,9 @@ ghost use Rattle.hall_sql.specs.Content.{content_of};
 ghost use Rattle.hall_sql.specs.Versions.{IsAnyHall};
 ghost use Rattle.sqlite.specs.declared.types.Value.TheVariants.{Text};
 ghost use Rattle.hall_sql.specs.Rows.{place_in, round_in};
-ghost use Rattle.hall_sql.specs.Reads.{FindsRow, Reads, ReadsRows, ReadsTable};
+ghost use Rattle.hall_sql.specs.Reads.{Reads, ReadsRows, ReadsTable};
 ghost use Rattle.hall_sql.specs.Whole.{AreRecords, IsRoundRead};
-ghost use Rattle.hall_sql.specs.Cause.{FindFails, RoundFails, AreNoRound};
+ghost use Rattle.hall_sql.specs.Cause.{RoundFails, AreNoRound};
 ghost use Rattle.hall_store.specs.declared.fault.StoreFault.TheVariants.{Memory};
 
 use crate::reads::{find, read, read_any};
@@ -137,7 +137,7 @@ pub(crate) fn head<S: Alter>(
     id: &RoundId,
 ) -> Result<Option<Round>, StoreFault>
     requires hall { IsHall (state S.Store conn.old) }
-    ensures reads { FindsRow round_in HEAD.now (Text id.now ∷ []) (state S.Store conn.old) (state S.Store conn.new)
+    ensures reads { ReadsRows round_in HEAD.now (Text id.now ∷ []) (state S.Store conn.old) (state S.Store conn.new)
         result (λ world found. found ≡ get world.rounds id.now) }
     ensures alone { HasCleanDisk (state S.Store conn.new) → IfOk result
         (λ found. IfSome found (IsHead id.now (state S.Store conn.new))) }

@@ -156,7 +156,7 @@ impl<S: Alter + Drop> ReadStore for SqlStore<S> {
     ghost use Rattle.hall_sql.specs.declared.answers.TheConstants.{ANSWERS_OF, ANSWERS_IN};
     ghost use Rattle.hall_sql.specs.declared.protests.TheConstants.{PROTEST, PROTESTS_OF, PROTESTS_IN};
     ghost use Rattle.hall_sql.specs.declared.testers.TheConstants.{TESTERS_OF};
-    ghost use Rattle.hall_sql.specs.Reads.{FindsRow, Reads, ReadsRows};
+    ghost use Rattle.hall_sql.specs.Reads.{Reads, ReadsRows};
     ghost use Rattle.hall_sql.specs.Whole.{AreRecords, IsRoundRead};
     ghost use Rattle.hall_sql.specs.Cause.{FeedFails, RoundFails};
     ghost use Rattle.hall_sql.specs.CanFail.{CanFail};
@@ -171,7 +171,7 @@ impl<S: Alter + Drop> ReadStore for SqlStore<S> {
     }
 
     fn person_by_key(&mut self, alloc: Global, key: &Key) -> Result<Option<Person>, StoreFault>
-        ensures { FindsRow person_in PERSON_BY_KEY.now (Text key.now ∷ []) (state S.Store self.old)
+        ensures { ReadsRows person_in PERSON_BY_KEY.now (Text key.now ∷ []) (state S.Store self.old)
             (state S.Store self.new) result (λ world found. IsKeyHolder world key.now found) }
     {
         let _schema = self.conn.schema();
@@ -179,7 +179,7 @@ impl<S: Alter + Drop> ReadStore for SqlStore<S> {
     }
 
     fn person(&mut self, alloc: Global, name: &Name) -> Result<Option<Person>, StoreFault>
-        ensures { FindsRow person_in PERSON.now (Text name.now ∷ []) (state S.Store self.old) (state S.Store self.new)
+        ensures { ReadsRows person_in PERSON.now (Text name.now ∷ []) (state S.Store self.old) (state S.Store self.new)
             result (λ world found. found ≡ get world.people name.now) }
     {
         find(&mut self.conn, alloc, PERSON, params![name.as_str()])
@@ -193,7 +193,7 @@ impl<S: Alter + Drop> ReadStore for SqlStore<S> {
     }
 
     fn puzzle(&mut self, alloc: Global, key: &PuzzleKey) -> Result<Option<PuzzleRow>, StoreFault>
-        ensures { FindsRow puzzle_row_in PUZZLE.now (Text key.now.author ∷ Text key.now.label ∷ [])
+        ensures { ReadsRows puzzle_row_in PUZZLE.now (Text key.now.author ∷ Text key.now.label ∷ [])
             (state S.Store self.old) (state S.Store self.new) result
             (λ world found. found ≡ get world.puzzles key.now) }
     {
@@ -252,7 +252,7 @@ impl<S: Alter + Drop> ReadStore for SqlStore<S> {
     }
 
     fn answer(&mut self, alloc: Global, key: &AnswerKey) -> Result<Option<AnswerRow>, StoreFault>
-        ensures { FindsRow answer_in ANSWER.now
+        ensures { ReadsRows answer_in ANSWER.now
             (Text key.now.entrant ∷ Text key.now.round ∷ Int (pos key.now.number) ∷ Text key.now.token ∷ [])
             (state S.Store self.old) (state S.Store self.new) result
             (λ world found. found ≡ get world.answers key.now) }
@@ -391,7 +391,7 @@ impl<S: Alter + Drop> ReadStore for SqlStore<S> {
     }
 
     fn protest(&mut self, alloc: Global, key: &ProtestKey) -> Result<Option<ProtestRow>, StoreFault>
-        ensures { FindsRow protest_in PROTEST.now (Text key.now.entrant ∷ Text key.now.round ∷ Text key.now.token ∷ [])
+        ensures { ReadsRows protest_in PROTEST.now (Text key.now.entrant ∷ Text key.now.round ∷ Text key.now.token ∷ [])
             (state S.Store self.old) (state S.Store self.new) result
             (λ world found. found ≡ get world.protests key.now) }
     {

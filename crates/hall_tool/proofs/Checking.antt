@@ -1,6 +1,7 @@
 -- What is written of a check, from what each step of it tells.
 use Rattle.std.proofs.Common.{◌≡◌, ◌⊎◌, ◌∙◌, ℕ, List, false, true, Option, Result, Ok, Err, IfOk, IsTrue, inl, inr, sym}
 use Rattle.std.proofs.Common.{ap, subst, arith}
+use Rattle.std.proofs.lemmas.Bool.{cases_Bool}
 use Rattle.std.specs.Prelude.{IfErr, IsErrOf, string_bytes}
 use Rattle.sqlite_trees.specs.declared.memory.MemStore.{MemStore}
 use Rattle.sqlite.specs.Effect.{Database}
@@ -13,12 +14,12 @@ use Rattle.hall_store.specs.Store.{Kept}
 use Rattle.hall_store.specs.declared.fault.StoreFault.{StoreFault}
 use Rattle.hall_store.specs.declared.fault.StoreFault.TheVariants as store
 use Rattle.hall_sql.specs.AllRead.{AreAllRead}
-use Rattle.hall_sql.specs.CanFail.{CanFail, HasReason, KeepsNoWorld}
+use Rattle.hall_sql.specs.CanFail.{CanFail, HasReason, KeepsNoRound, KeepsNoWorld}
 use Rattle.hall_sql.specs.Cause.{IsStoreCause}
 use Rattle.hall_sql.specs.CopyCause.{CannotCopy}
 use Rattle.hall_sql.specs.FillCause.{TablesFail}
 use Rattle.hall_sql.specs.Migrate.{MigrateFails, Migrates, old_content_of}
-use Rattle.hall_sql.specs.Standing.{IsBareDatabase, IsBareLike, KeptTablesIn}
+use Rattle.hall_sql.specs.Standing.{IsBareDatabase, IsBareLike, KeptTables, KeptTablesIn}
 use Rattle.hall_sql.specs.Content.{content_of}
 use Rattle.hall_sql.specs.Tables.{IsLike, hall_schema, old_schema}
 use Rattle.hall_sql.specs.WholeRows.{without_testers}
@@ -26,11 +27,12 @@ use Rattle.hall_sql.specs.Rows.{world_of}
 use Rattle.hall_sql.specs.declared.migration.Migrated.TheVariants.{Done, Occupied}
 use Rattle.hall_sql.proofs.AllRead.{bare_read}
 use Rattle.hall_sql.proofs.OpenedLemmas.{memory_serves}
+use Rattle.hall_sql.proofs.UnreadMarks.{still_read}
 use Rattle.hall_sql.proofs.Wordings.{like_itself}
 use Rattle.hall_sql.proofs.WriteCauseLemmas.{cause_over}
 use Rattle.hall_desk.specs.Checked.{IsChecked}
-use Rattle.hall_tool.specs.CheckRun.{CopyFails, CopyText, IsCopyUnread, IsFoundWritten, OldFails, OldText}
-use Rattle.hall_tool.specs.CheckRun.{PresentFails}
+use Rattle.hall_tool.specs.CheckRun.{CopyFails, CopyText, IsFoundWritten, OldFails, OldText, PresentFails}
+use Rattle.hall_tool.specs.CheckRun.{WorldFails}
 use Rattle.hall_tool.specs.Shown.{IsShownBy}
 use Rattle.hall_tool.specs.WorldText.{WorldText}
 use Rattle.hall_tool.specs.declared.ending.Ending.{Ending}
@@ -98,9 +100,31 @@ copy_text budget source left empty filled last count text status migrates kept (
 -- ---- why nothing was found
 
 -- after each row of the present version was found to be a record
-pub present_fails : (old mid new : State) → Kept (content_of mid) (content_of new)
+pub present_fails : (old mid new : State) → KeptTables old mid → Kept (content_of mid) (content_of new)
     → (HasCleanDisk mid → AreAllRead hall_schema old.now.trees) → CanFail new → PresentFails old new
-present_fails old mid new kept whole can clean = inr (whole (kept.honest clean), can)
+present_fails old mid new rested kept whole can clean = inr (all, by_rounds (can clean))
+  where
+    was : HasCleanDisk mid
+    was = kept.honest clean
+
+    all : AreAllRead hall_schema old.now.trees
+    all = whole was
+
+    -- a read makes no row that is no record
+    after : IsTrue new.is_open → AreAllRead hall_schema new.now.trees
+    after opens =
+        still_read mid new kept.writes
+        (subst (λ (d : Database). AreAllRead hall_schema d.trees) (sym (rested.same was (kept.serves clean opens))) all)
+        clean opens
+
+    by_rounds : HasReason (λ db. KeepsNoWorld db.trees) new → HasReason (λ db. KeepsNoRound (world_of db.trees)) new
+    by_rounds (inl counted) = inl counted
+    by_rounds (inr (inl shut)) = inr (inl shut)
+    by_rounds (inr (inr (inl unread))) = elim (cases_Bool new.is_open) [
+      | inl opens ↦ absurd (unread (after opens))
+      | inr shut ↦ inr (inl shut)
+    ]
+    by_rounds (inr (inr (inr rounds))) = inr (inr rounds)
 
 -- the store failed where that is what is told
 pub store_failed : {R : Type 0} (fault : StoreFault) (e : ToolFault) → ((fault ≡ store.Memory) × (e ≡ Memory))
@@ -116,15 +140,18 @@ no_cause old new (inl (inl more)) = omega (arith, more)
 no_cause old new (inl (inr top)) = omega (arith, top)
 no_cause old new (inr shut) = let no : false ≡ true = sym shut ∙ (memory_serves old).1 in cc
 
--- so that a call can fail there for what the tables keep alone
-keeps_none : (held : Held MemStore) → CanFail (state over_memory held) → KeepsNoWorld (state over_memory held).now.trees
-keeps_none held can = go (can (memory_serves held).0)
+-- so that a call can fail there for what the tables keep alone, and where each row is a record, for a round's
+no_round : (held : Held MemStore) → AreAllRead hall_schema (state over_memory held).now.trees
+    → CanFail (state over_memory held)
+    → KeepsNoRound (world_of (state over_memory held).now.trees)
+no_round held all can = go (can (memory_serves held).0)
   where
     go : HasReason (λ db. KeepsNoWorld db.trees) (state over_memory held)
-        → KeepsNoWorld (state over_memory held).now.trees
+        → KeepsNoRound (world_of (state over_memory held).now.trees)
     go (inl counted) = absurd (omega (arith, counted))
     go (inr (inl shut)) = absurd (let no : false ≡ true = sym shut ∙ (memory_serves held).1 in cc)
-    go (inr (inr none)) = none
+    go (inr (inr (inl unread))) = absurd (unread all)
+    go (inr (inr (inr rounds))) = rounds
 
 -- the tables that were to take the rows had none
 pub bare_like : (held : Held MemStore) → IsBareDatabase hall_schema (state over_memory held).now
@@ -144,7 +171,7 @@ module _ (source left : State) (empty : Held MemStore) (bare : IsBareDatabase ha
     copy_refused after fault migrates failed clean = go (migrates.cause clean (memory_serves after).0 failed)
       where
         go : MigrateFails source left (state over_memory empty) (state over_memory after)
-            → TablesFail old_schema source left ⊎ (CannotCopy (old_content_of source).world ⊎ IsCopyUnread source)
+            → TablesFail old_schema source left ⊎ WorldFails source
         go (inl unread) = inl unread
         go (inr (rows, own, inl (inl cause))) = absurd (no_cause empty after cause)
         go (inr (rows, own, inl (inr unread))) = absurd (unread
@@ -163,8 +190,10 @@ module _ (source left : State) (empty : Held MemStore) (bare : IsBareDatabase ha
         → CanFail (state over_memory last) → CopyFails source left
     copy_unread filled last count migrates kept can clean =
         let now = memory_serves last in
-        let before = memory_serves filled in
-        inr (inr (last, kept.world now.0 now.1 ∙ (migrates.taken clean before.0).held, keeps_none last can))
+        let took = migrates.taken clean (memory_serves filled).0 in
+        let world = kept.world now.0 now.1 ∙ took.held in
+        let all = still_read (state over_memory filled) (state over_memory last) kept.writes took.read now.0 now.1 in
+        inr (inr (subst KeepsNoRound world (no_round last all can)))
 
 -- after each row was found to be a record
 pub old_fails : (old mid new : State) → KeptTablesIn old_schema old mid → KeptTablesIn old_schema mid new
@@ -182,6 +211,6 @@ old_fails old mid new first second serves whole fails clean =
       ])
       | inr copy ↦ inr (elim copy [
         | inl cannot ↦ inl (subst CannotCopy world cannot)
-        | inr unread ↦ inr (unread.0, unread.1 ∙ world, unread.2)
+        | inr rounds ↦ inr (subst KeepsNoRound world rounds)
       ])
     ]

@@ -1,14 +1,12 @@
 -- What is written of a database that is checked, how it is found, and how the command ends.
 use Rattle.std.specs.Prelude.{◌≡◌, ◌⊎◌, ℕ, List, Option, Result, Err}
-use Rattle.sqlite_trees.specs.declared.memory.MemStore.{MemStore}
 use Rattle.sqlite_trees.specs.declared.store.Store.{Ghosts}
 use Rattle.sqlite.specs.Held.{Held, state}
 use Rattle.sqlite.specs.State.{State, HasCleanDisk}
-use Rattle.sqlite.specs.Steps.{over_memory}
 use Rattle.hall_grid.specs.Device.{Tally}
 use Rattle.hall_sql.specs.AllRead.{AreAllRead}
 use Rattle.hall_sql.specs.BadRows.{AreNone, AreToldBad}
-use Rattle.hall_sql.specs.CanFail.{CanFail, KeepsNoWorld}
+use Rattle.hall_sql.specs.CanFail.{HasReason, KeepsNoRound}
 use Rattle.hall_sql.specs.Cause.{IsStoreCause}
 use Rattle.hall_sql.specs.CopyCause.{CannotCopy}
 use Rattle.hall_sql.specs.FillCause.{TablesFail}
@@ -16,6 +14,7 @@ use Rattle.hall_sql.specs.Made.{all_tables, old_tables}
 use Rattle.hall_sql.specs.Migrate.{old_content_of}
 use Rattle.hall_sql.specs.OpenedRead.{IsCauseToRead, OpensToRead, StartsToRead}
 use Rattle.hall_sql.specs.Content.{content_of}
+use Rattle.hall_sql.specs.Rows.{world_of}
 use Rattle.hall_sql.specs.Tables.{hall_schema, old_schema}
 use Rattle.hall_sql.specs.declared.bad_rows.BadRows.{BadRows}
 use Rattle.hall_sql.specs.declared.open.OpenFault.{OpenFault}
@@ -66,30 +65,29 @@ FoundText g budget (Old held) last = OldText budget (state g held) (state g last
 
 -- ---- why nothing was found, where it wasn't out of memory
 
--- tables in memory hold the world of tables of the version before, and keep no world
-abbrev pub IsCopyUnread : State → Type 0
-IsCopyUnread old =
-    (copy : Held MemStore) × ((content_of (state over_memory copy)).world ≡ (old_content_of old).world)
-    × KeepsNoWorld (state over_memory copy).now.trees
+-- why the world of tables of the version before isn't checked in memory: it can't be copied there, or it keeps under a
+-- round's id what is no round with its lists
+abbrev pub WorldFails : State → Type 0
+WorldFails old = CannotCopy (old_content_of old).world ⊎ KeepsNoRound (old_content_of old).world
 
 -- Why nothing was found of the world of tables of the version before, where their device was honest to the end: they
--- aren't read whole, or can't be copied into memory, or what the copy keeps is no world.
+-- aren't read whole, or their world isn't checked.
 abbrev pub CopyFails : State → State → Type 0
-CopyFails old new =
-    HasCleanDisk new → TablesFail old_schema old new ⊎ (CannotCopy (old_content_of old).world ⊎ IsCopyUnread old)
+CopyFails old new = HasCleanDisk new → TablesFail old_schema old new ⊎ WorldFails old
 
 -- Why nothing was found of such tables: so, but a row that is no record is told, so that where they aren't read, the
 -- cause lies in their store.
 abbrev pub OldFails : State → State → Type 0
-OldFails old new =
-    HasCleanDisk new → IsStoreCause old new ⊎ (CannotCopy (old_content_of old).world ⊎ IsCopyUnread old)
+OldFails old new = HasCleanDisk new → IsStoreCause old new ⊎ WorldFails old
 
 -- Why nothing was found of tables of the present version, where their device was honest to the end: the cause lies in
--- their store, or each of their rows is a record, and a call that reads them as they were left can fail. A row that is
--- no record is told, and so is no cause.
+-- their store, or each of their rows is a record, and as they were left a fault has been counted, or they are shut, or
+-- keep under a round's id what is no round with its lists. A row that is no record is told, and so is no cause.
 abbrev pub PresentFails : State → State → Type 0
 PresentFails old new =
-    HasCleanDisk new → IsStoreCause old new ⊎ (AreAllRead hall_schema old.now.trees × CanFail new)
+    HasCleanDisk new
+    → IsStoreCause old new
+    ⊎ (AreAllRead hall_schema old.now.trees × HasReason (λ db. KeepsNoRound (world_of db.trees)) new)
 
 -- why nothing was found of a hall, which was left so
 abbrev pub FoundFails : {S : Type 0} → Ghosts S → FoundHall S → Held S → Type 0

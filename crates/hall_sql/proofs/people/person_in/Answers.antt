@@ -1,4 +1,4 @@
-use Rattle.std.proofs.Common.{◌∙◌, inl, inr, [], ◌∷◌, length, ◌<◌, arith}
+use Rattle.std.proofs.Common.{◌∙◌, inl, inr, [], ◌∷◌, length, ◌≤◌, arith}
 use Rattle.std.proofs.lemmas.Result.{IfOk-weaker, IfErr-weaker}
 use Rattle.sqlite.specs.Held.{state}
 use Rattle.hall_sql.proofs.PeopleTexts.{person_is, person_asked}
@@ -9,6 +9,7 @@ use Rattle.hall_sql.specs.declared.people.TheConstants.{PERSON}
 use Rattle.hall_sql.proofs.CauseLemmas.{fails_as}
 use Rattle.hall_sql.proofs.FoundLemmas.{length_read}
 use Rattle.hall_sql.specs.Rows.{person_in}
+use Rattle.hall_sql.proofs.UnreadRows.{person_one}
 use Rattle.hall_sql.proofs.WriteCauseLemmas.{asked_inside}
 use Rattle.hall_sql.proofs.people.person_in.Goals as goal
 
@@ -35,7 +36,7 @@ pub returns-in_err-read_all-clause-cause : goal.returns-in_err-read_all-clause-c
 returns-in_err-read_all-clause-cause g c clean goes =
     let shown = rw (c.params-to_sql.ensures, c.as_str.ensures.text) at (c.in_ok-rows.ensures.shown clean) in
     fails_as c.from_residual-in_err-read_all.result _ _ c.from_residual-in_err-read_all.ensures.1 (λ failed.
-    inr (c.in_ok-rows.rows.items, shown, inl (rw c.deref.ensures.value at (c.in_err-read_all.ensures.unread failed))))
+    inr (c.in_ok-rows.rows.items, shown, rw c.deref.ensures.value at (c.in_err-read_all.ensures.unread failed)))
 
 pub returns-clause-cause : goal.returns-clause-cause
 returns-clause-cause g c clean goes =
@@ -43,6 +44,7 @@ returns-clause-cause g c clean goes =
     let reads = rw c.deref.ensures.value at c.in_ok-read_all.ensures.all in
     let same = length_read person_in c.in_ok-rows.rows.items c.in_ok-read_all.field-0.items reads in
     IfErr-weaker c.at_most_one.result _ _ (λ fault long failed.
-    let more : 1 < length c.in_ok-rows.rows.items = omega (arith, same, long) in inr
-    (c.in_ok-rows.rows.items, shown, inr more))
+    let few : length c.in_ok-rows.rows.items ≤ 1 = person_one c.args.name.now (state g.S.Store c.args.tx.now.conn.now)
+    (state g.S.Store c.ask_in.new.tx.conn.now) c.in_ok-rows.rows.items goes.hall goes.sound shown in
+    absurd (omega (arith, same, long, few)))
     c.at_most_one.ensures.more

@@ -12,7 +12,7 @@ use Rattle.hall_sql.specs.Tables.{IsHallSchema}
 use Rattle.hall_sql.proofs.ProtestTexts.{protest_asked}
 use Rattle.hall_sql.proofs.ProtestLemmas.{protest_found, protest_alone}
 use Rattle.hall_sql.proofs.ReadLemmas.{finds_row}
-use Rattle.hall_sql.proofs.UnreadRows.{protest_unread, protest_twice}
+use Rattle.hall_sql.proofs.UnreadRows.{asks_one, protest_one, protest_unread}
 use Rattle.hall_sql.specs.Cause.{IsFound}
 use Rattle.hall_sql.proofs.protests.protest.Goals as goal
 
@@ -28,13 +28,17 @@ find-requires-clause-asks g c =
     )
     (protest_asked c.args.key.now.entrant c.args.key.now.round c.args.key.now.token)
 
+pub find-requires-clause-one : goal.find-requires-clause-one
+find-requires-clause-one g c =
+    rw (c.params-to_sql.ensures, c.params-to_sql-2.ensures, c.params-to_sql-3.ensures, c.as_str.ensures.text, c.as_str-2.ensures.text, c.as_str-3.ensures.text)
+    (asks_one g.S.Store PROTEST.now (Text c.args.key.now.entrant ∷ Text c.args.key.now.round ∷ Text c.args.key.now.token ∷ []) (protest_one c.args.key.now.entrant c.args.key.now.round c.args.key.now.token))
+
 pub returns-clause-reads : goal.returns-clause-reads
 returns-clause-reads g c =
     finds_row protest_in PROTEST.now
     (Text c.args.key.now.entrant ∷ Text c.args.key.now.round ∷ Text c.args.key.now.token ∷ []) c.find.result _
     c.requires.hall c.find.ensures.rested
     (protest_unread c.args.key.now.entrant c.args.key.now.round c.args.key.now.token)
-    (protest_twice c.args.key.now.entrant c.args.key.now.round c.args.key.now.token)
     (rw (
       c.params-to_sql.ensures,
       c.params-to_sql-2.ensures,

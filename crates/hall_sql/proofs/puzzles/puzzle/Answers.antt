@@ -6,7 +6,7 @@ use Rattle.hall_sql.specs.declared.puzzles.TheConstants.{PUZZLE}
 use Rattle.hall_sql.proofs.PuzzleLemmas.{puzzle_found}
 use Rattle.hall_sql.proofs.PuzzleTexts.{puzzle_asked}
 use Rattle.hall_sql.proofs.ReadLemmas.{finds_row}
-use Rattle.hall_sql.proofs.UnreadRows.{puzzle_unread, puzzle_twice}
+use Rattle.hall_sql.proofs.UnreadRows.{asks_one, puzzle_one, puzzle_unread}
 use Rattle.hall_sql.proofs.puzzles.puzzle.Goals as goal
 
 pub find-requires-clause-asks : goal.find-requires-clause-asks
@@ -14,11 +14,15 @@ find-requires-clause-asks g c =
     rw (c.params-to_sql.ensures, c.params-to_sql-2.ensures, c.as_str.ensures.text, c.as_str-2.ensures.text)
     (puzzle_asked c.args.key.now.author c.args.key.now.label)
 
+pub find-requires-clause-one : goal.find-requires-clause-one
+find-requires-clause-one g c =
+    rw (c.params-to_sql.ensures, c.params-to_sql-2.ensures, c.as_str.ensures.text, c.as_str-2.ensures.text)
+    (asks_one g.S.Store PUZZLE.now (Text c.args.key.now.author ∷ Text c.args.key.now.label ∷ []) (puzzle_one c.args.key.now.author c.args.key.now.label))
+
 pub returns : goal.returns
 returns g c =
     finds_row puzzle_row_in PUZZLE.now (Text c.args.key.now.author ∷ Text c.args.key.now.label ∷ []) c.find.result _
     c.requires.hall c.find.ensures.rested (puzzle_unread c.args.key.now.author c.args.key.now.label)
-    (puzzle_twice c.args.key.now.author c.args.key.now.label)
     (rw (c.params-to_sql.ensures, c.params-to_sql-2.ensures, c.as_str.ensures.text, c.as_str-2.ensures.text)
     at c.find.ensures.found) (rw (
       c.params-to_sql.ensures,

@@ -2,7 +2,7 @@ use Rattle.std.proofs.Common.{rules, ◌≡◌, arith}
 use Rattle.sqlite.specs.Held.{state}
 use Rattle.sqlite.specs.State.{HasCleanDisk}
 use Rattle.std.proofs.lemmas.Result.{IfErr-weaker}
-use Rattle.hall_sql.proofs.WriteCauseLemmas.{goes_on, head_found, new_head, over_head}
+use Rattle.hall_sql.proofs.WriteCauseLemmas.{goes_on, head_found, many_heads, new_head, over_head}
 use Rattle.hall_sql.proofs.round_writes.put_head.Goals as goal
 
 pub returns-in-0-clause-cause : goal.returns-in-0-clause-cause
@@ -32,3 +32,11 @@ returns-in-1-clause-cause g c clean goes =
     c.put_over.ensures.carries.lasts (it.does goes.hall)
     (over_head c.args.round.now c.in_ok-look.field-0 mid new many (why failed)))
     (c.put_over.ensures.cause clean (goes_on old mid goes c.look.ensures.carries.lasts it.steps))
+
+pub returns-in_default-clause-cause : goal.returns-in_default-clause-cause
+returns-in_default-clause-cause g c clean goes failed =
+    let it = c.in_ok-look.ensures.done clean goes.mode in
+    let some : ¬ (c.in_ok-look.field-0 ≡ 0) = search rules in
+    let more : ¬ (c.in_ok-look.field-0 ≡ 1) = search rules in
+    absurd (many_heads c.args.round.now.id c.in_ok-look.field-0 (state g.S.Store c.args.tx.now.conn.now) goes
+    (it.does goes.hall).many some more)

@@ -13,5 +13,6 @@ returns-then-is_whole-clause-fault g c is =
     let old = state g.S.Store c.args.store.now in
     let mid = state g.S.Store c.bad_rows.new.self in
     let new = state g.S.Store c.world_ending.new.store in
-    present_fails old mid new c.world_ending.ensures.kept (λ clean. c.in-Ok.ensures.whole clean (none.0 refl))
+    present_fails old mid new c.in-Ok.ensures.rested c.world_ending.ensures.kept
+    (λ clean. c.in-Ok.ensures.whole clean (none.0 refl))
     (c.world_ending.ensures.fault is)

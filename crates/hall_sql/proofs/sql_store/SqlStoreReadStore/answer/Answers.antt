@@ -6,7 +6,7 @@ use Rattle.hall_sql.specs.declared.answers.TheConstants.{ANSWER}
 use Rattle.hall_sql.proofs.AnswerLemmas.{answer_found}
 use Rattle.hall_sql.proofs.AnswerTexts.{answer_asked}
 use Rattle.hall_sql.proofs.ReadLemmas.{finds_row}
-use Rattle.hall_sql.proofs.UnreadRows.{answer_unread, answer_twice}
+use Rattle.hall_sql.proofs.UnreadRows.{asks_one, answer_one, answer_unread}
 use Rattle.hall_sql.proofs.sql_store.SqlStoreReadStore.answer.Goals as goal
 
 pub find-requires-clause-asks : goal.find-requires-clause-asks
@@ -23,6 +23,11 @@ find-requires-clause-asks g c =
     )
     (answer_asked c.args.key.now.entrant c.args.key.now.round c.args.key.now.number c.args.key.now.token)
 
+pub find-requires-clause-one : goal.find-requires-clause-one
+find-requires-clause-one g c =
+    rw (c.params-to_sql.ensures, c.params-to_sql-2.ensures, c.params-to_sql-3.ensures, c.params-to_sql-4.ensures, c.as_str.ensures.text, c.as_str-2.ensures.text, c.as_str-3.ensures.text, c.get.ensures.value)
+    (asks_one g.S.Store ANSWER.now (Text c.args.key.now.entrant ∷ Text c.args.key.now.round ∷ Int (pos c.args.key.now.number) ∷ Text c.args.key.now.token ∷ []) (answer_one c.args.key.now.entrant c.args.key.now.round c.args.key.now.number c.args.key.now.token))
+
 pub returns : goal.returns
 returns g c =
     rw (← c.self.view_is)
@@ -30,7 +35,6 @@ returns g c =
     (Text c.args.key.now.entrant ∷ Text c.args.key.now.round ∷ Int (pos c.args.key.now.number) ∷ Text
     c.args.key.now.token ∷ []) c.find.result _ c.self.invariant c.find.ensures.rested
     (answer_unread c.args.key.now.entrant c.args.key.now.round c.args.key.now.number c.args.key.now.token)
-    (answer_twice c.args.key.now.entrant c.args.key.now.round c.args.key.now.number c.args.key.now.token)
     (rw (
       c.params-to_sql.ensures,
       c.params-to_sql-2.ensures,

@@ -7,17 +7,22 @@ use Rattle.hall_sql.specs.declared.people.TheConstants.{PERSON_BY_KEY}
 use Rattle.hall_sql.proofs.PeopleKeys.{key_holder}
 use Rattle.hall_sql.proofs.PeopleTexts.{person_by_key_asked}
 use Rattle.hall_sql.proofs.ReadLemmas.{finds_row}
-use Rattle.hall_sql.proofs.UnreadRows.{person_by_key_unread, person_by_key_twice}
+use Rattle.hall_sql.proofs.UnreadRows.{asks_one, person_by_key_one, person_by_key_unread}
 use Rattle.hall_sql.proofs.sql_store.SqlStoreReadStore.person_by_key.Goals as goal
 
 pub find-requires-clause-asks : goal.find-requires-clause-asks
 find-requires-clause-asks g c = rw (c.params-to_sql.ensures, c.as_str.ensures.text) (person_by_key_asked c.args.key.now)
 
+pub find-requires-clause-one : goal.find-requires-clause-one
+find-requires-clause-one g c =
+    rw (c.params-to_sql.ensures, c.as_str.ensures.text)
+    (asks_one g.S.Store PERSON_BY_KEY.now (Text c.args.key.now ∷ []) (person_by_key_one c.args.key.now))
+
 pub returns : goal.returns
 returns g c =
     rw (← c.self.view_is)
     (finds_row person_in PERSON_BY_KEY.now (Text c.args.key.now ∷ []) c.find.result _ c.self.invariant
-    c.find.ensures.rested (person_by_key_unread c.args.key.now) (person_by_key_twice c.args.key.now)
+    c.find.ensures.rested (person_by_key_unread c.args.key.now)
     (rw (c.params-to_sql.ensures, c.as_str.ensures.text) at c.find.ensures.found)
     (rw (c.params-to_sql.ensures, c.as_str.ensures.text) at c.find.ensures.cause)
     (λ found it opened has keyed. subst
