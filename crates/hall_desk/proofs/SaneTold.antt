@@ -42,8 +42,10 @@ use Rattle.hall_desk.specs.declared.sentence.Sentence.{Sentence}
 use Rattle.hall_desk.specs.declared.sentence.Sentence.TheVariants as sentence
 use Rattle.hall_desk.specs.declared.states.States.{States}
 use Rattle.hall_desk.specs.declared.whole.Whole.{Whole}
+use Rattle.hall_desk.proofs.Asking.{all_true}
 use Rattle.hall_desk.proofs.OwnRows.{own_row}
 use Rattle.hall_desk.proofs.Standing.{entry_of_get}
+use Rattle.hall_desk.proofs.StateTelling.{all_states_true}
 use Rattle.hall_desk.proofs.WholeLists.{whole_list}
 
 -- what is told of the sentence at a place in the list
@@ -120,85 +122,85 @@ module _ (whole : Whole) (told : List Breaches) (are : AreAllTold (world_of_whol
   at k sentence is = told_at W all_sentences told are none k sentence is
 
   own_key : EveryRow (HasOwnKey W) (values W.people)
-  own_key = let f = at 0 sentence.OwnKey refl in f.1.whole f.2
+  own_key = let f = at 0 sentence.OwnKey refl in all_true f.1 f.2
 
   roles_apart : EveryRow HasRolesApart (values W.people)
-  roles_apart = let f = at 1 sentence.RolesApart refl in f.1.whole f.2
+  roles_apart = let f = at 1 sentence.RolesApart refl in all_true f.1 f.2
 
   author_there : EveryRow (λ (row : PuzzleRow). IsKnown W row.key.author) (values W.puzzles)
-  author_there = let f = at 2 sentence.AuthorThere refl in f.1.whole f.2
+  author_there = let f = at 2 sentence.AuthorThere refl in all_true f.1 f.2
 
   few_puzzles : EveryRow (HasFewPuzzles W) (values W.puzzles)
-  few_puzzles = let f = at 3 sentence.FewPuzzles refl in f.1.whole f.2
+  few_puzzles = let f = at 3 sentence.FewPuzzles refl in all_true f.1 f.2
 
   list_whole : EveryRow (λ (round : Round). HasList W round.id) (values W.rounds)
-  list_whole = let f = at 5 sentence.ListWhole refl in f.1.whole f.2
+  list_whole = let f = at 5 sentence.ListWhole refl in all_true f.1 f.2
 
   few_testers : EveryRow (λ (round : Round). HasFewTesters W round.id) (values W.rounds)
-  few_testers = let f = at 6 sentence.FewTesters refl in f.1.whole f.2
+  few_testers = let f = at 6 sentence.FewTesters refl in all_true f.1 f.2
 
   released_first : EveryRow IsReleasedFirst (values W.rounds)
-  released_first = let f = at 7 sentence.ReleasedFirst refl in f.1.whole f.2
+  released_first = let f = at 7 sentence.ReleasedFirst refl in all_true f.1 f.2
 
   entry_home : EveryRow (λ (place : PlaceKey × Entry). IsRoundThere W place.0.round) (entries W.places)
-  entry_home = let f = at 8 sentence.EntryHome refl in f.1.whole f.2
+  entry_home = let f = at 8 sentence.EntryHome refl in all_true f.1 f.2
 
   puzzle_there : EveryRow (λ (place : PlaceKey × Entry). HasPuzzle W place.1) (entries W.places)
-  puzzle_there = let f = at 9 sentence.PuzzleThere refl in f.1.whole f.2
+  puzzle_there = let f = at 9 sentence.PuzzleThere refl in all_true f.1 f.2
 
   certified_first : EveryRow (IsCertifiedFirst W) (entries W.places)
-  certified_first = let f = at 10 sentence.CertifiedFirst refl in f.1.whole f.2
+  certified_first = let f = at 10 sentence.CertifiedFirst refl in all_true f.1 f.2
 
   in_no_other : EveryRow (IsInNoOther W) (entries W.places)
-  in_no_other = let f = at 11 sentence.InNoOther refl in f.1.whole f.2
+  in_no_other = let f = at 11 sentence.InNoOther refl in all_true f.1 f.2
 
   tester_home : EveryRow (λ (tester : TesterKey × Unit {0}). IsRoundThere W tester.0.round) (entries W.testers)
-  tester_home = let f = at 12 sentence.TesterHome refl in f.1.whole f.2
+  tester_home = let f = at 12 sentence.TesterHome refl in all_true f.1 f.2
 
   tester_there : EveryRow (λ (tester : TesterKey × Unit {0}). IsKnown W tester.0.name) (entries W.testers)
-  tester_there = let f = at 13 sentence.TesterThere refl in f.1.whole f.2
+  tester_there = let f = at 13 sentence.TesterThere refl in all_true f.1 f.2
 
   answerer_there : EveryRow (λ (row : AnswerRow). IsKnown W row.key.entrant) (values W.answers)
-  answerer_there = let f = at 14 sentence.AnswererThere refl in f.1.whole f.2
+  answerer_there = let f = at 14 sentence.AnswererThere refl in all_true f.1 f.2
 
   answered_there : EveryRow (λ (row : AnswerRow). IsPlaceThere W row.key.round row.key.number) (values W.answers)
-  answered_there = let f = at 15 sentence.AnsweredThere refl in f.1.whole f.2
+  answered_there = let f = at 15 sentence.AnsweredThere refl in all_true f.1 f.2
 
   answer_released : EveryRow (λ (row : AnswerRow). IsReleasedRound W row.key.round) (values W.answers)
-  answer_released = let f = at 16 sentence.AnswerReleased refl in f.1.whole f.2
+  answer_released = let f = at 16 sentence.AnswerReleased refl in all_true f.1 f.2
 
   may_answer : EveryRow (λ (row : AnswerRow). MayTakePart W row.key.entrant row.key.round) (values W.answers)
-  may_answer = let f = at 17 sentence.MayAnswer refl in f.1.whole f.2
+  may_answer = let f = at 17 sentence.MayAnswer refl in all_true f.1 f.2
 
   verdict_true : EveryRow (λ (row : AnswerRow). IsVerdictAt W row.key.round row.key.number row) (values W.answers)
-  verdict_true = let f = at 18 sentence.VerdictTrue refl in f.1.whole f.2
+  verdict_true = let f = at 18 sentence.VerdictTrue refl in all_true f.1 f.2
 
   numbered : EveryRow (IsAnswerNumbered W) (values W.answers)
-  numbered = let f = at 19 sentence.Numbered refl in f.1.whole f.2
+  numbered = let f = at 19 sentence.Numbered refl in all_true f.1 f.2
 
   numbered_once : EveryRow (IsNumberedOnce W) (values W.answers)
-  numbered_once = let f = at 20 sentence.NumberedOnce refl in f.1.whole f.2
+  numbered_once = let f = at 20 sentence.NumberedOnce refl in all_true f.1 f.2
 
   few_answers : EveryRow (IsOneOfFewAnswers W) (values W.answers)
-  few_answers = let f = at 21 sentence.FewAnswers refl in f.1.whole f.2
+  few_answers = let f = at 21 sentence.FewAnswers refl in all_true f.1 f.2
 
   protester_there : EveryRow (λ (row : ProtestRow). IsKnown W row.key.entrant) (values W.protests)
-  protester_there = let f = at 22 sentence.ProtesterThere refl in f.1.whole f.2
+  protester_there = let f = at 22 sentence.ProtesterThere refl in all_true f.1 f.2
 
   protested_there : EveryRow (λ (row : ProtestRow). IsPlaceThere W row.key.round row.number) (values W.protests)
-  protested_there = let f = at 23 sentence.ProtestedThere refl in f.1.whole f.2
+  protested_there = let f = at 23 sentence.ProtestedThere refl in all_true f.1 f.2
 
   protest_released : EveryRow (λ (row : ProtestRow). IsReleasedRound W row.key.round) (values W.protests)
-  protest_released = let f = at 24 sentence.ProtestReleased refl in f.1.whole f.2
+  protest_released = let f = at 24 sentence.ProtestReleased refl in all_true f.1 f.2
 
   may_protest : EveryRow (λ (row : ProtestRow). MayTakePart W row.key.entrant row.key.round) (values W.protests)
-  may_protest = let f = at 25 sentence.MayProtest refl in f.1.whole f.2
+  may_protest = let f = at 25 sentence.MayProtest refl in all_true f.1 f.2
 
   ruled_first : EveryRow (IsRuledFirst W) (values W.protests)
-  ruled_first = let f = at 26 sentence.RuledFirst refl in f.1.whole f.2
+  ruled_first = let f = at 26 sentence.RuledFirst refl in all_true f.1 f.2
 
   few_protests : EveryRow (IsOneOfFewProtests W) (values W.protests)
-  few_protests = let f = at 27 sentence.FewProtests refl in f.1.whole f.2
+  few_protests = let f = at 27 sentence.FewProtests refl in all_true f.1 f.2
 
   -- each row is among the values, and stands under its own key
   person : (name : List ℕ) (row : Person) → get W.people name ≡ Some row → row.name ≡ name
@@ -384,4 +386,4 @@ pub states_true : (budget : Option ℕ) (rows : List PuzzleRow) (states : Option
     → AreStatesAsked budget rows states → AreStatesTrue states → EveryRow (λ row. IsTrueState row.puzzle row.state) rows
 states_true budget rows None asked true_all = absurd true_all
 states_true None rows (Some states) asked true_all = absurd asked
-states_true (Some most) rows (Some states) asked true_all = asked.whole true_all.0 true_all.1
+states_true (Some most) rows (Some states) asked true_all = all_states_true most rows states asked true_all.0 true_all.1

@@ -1,19 +1,21 @@
 -- What new searches tell of puzzles' states.
-use Rattle.std.proofs.Common.{◌≡◌, ◌≢◌, ◌⊎◌, ◌+◌, ◌++◌, ◌∷◌, [], ℕ, List, Bool, true, false, IsTrue, length, Contains}
-use Rattle.std.proofs.Common.{inl, inr, refl, sym, ap, ◌∙◌, subst, arith}
+use Rattle.std.proofs.Common.{◌≡◌, ◌++◌, ◌∷◌, [], ℕ, List, true, false, inl, inr, refl, sym, ap, ◌∙◌, subst}
+use Rattle.std.proofs.lemmas.List.{map-append}
 use Rattle.hall_grid.specs.Board.{Board}
 use Rattle.hall_grid.specs.Answer.{AnswerText, text_of}
-use Rattle.hall_policy.specs.declared.record.PuzzleKey.{PuzzleKey}
 use Rattle.hall_policy.specs.declared.record.PuzzleRow.{PuzzleRow}
 use Rattle.hall_policy.specs.declared.record.PuzzleState.{PuzzleState}
 use Rattle.hall_policy.specs.declared.record.PuzzleState.TheVariants as state
+use Rattle.hall_desk.specs.Finds.{EveryRow, Finds}
 use Rattle.hall_desk.specs.Sane.{IsTrueState}
 use Rattle.hall_desk.specs.Spots.{puzzle_spot}
-use Rattle.hall_desk.specs.States.{AreStatesTold, IsStateTold}
+use Rattle.hall_desk.specs.States.{AreStatesTold, IsStateTold, IsUndecided}
 use Rattle.hall_desk.specs.Step.{is_open}
-use Rattle.hall_desk.specs.declared.sentence.Spot.{Spot}
+use Rattle.hall_desk.specs.declared.sentence.Breaches.{Breaches}
+use Rattle.hall_desk.specs.declared.sentence.Sentence.TheVariants.{StateTrue}
 use Rattle.hall_desk.specs.declared.states.States.{States}
-use Rattle.hall_desk.proofs.Asking.{first_or_later, among_front, among_end, cons_not_nil, no_row}
+use Rattle.hall_desk.proofs.Asking.{all_first, all_true, every_more, every_none, finds_more, finds_none, first_more}
+use Rattle.hall_desk.proofs.Asking.{none_mapped, second_more}
 
 -- two states that say something and are true of one puzzle are one
 pub one_state : (puzzle : Board) (a b : PuzzleState) → is_open a ≡ false → is_open b ≡ false → IsTrueState puzzle a
@@ -42,51 +44,51 @@ one_state puzzle state.More state.NoSolution _ _ (a, b, first, second, differ) n
 one_state puzzle state.More state.More _ _ _ _ = refl
 
 -- nothing is told of no puzzles
-pub told_none : (budget : ℕ) (states : States) → states.found.first.items ≡ [] → states.undecided.items ≡ []
-    → AreStatesTold budget [] states
-told_none budget states none decided = record {
-  named = λ spot among. absurd (no_row spot (subst (λ (spots : List Spot). Contains spots spot) none among));
-  undecided = λ key among. absurd (no_row key (subst (λ (keys : List PuzzleKey). Contains keys key) decided among));
-  whole = λ _ _ row among. absurd (no_row row among);
+pub told_none : (budget : ℕ) (states : States) → states.found.sentence ≡ StateTrue → states.found.first.items ≡ []
+    → states.found.count ≡ 0 → states.undecided.items ≡ [] → AreStatesTold budget [] states
+told_none budget states kind none zero_count decided = record {
+  decided = [];
+  undecided = [];
+  parted = (refl, refl);
+  sentence = kind;
+  finds = finds_none (λ (row : PuzzleRow). IsTrueState row.puzzle row.state) puzzle_spot states.found none zero_count;
+  gave_up = every_none (λ (row : PuzzleRow). IsUndecided budget row.puzzle row.state);
+  listed = decided;
 }
 
 -- what is told with one puzzle more
 pub told_one : (budget : ℕ) (rows : List PuzzleRow) (row : PuzzleRow) (old new : States)
-    → IsStateTold budget row old new → AreStatesTold budget rows old → AreStatesTold budget (rows ++ row ∷ []) new
-told_one budget rows row old new (inl (is, kept)) told = subst
-    (λ (states : States). AreStatesTold budget (rows ++ row ∷ []) states) (sym kept) (record {
-      named = λ spot among. let at = told.named spot among in (at.0, among_front rows row at.0 at.1, at.2, at.3);
-      undecided = λ key among. let at = told.undecided key among in (at.0, among_front rows row at.0 at.1, at.2, at.3);
-      whole = λ none decided r among. elim (first_or_later rows row r among) [
-        | inl before ↦ told.whole none decided r before
-        | inr own ↦ subst (λ (p : PuzzleRow). IsTrueState p.puzzle p.state) (sym own) is
-      ];
-    })
-told_one budget rows row old new (inr (inl (false_of, kept, inl (few, noted)))) told = record {
-  named = λ spot among. elim (first_or_later old.found.first.items (puzzle_spot row) spot
-      (subst (λ (spots : List Spot). Contains spots spot) noted among)) [
-        | inl before ↦ let at = told.named spot before in (at.0, among_front rows row at.0 at.1, at.2, at.3)
-        | inr is ↦ (row, among_end rows row, is, false_of)
-      ];
-  undecided = λ key among. let at = told.undecided key (subst (λ keys. Contains keys.items key) kept among) in
-      (at.0, among_front rows row at.0 at.1, at.2, at.3);
-  whole = λ none. absurd (cons_not_nil old.found.first.items (puzzle_spot row) (sym noted ∙ none));
+    → new.found.sentence ≡ old.found.sentence → IsStateTold budget row old new → AreStatesTold budget rows old
+    → AreStatesTold budget (rows ++ row ∷ []) new
+told_one budget rows row old new same (inl (breach, kept)) told = record {
+  decided = told.decided ++ row ∷ [];
+  undecided = told.undecided;
+  parted = first_more rows told.decided told.undecided row told.parted;
+  sentence = same ∙ told.sentence;
+  finds = finds_more (λ (r : PuzzleRow). IsTrueState r.puzzle r.state) puzzle_spot told.decided row old.found new.found
+      breach told.finds;
+  gave_up = told.gave_up;
+  listed = ap (λ keys. keys.items) kept ∙ told.listed;
 }
-told_one budget rows row old new (inr (inl (false_of, kept, inr (many, same)))) told = record {
-  named = λ spot among. let at = told.named spot (subst (λ (spots : List Spot). Contains spots spot) same among) in
-      (at.0, among_front rows row at.0 at.1, at.2, at.3);
-  undecided = λ key among. let at = told.undecided key (subst (λ keys. Contains keys.items key) kept among) in
-      (at.0, among_front rows row at.0 at.1, at.2, at.3);
-  whole = λ none. let no : length old.found.first.items ≡ 0 = ap length (sym same ∙ none) in absurd
-      (omega (arith, many, no));
+told_one budget rows row old new same (inr (gave_up, kept, put)) told = record {
+  decided = told.decided;
+  undecided = told.undecided ++ row ∷ [];
+  parted = second_more rows told.decided told.undecided row told.parted;
+  sentence = same ∙ told.sentence;
+  finds = subst
+      (λ (found : Breaches). Finds (λ (r : PuzzleRow). IsTrueState r.puzzle r.state) puzzle_spot told.decided found)
+      (sym kept) told.finds;
+  gave_up = every_more (λ (r : PuzzleRow). IsUndecided budget r.puzzle r.state) told.undecided row told.gave_up gave_up;
+  listed = put ∙ ap (λ keys. keys ++ row.key ∷ []) told.listed
+      ∙ sym (map-append (λ (r : PuzzleRow). r.key) told.undecided (row ∷ []));
 }
-told_one budget rows row old new (inr (inr (gave_up, kept, put))) told = record {
-  named = λ spot among. let at = told.named spot (subst (λ found. Contains found.first.items spot) kept among) in
-      (at.0, among_front rows row at.0 at.1, at.2, at.3);
-  undecided = λ key among. elim (first_or_later old.undecided.items row.key key
-      (subst (λ (keys : List PuzzleKey). Contains keys key) put among)) [
-        | inl before ↦ let at = told.undecided key before in (at.0, among_front rows row at.0 at.1, at.2, at.3)
-        | inr is ↦ (row, among_end rows row, is, gave_up)
-      ];
-  whole = λ _ decided. absurd (cons_not_nil old.undecided.items row.key (sym put ∙ decided));
-}
+
+-- where no state was found false, and none is undecided, each is true
+pub all_states_true : (budget : ℕ) (rows : List PuzzleRow) (states : States) → AreStatesTold budget rows states
+    → states.found.first.items ≡ [] → states.undecided.items ≡ []
+    → EveryRow (λ row. IsTrueState row.puzzle row.state) rows
+all_states_true budget rows states told none decided =
+    let lone : told.undecided ≡ [] = none_mapped (λ (r : PuzzleRow). r.key) told.undecided (sym told.listed ∙ decided)
+    in
+    subst (λ (xs : List PuzzleRow). EveryRow (λ row. IsTrueState row.puzzle row.state) xs)
+    (sym (all_first rows told.decided told.undecided told.parted lone)) (all_true told.finds none)

@@ -45,10 +45,9 @@ abbrev pub IsNothingFound : Checked → Type 0
 IsNothingFound checked =
     EveryRow (λ found. found.first.items ≡ []) checked.told.items × AreStatesTrue checked.states
 
--- What a check says of a world: how much there is of it; of each sentence, each place that is named is one where it is
--- false, and it is true of each row where none is; so of puzzles' states, where they were searched. Where none of the
--- sentences was found false, the world is sane if each puzzle's state is true of it; and where nothing was found, it
--- is.
+-- What a check says of a world: how much there is of it; of each sentence, of how many rows it is false, and which are
+-- the first of them; so of puzzles' states, where they were searched. Where none of the sentences was found false, the
+-- world is sane if each puzzle's state is true of it; and where nothing was found, it is.
 pub record IsChecked (world : World) (budget : Option ℕ) (checked : Checked) : Type 0 where
   pub people : checked.people ≡ length (values world.people)
   pub puzzles : checked.puzzles ≡ length (values world.puzzles)

@@ -1,5 +1,5 @@
 -- What was found of a sentence in the rows of a table.
-use Rattle.std.specs.Prelude.{◌≡◌, ◌+◌, ◌<◌, ◌≤◌, ◌⊎◌, ◌++◌, ℕ, List, [], ◌∷◌, length, Contains}
+use Rattle.std.specs.Prelude.{◌≡◌, ◌+◌, ◌<◌, ◌≤◌, ◌⊎◌, ◌++◌, List, [], ◌∷◌, length, map, take, Contains}
 use Rattle.hall_desk.specs.declared.sentence.Spot.{Spot}
 use Rattle.hall_desk.specs.declared.sentence.Breaches.{Breaches}
 
@@ -7,19 +7,23 @@ use Rattle.hall_desk.specs.declared.sentence.Breaches.{Breaches}
 abbrev pub EveryRow : {X : Type 0} → (X → Type 0) → List X → Type 0
 EveryRow {X} Says rows = (row : X) → Contains rows row → Says row
 
--- so many of the rows lack what is said
-abbrev pub Lack : {X : Type 0} → (X → Type 0) → List X → ℕ → Type 0
-Lack Says [] count = count ≡ 0
-Lack Says (row ∷ rows) count =
-    (Says row × Lack Says rows count) ⊎ (¬ (Says row) × ((rest : ℕ) × (count ≡ rest + 1) × Lack Says rows rest))
+-- each row stands in one of two lists, and each list has its rows in their order
+abbrev pub AreParted : {X : Type 0} → List X → List X → List X → Type 0
+AreParted [] first second = (first ≡ []) × (second ≡ [])
+AreParted {X} (row ∷ rows) first second =
+    ((rest : List X) × (first ≡ row ∷ rest) × AreParted rows rest second)
+    ⊎ ((rest : List X) × (second ≡ row ∷ rest) × AreParted rows first rest)
 
--- each place that is named is one of a row of which it is false, so many there are in all, and where none is named it
--- is true of each row
+-- the sentence is true of some of the rows and false of all others: these are counted, and the first 20 of them are
+-- named, in their order
 pub record Finds {X : Type 0} (Says : X → Type 0) (spot_of : X → Spot) (rows : List X) (found : Breaches) : Type 0 where
-  pub named : (spot : Spot) → Contains found.first.items spot →
-      (row : X) × Contains rows row × (spot ≡ spot_of row) × ¬ (Says row)
-  pub whole : found.first.items ≡ [] → EveryRow Says rows
-  pub counted : Lack Says rows found.count
+  pub true_of : List X
+  pub false_of : List X
+  pub parted : AreParted rows true_of false_of
+  pub is_true : EveryRow Says true_of
+  pub is_false : EveryRow (λ row. ¬ (Says row)) false_of
+  pub counted : found.count ≡ length false_of
+  pub named : found.first.items ≡ take 20 (map spot_of false_of)
 
 -- the place was put at the end, or stands behind the twenty that are named
 abbrev pub IsNotedIn : List Spot → List Spot → Spot → Type 0

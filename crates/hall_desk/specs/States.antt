@@ -1,17 +1,17 @@
 -- What new searches tell of puzzles' states.
-use Rattle.std.specs.Prelude.{◌≡◌, ◌+◌, ◌++◌, ◌∷◌, ◌⊎◌, ℕ, List, [], Contains}
+use Rattle.std.specs.Prelude.{◌≡◌, ◌++◌, ◌∷◌, ◌⊎◌, ℕ, false, List, [], map}
 use Rattle.hall_grid.specs.Board.{Board}
 use Rattle.hall_solve.specs.Puzzle.{OutcomeOfPuzzle}
 use Rattle.hall_solve.specs.Searched.{visits_made}
 use Rattle.hall_solve.specs.declared.outcome.Outcome.TheVariants as outcome
 use Rattle.hall_solve.specs.declared.searched.Visits.{Visits}
-use Rattle.hall_policy.specs.declared.record.PuzzleKey.{PuzzleKey}
 use Rattle.hall_policy.specs.declared.record.PuzzleRow.{PuzzleRow}
 use Rattle.hall_policy.specs.declared.record.PuzzleState.{PuzzleState}
-use Rattle.hall_desk.specs.Finds.{EveryRow, IsNotedIn}
+use Rattle.hall_desk.specs.Finds.{AreParted, EveryRow, Finds, IsBreachTold}
 use Rattle.hall_desk.specs.Sane.{IsTrueState}
 use Rattle.hall_desk.specs.Spots.{puzzle_spot}
-use Rattle.hall_desk.specs.declared.sentence.Spot.{Spot}
+use Rattle.hall_desk.specs.Step.{is_open}
+use Rattle.hall_desk.specs.declared.sentence.Sentence.TheVariants.{StateTrue}
 use Rattle.hall_desk.specs.declared.states.Judged.{Judged}
 use Rattle.hall_desk.specs.declared.states.Judged.TheVariants.{True, False, Undecided}
 use Rattle.hall_desk.specs.declared.states.States.{States}
@@ -21,28 +21,31 @@ abbrev pub HasGivenUp : ℕ → Board → Type 0
 HasGivenUp budget puzzle =
     (visits : Visits) × OutcomeOfPuzzle puzzle budget outcome.GaveUp × (visits_made visits ≡ budget)
 
+-- the state says something of the puzzle, and a search gave up
+abbrev pub IsUndecided : ℕ → Board → PuzzleState → Type 0
+IsUndecided budget puzzle state = (is_open state ≡ false) × HasGivenUp budget puzzle
+
 -- what is judged of the state
 abbrev pub IsJudgedSo : Board → ℕ → PuzzleState → Judged → Type 0
 IsJudgedSo puzzle budget state True = IsTrueState puzzle state
 IsJudgedSo puzzle budget state False = ¬ (IsTrueState puzzle state)
-IsJudgedSo puzzle budget state Undecided = HasGivenUp budget puzzle
+IsJudgedSo puzzle budget state Undecided = IsUndecided budget puzzle state
 
--- the state is true of the puzzle and nothing changes, or it is false and one more is counted and named, or the search
--- gave up and the puzzle is one more of the undecided
+-- it is told whether the state is true, or the puzzle is one more of the undecided
 abbrev pub IsStateTold : ℕ → PuzzleRow → States → States → Type 0
 IsStateTold budget row old new =
-    (IsTrueState row.puzzle row.state × (new ≡ old))
-    ⊎ ((¬ (IsTrueState row.puzzle row.state) × (new.undecided ≡ old.undecided)
-    × IsNotedIn old.found.first.items new.found.first.items (puzzle_spot row))
-    ⊎ (HasGivenUp budget row.puzzle × (new.found ≡ old.found)
-    × (new.undecided.items ≡ old.undecided.items ++ row.key ∷ [])))
+    (IsBreachTold (IsTrueState row.puzzle row.state) (puzzle_spot row) old.found new.found
+    × (new.undecided ≡ old.undecided))
+    ⊎ (IsUndecided budget row.puzzle row.state × (new.found ≡ old.found)
+    × (new.undecided.items ≡ old.undecided.items ++ row.key ∷ []))
 
--- each puzzle that is named has a false state, the search of each that is undecided gave up, and where there is neither
--- each state is true
+-- each puzzle is decided or not: of all that are, the sentence on true states is told as any other, and all others are
+-- listed, in their order
 pub record AreStatesTold (budget : ℕ) (rows : List PuzzleRow) (states : States) : Type 0 where
-  pub named : (spot : Spot) → Contains states.found.first.items spot →
-      (row : PuzzleRow) × Contains rows row × (spot ≡ puzzle_spot row) × ¬ (IsTrueState row.puzzle row.state)
-  pub undecided : (key : PuzzleKey) → Contains states.undecided.items key →
-      (row : PuzzleRow) × Contains rows row × (key ≡ row.key) × HasGivenUp budget row.puzzle
-  pub whole : states.found.first.items ≡ [] → states.undecided.items ≡ [] →
-      EveryRow (λ row. IsTrueState row.puzzle row.state) rows
+  pub decided : List PuzzleRow
+  pub undecided : List PuzzleRow
+  pub parted : AreParted rows decided undecided
+  pub sentence : states.found.sentence ≡ StateTrue
+  pub finds : Finds (λ row. IsTrueState row.puzzle row.state) puzzle_spot decided states.found
+  pub gave_up : EveryRow (λ row. IsUndecided budget row.puzzle row.state) undecided
+  pub listed : states.undecided.items ≡ map (λ row. row.key) undecided

@@ -61,6 +61,7 @@ fn tell_state(
 ) -> Result<(), AllocError>
     requires { states.old.found.count < usize.MAX }
     ensures few { OnOk result (states.new.found.count ≤ states.old.found.count + 1) }
+    ensures sentence { OnOk result (states.new.found.sentence ≡ states.old.found.sentence) }
     ensures told { OnOk result (IsStateTold budget row.now states.old states.new) }
 {
     match judge_state(alloc, &row.puzzle, &row.state, budget)? {

@@ -15,5 +15,5 @@ loop-row-preserved c =
       few = omega (arith, c.in_ok-tell_state.ensures.few, c.loop-row.invariant.few);
       told = subst (λ xs. AreStatesTold c.args.budget xs c.tell_state.new.states) (sym more)
           (told_one c.args.budget (take i rows) row c.loop-row.states c.tell_state.new.states
-          c.in_ok-tell_state.ensures.told c.loop-row.invariant.told);
+          c.in_ok-tell_state.ensures.sentence c.in_ok-tell_state.ensures.told c.loop-row.invariant.told);
     }

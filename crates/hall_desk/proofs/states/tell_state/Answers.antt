@@ -1,4 +1,4 @@
-use Rattle.std.proofs.Common.{◌≡◌, inl, inr, refl, subst}
+use Rattle.std.proofs.Common.{inl, inr, refl, subst}
 use Rattle.std.proofs.lemmas.Result.{on_ok_weaker}
 use Rattle.hall_desk.specs.States.{IsJudgedSo}
 use Rattle.hall_desk.specs.declared.states.Judged.{Judged}
@@ -7,9 +7,12 @@ use Rattle.hall_desk.proofs.states.tell_state.Goals as goal
 pub returns-in-False-clause-told : goal.returns-in-False-clause-told
 returns-in-False-clause-told c =
     let row = c.args.row.now in
-    on_ok_weaker c.note.result (λ noted. inr (inl (
-      subst (λ (judged : Judged). IsJudgedSo row.puzzle c.args.budget
-          row.state judged) c.in-False.is c.in_ok-judge_state.ensures,
+    on_ok_weaker c.note.result (λ noted. inl (
+      inr (
+        subst (λ (judged : Judged). IsJudgedSo row.puzzle c.args.budget
+            row.state judged) c.in-False.is c.in_ok-judge_state.ensures,
+        refl,
+        noted,
+      ),
       refl,
-      noted,
-    ))) c.note.ensures
+    )) c.note.ensures
