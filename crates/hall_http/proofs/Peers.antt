@@ -1,10 +1,11 @@
 -- What each step of a connection and its peer keeps.
-use Rattle.std.proofs.Common.{◌≡◌, ◌∙◌, sym, ap, subst, refl, arith, ℕ, ◌<◌, ◌≤◌, ◌==◌, inl, inr, List, [], ◌∷◌, ◌++◌}
-use Rattle.std.proofs.Common.{length, take, drop, Option, append_assoc, true, false, if◌then◌else◌}
+use Rattle.std.proofs.Common.{◌≡◌, ◌∙◌, sym, ap, subst, refl, arith, ℕ, ◌<◌, ◌≤◌, ◌+◌, ◌==◌, inl, inr, List, [], ◌∷◌}
+use Rattle.std.proofs.Common.{◌++◌, length, take, drop, Option, append_assoc, true, false, if◌then◌else◌}
 use Rattle.std.specs.Prelude.{Bool}
-use Rattle.std.proofs.lemmas.List.{append-nil}
+use Rattle.std.proofs.lemmas.Bool.{eqb-false}
+use Rattle.std.proofs.lemmas.List.{append-nil, length-append}
 use Rattle.hall_http.specs.Outgoing.{outgoing_text}
-use Rattle.hall_http.specs.Peer.{Traffic, IsUntouched, over_after, then_hung_up}
+use Rattle.hall_http.specs.Peer.{Traffic, IsUntouched, over_after, reads_after, then_hung_up}
 use Rattle.hall_http.specs.Turns.{Service, IsClient, IsClientKept, IsOverRightly, IsTurned}
 use Rattle.hall_http.specs.Connection.{Exchange, AreMoments}
 use Rattle.hall_http.specs.Resting.{HasRested, RestingSession}
@@ -37,6 +38,28 @@ over_some over count some =
 pub over_none : (over : Bool) (count : ℕ) → count ≡ 0 → over_after over (moved.Some count) ≡ true
 over_none over count none = ap (λ n. over_after over (moved.Some n)) none
 
+-- a read that gave bytes is one more that did
+pub reads_some : (reads count : ℕ) → 0 < count → reads_after reads (moved.Some count) ≡ reads + 1
+reads_some reads count some =
+    let other : (count == 0) ≡ false = grind (arith, some) in
+    ap (λ (b : Bool). if b then reads else reads + 1) other
+
+-- one that gave none isn't
+pub reads_none : (reads count : ℕ) → count ≡ 0 → reads_after reads (moved.Some count) ≡ reads
+reads_none reads count none = ap (λ n. reads_after reads (moved.Some n)) none
+
+reads_by : (reads count : ℕ) (b : Bool) → (count == 0) ≡ b
+    → (more : ℕ) × (reads_after reads (moved.Some count) ≡ reads + more) × (more ≤ count)
+reads_by reads count true is =
+    (0, ap (λ (b : Bool). if b then reads else reads + 1) is ∙ omega arith, omega arith)
+reads_by reads count false is =
+    (1, ap (λ (b : Bool). if b then reads else reads + 1) is, omega (arith, eqb-false _ _ is))
+
+-- whether it gave any or not, there are no more of these than bytes
+pub reads_more : (reads count : ℕ)
+    → (more : ℕ) × (reads_after reads (moved.Some count) ≡ reads + more) × (more ≤ count)
+reads_more reads count = reads_by reads count (count == 0) refl
+
 -- who waits for what it is at stands rightly
 pub stands_so : {H : Type 0} (may_wait : H → List ℕ → Type 0) (k : Connection) (h : H) (s : Step) → WaitsRightly s k
     → StandsRightly may_wait k h s
@@ -65,6 +88,9 @@ module _ {P : Type 0} (traffic : P → Traffic) where
     hung_up = untouched.hung_up;
     leaving = λ e. absurd cc;
     heard = untouched.came;
+    read_off = 0;
+    counted = untouched.reads;
+    some_off = omega arith;
     sent = untouched.went;
   }
 
@@ -80,6 +106,10 @@ module _ {P : Type 0} (traffic : P → Traffic) where
 
     heard_all : is.off ≡ [] → (traffic p).came ≡ is.history.came
     heard_all none = is.heard ∙ ap (λ s. is.history.came ++ s) none ∙ append-nil is.history.came
+
+    -- nor was any read of its peer but its own
+    counted_all : is.off ≡ [] → (traffic p).reads ≡ is.history.pieces
+    counted_all none = omega (arith, is.counted, is.some_off, ap (λ (s : List ℕ). length s) none)
 
     reading_off : k.state ≡ state.Reading → is.off ≡ []
     reading_off at = none_off state.Reading at (λ e same. absurd cc)
@@ -115,9 +145,10 @@ module _ {P : Type 0} (traffic : P → Traffic) where
     module _ (l : Connection) (q : P) where
       pub client_heard : (piece : List ℕ) → k.state ≡ state.Reading → 0 < length piece → length piece ≤ 4096
           → IsAfterHearing k piece l → (traffic q).came ≡ (traffic p).came ++ piece
-          → (traffic q).went ≡ (traffic p).went → (traffic q).over ≡ (traffic p).over
-          → (traffic q).hung_up ≡ (traffic p).hung_up → IsClient traffic xs (client l q f v)
-      client_heard piece at some few after more same stays hung = record {
+          → (traffic q).reads ≡ (traffic p).reads + 1 → (traffic q).went ≡ (traffic p).went
+          → (traffic q).over ≡ (traffic p).over → (traffic q).hung_up ≡ (traffic p).hung_up
+          → IsClient traffic xs (client l q f v)
+      client_heard piece at some few after more one same stays hung = record {
         history = then_heard is.history piece;
         has = heard is.history k is.has at piece l some few after;
         answered = is.answered;
@@ -129,14 +160,17 @@ module _ {P : Type 0} (traffic : P → Traffic) where
         hung_up = hung ∙ is.hung_up;
         leaving = λ e. let clash = sym (reading_open at) ∙ e in absurd cc;
         heard = more ∙ ap (λ s. s ++ piece) (heard_all (reading_off at)) ∙ sym (append-nil (is.history.came ++ piece));
+        read_off = 0;
+        counted = omega (arith, one, counted_all (reading_off at));
+        some_off = omega arith;
         sent = same ∙ is.sent;
       }
 
       pub client_ended : (piece : List ℕ) → k.state ≡ state.Reading → IsAfterEnd k l → piece ≡ []
-          → (traffic q).came ≡ (traffic p).came ++ piece → (traffic q).went ≡ (traffic p).went
-          → (traffic q).over ≡ true → (traffic q).hung_up ≡ (traffic p).hung_up
+          → (traffic q).came ≡ (traffic p).came ++ piece → (traffic q).reads ≡ (traffic p).reads
+          → (traffic q).went ≡ (traffic p).went → (traffic q).over ≡ true → (traffic q).hung_up ≡ (traffic p).hung_up
           → IsClient traffic xs (client l q true v)
-      client_ended piece at after empty more same over hung = record {
+      client_ended piece at after empty more none same over hung = record {
         history = then_ended is.history;
         has = ended is.history k is.has at l after;
         answered = is.answered;
@@ -150,15 +184,19 @@ module _ {P : Type 0} (traffic : P → Traffic) where
         heard = more ∙ ap (λ s. (traffic p).came ++ s) empty ∙ append-nil ((traffic p).came)
             ∙ heard_all (reading_off at)
             ∙ sym (append-nil is.history.came);
+        read_off = 0;
+        counted = omega (arith, none, counted_all (reading_off at));
+        some_off = omega arith;
         sent = same ∙ is.sent;
       }
 
       pub client_sent : (ending : Option ServeEnd) (count : ℕ) → k.state ≡ state.Writing ending
           → IsAfterSending k count l → (traffic q).came ≡ (traffic p).came
+          → (traffic q).reads ≡ (traffic p).reads
           → (traffic q).went ≡ (traffic p).went ++ take count (drop k.sent (outgoing_text k.reply))
           → (traffic q).over ≡ (traffic p).over → (traffic q).hung_up ≡ (traffic p).hung_up
           → IsClient traffic xs (client l q f v)
-      client_sent ending count at after same more stays hung = record {
+      client_sent ending count at after same none more stays hung = record {
         history = then_sent is.history (take count (pending k));
         has = sent is.history k is.has count ending l at after;
         answered = is.answered;
@@ -170,13 +208,16 @@ module _ {P : Type 0} (traffic : P → Traffic) where
         hung_up = hung ∙ is.hung_up;
         leaving = λ e. let clash = sym (writing_open ending at) ∙ e in absurd cc;
         heard = same ∙ heard_all (writing_off ending at) ∙ sym (append-nil is.history.came);
+        read_off = 0;
+        counted = omega (arith, none, counted_all (writing_off ending at));
+        some_off = omega arith;
         sent = more ∙ ap (λ s. s ++ take count (pending k)) is.sent;
       }
 
-      pub client_waits : (traffic q).came ≡ (traffic p).came → (traffic q).went ≡ (traffic p).went
-          → (traffic q).over ≡ (traffic p).over → (traffic q).hung_up ≡ (traffic p).hung_up
-          → IsClient traffic xs (client k q f v)
-      client_waits heard_same sent_same stays hung = record {
+      pub client_waits : (traffic q).came ≡ (traffic p).came → (traffic q).reads ≡ (traffic p).reads
+          → (traffic q).went ≡ (traffic p).went → (traffic q).over ≡ (traffic p).over
+          → (traffic q).hung_up ≡ (traffic p).hung_up → IsClient traffic xs (client k q f v)
+      client_waits heard_same none sent_same stays hung = record {
         history = is.history;
         has = is.has;
         answered = is.answered;
@@ -188,6 +229,9 @@ module _ {P : Type 0} (traffic : P → Traffic) where
         hung_up = hung ∙ is.hung_up;
         leaving = is.leaving;
         heard = heard_same ∙ is.heard;
+        read_off = is.read_off;
+        counted = none ∙ is.counted;
+        some_off = is.some_off;
         sent = sent_same ∙ is.sent;
       }
 
@@ -206,15 +250,19 @@ module _ {P : Type 0} (traffic : P → Traffic) where
         hung_up = ap (λ (t : Traffic). t.hung_up) told;
         leaving = λ _. (e, at);
         heard = ap (λ (t : Traffic). t.came) told ∙ is.heard;
+        read_off = is.read_off;
+        counted = ap (λ (t : Traffic). t.reads) told ∙ is.counted;
+        some_off = is.some_off;
         sent = ap (λ (t : Traffic). t.went) told ∙ is.sent;
       }
 
       -- what is no longer answered is read off
       pub client_left : (e : ServeEnd) (g : Bool) (piece : List ℕ) → k.state ≡ state.Ended e → f ≡ false
-          → (traffic q).came ≡ (traffic p).came ++ piece → (traffic q).went ≡ (traffic p).went
-          → (g ≡ true → (traffic q).over ≡ true) → (traffic q).hung_up ≡ (traffic p).hung_up
-          → IsClient traffic xs (client k q g v)
-      client_left e g piece at unended more same over hung = record {
+          → (traffic q).came ≡ (traffic p).came ++ piece
+          → (some : ℕ) × ((traffic q).reads ≡ (traffic p).reads + some) × (some ≤ length piece)
+          → (traffic q).went ≡ (traffic p).went → (g ≡ true → (traffic q).over ≡ true)
+          → (traffic q).hung_up ≡ (traffic p).hung_up → IsClient traffic xs (client k q g v)
+      client_left e g piece at unended more (some, rise, few) same over hung = record {
         history = is.history;
         has = is.has;
         answered = is.answered;
@@ -226,6 +274,9 @@ module _ {P : Type 0} (traffic : P → Traffic) where
         hung_up = hung ∙ is.hung_up;
         leaving = λ _. (e, at);
         heard = more ∙ ap (λ s. s ++ piece) is.heard ∙ append_assoc is.history.came is.off piece;
+        read_off = is.read_off + some;
+        counted = omega (arith, rise, is.counted);
+        some_off = omega (arith, is.some_off, few, length-append is.off piece);
         sent = same ∙ is.sent;
       }
 
@@ -246,6 +297,9 @@ module _ {P : Type 0} (traffic : P → Traffic) where
         same_heard at same =
             ap (λ (p : P). (traffic p).came) same ∙ heard_all (looking_off at) ∙ sym (append-nil is.history.came)
 
+        same_counted : k.state ≡ state.Looking → q ≡ p → (traffic q).reads ≡ is.history.pieces + 0
+        same_counted at same = omega (arith, ap (λ (p : P). (traffic p).reads) same, counted_all (looking_off at))
+
         pub client_looked : k.state ≡ state.Looking → q ≡ p → Looks service.answers service.now_gives (h, c) k (i, d) l
             → Turned
         client_looked at same (inl a) = (
@@ -264,6 +318,9 @@ module _ {P : Type 0} (traffic : P → Traffic) where
             hung_up = ap (λ (p : P). (traffic p).hung_up) same ∙ is.hung_up;
             leaving = λ e. let clash = sym (looking_open at) ∙ e in absurd cc;
             heard = same_heard at same;
+            read_off = 0;
+            counted = same_counted at same;
+            some_off = omega arith;
             sent = ap (λ (p : P). (traffic p).went) same ∙ is.sent;
           },
         )
@@ -283,6 +340,9 @@ module _ {P : Type 0} (traffic : P → Traffic) where
               hung_up = ap (λ (p : P). (traffic p).hung_up) same ∙ is.hung_up;
               leaving = λ e. let clash = sym (looking_open at) ∙ e in absurd cc;
               heard = same_heard at same;
+              read_off = 0;
+              counted = same_counted at same;
+              some_off = omega arith;
               sent = ap (λ (p : P). (traffic p).went) same ∙ is.sent;
             })
 

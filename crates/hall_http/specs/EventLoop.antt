@@ -1,11 +1,12 @@
 -- What the event loop was asked for, and what it said.
-use Rattle.std.specs.Prelude.{◌≡◌, ◌≢◌, ◌+◌, ℕ, Option, Some, None, [], ◌∷◌, ◌++◌, length, map}
+use Rattle.std.specs.Prelude.{◌≡◌, ◌≢◌, ◌+◌, ℕ, Option, Some, None, [], ◌∷◌, ◌++◌, get_or, length, map}
 use Rattle.std.specs.declared.net.socket_addr.SocketAddr.{SocketAddr}
 use Rattle.hall_http.specs.Coming.{IsFreshPeer, Said, logged, newcomer}
 use Rattle.hall_http.specs.Seats.{AreFresh, IsUnheard, LetsGo}
 use Rattle.hall_http.specs.Socket.{traffic_of}
 use Rattle.hall_http.specs.declared.event_loop.EventLoop.{EventLoop}
 use Rattle.hall_http.specs.declared.places.Places.{Places}
+use Rattle.hall_http.specs.declared.places.Visit.TheVariants.{Ready}
 use Rattle.hall_http.specs.declared.server.Next.{Next}
 use Rattle.hall_http.specs.declared.server.Next.TheVariants as next
 use Rattle.hall_http.specs.declared.socket.Socket.{Socket}
@@ -19,10 +20,12 @@ said_by sockets = record {
   heard = map (λ one. one.0) sockets.schedule.places.heard.items;
 }
 
--- a newcomer has the place that was given last, which was free; and else none was given
+-- a newcomer has the place that was given last, which was free, and is ready there and has waited for nothing; and else
+-- none was given
 abbrev pub GivesPlace : Places → Next Socket → Places → Type 0
 GivesPlace old (next.Newcomer place peer) new =
     (now : ℕ) × (new.seated.items ≡ old.seated.items ++ (place, now) ∷ [])
+    × (get_or new.visits.items place None ≡ Some (Ready None))
 GivesPlace old _ new = new.seated.items ≡ old.seated.items
 
 -- whoever goes was let go last; and else nobody was

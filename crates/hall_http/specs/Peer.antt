@@ -1,14 +1,15 @@
 -- What is known of the other side of a connection.
-use Rattle.std.specs.Prelude.{◌≡◌, ◌==◌, ◌⊎◌, if◌then◌else◌, ℕ, Bool, true, false, List, []}
+use Rattle.std.specs.Prelude.{◌≡◌, ◌==◌, ◌+◌, ◌⊎◌, if◌then◌else◌, ℕ, Bool, true, false, List, []}
 use Rattle.hall_http.specs.declared.peer.Moved.{Moved}
 use Rattle.hall_http.specs.declared.peer.Moved.TheVariants.{Some, Wait, None}
 
--- its number among all that the same sockets handed out, all bytes that were read of it, and all that it was sent;
--- whether a read told that no more comes, or failed; whether a send told that no more goes; and whether it was told
--- that no more is sent
+-- its number among all that the same sockets handed out, all bytes that were read of it, how many reads gave some of
+-- them, and all that it was sent; whether a read told that no more comes, or failed; whether a send told that no more
+-- goes; and whether it was told that no more is sent
 pub record Traffic : Type 0 where
   pub number : ℕ
   pub came : List ℕ
+  pub reads : ℕ
   pub went : List ℕ
   pub over : Bool
   pub broke : Bool
@@ -19,6 +20,12 @@ abbrev pub moved : Moved → ℕ
 moved (Some n) = n
 moved Wait = 0
 moved None = 0
+
+-- how many reads gave bytes: one more where a read did
+abbrev pub reads_after : ℕ → Moved → ℕ
+reads_after reads (Some n) = if n == 0 then reads else reads + 1
+reads_after reads Wait = reads
+reads_after reads None = reads
 
 -- whether no more comes: a read told so, which gave nothing and had nothing to wait for; or one before it did
 abbrev pub over_after : Bool → Moved → Bool
@@ -39,6 +46,7 @@ then_hung_up t = record t { hung_up = true }
 -- nothing was read of it, not even that no more comes; and it was sent nothing, not even that no more is sent
 pub record IsUntouched (t : Traffic) : Type 0 where
   pub came : t.came ≡ []
+  pub reads : t.reads ≡ 0
   pub went : t.went ≡ []
   pub over : t.over ≡ false
   pub broke : t.broke ≡ false

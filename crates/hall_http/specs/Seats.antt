@@ -3,6 +3,7 @@ use Rattle.std.specs.Prelude.{◌≡◌, ◌<◌, ◌+◌, ◌==◌, ◌⊎◌, 
 use Rattle.std.specs.Prelude.{Option, Some, None, flat_map, get_or, is_some, length, map, set}
 use Rattle.mio.specs.declared.net.stream.TcpStream.{TcpStream}
 use Rattle.hall_http.specs.Coming.{Nexts}
+use Rattle.hall_http.specs.Limits.{most_connections}
 use Rattle.hall_http.specs.Places.{HasExpired, MayMakeRoom, taken, wait_in}
 use Rattle.hall_http.specs.declared.client.Step.{Step}
 use Rattle.hall_http.specs.declared.client.Step.TheVariants as step
@@ -15,8 +16,9 @@ use Rattle.hall_http.specs.declared.places.Wait.{Wait}
 use Rattle.hall_http.specs.declared.server.Next.{Next}
 use Rattle.hall_http.specs.declared.server.Next.TheVariants as next
 
--- all places are free, none was given yet, nobody was lost and nothing was heard; so many may come
+-- there are 500 places, all of them free, none was given yet, nobody was lost and nothing was heard; so many may come
 pub record AreFresh (connections : ℕ) (places : Places) : Type 0 where
+  pub long : length places.visits.items ≡ most_connections
   pub free : taken places.visits.items ≡ 0
   pub seated : places.seated.items ≡ []
   pub lost : places.lost.items ≡ []
@@ -118,14 +120,15 @@ abbrev pub Wakes : Option Visit → Option Visit → Type 0
 Wakes None new = new ≡ None
 Wakes (Some old) new = new ≡ Some (Ready (wait_in old))
 
--- what is known of a connection that stood so after its turn
-abbrev pub IsHeard : Step → Visit → Type 0
-IsHeard step.Again (Ready last) = Unit {0}
-IsHeard step.Leaves (Ready (Some wait)) = wait.wish ≡ wish.Leaving
-IsHeard (step.Waits what requests) (Waiting wait) =
+-- what is known of a connection that stood so after its turn, of which this was known before: where it can go on, that
+-- it is ready, and what it waited for last
+abbrev pub IsHeard : Option Visit → Step → Visit → Type 0
+IsHeard old step.Again visit = Wakes old (Some visit)
+IsHeard old step.Leaves (Ready (Some wait)) = wait.wish ≡ wish.Leaving
+IsHeard old (step.Waits what requests) (Waiting wait) =
     (wait.wish ≡ what) × ((wait.requests ≡ requests) ⊎ (what ≡ wish.Leaving))
-IsHeard (step.Searches requests) (Searching wait) = (wait.wish ≡ wish.Searching) × (wait.requests ≡ requests)
-IsHeard step visit = ⊥
+IsHeard old (step.Searches requests) (Searching wait) = (wait.wish ≡ wish.Searching) × (wait.requests ≡ requests)
+IsHeard old step visit = ⊥
 
 -- the place of one that goes
 abbrev pub gone_at : {P : Type 0} → Next P → List ℕ

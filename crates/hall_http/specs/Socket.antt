@@ -12,12 +12,13 @@ came_of s = flat_map (λ read. take read.1 read.0) s.reads.items
 abbrev pub went_of : Socket → List ℕ
 went_of s = flat_map (λ write. take write.1.1 (drop write.1.0 (outgoing_text write.0))) s.writes.items
 
--- both, how many were handed out before it, whether a read told that no more comes and a write that no more goes, and
--- whether it was told that no more is sent
+-- both, how many reads gave the first, how many sockets were handed out before it, whether a read told that no more
+-- comes and a write that no more goes, and whether it was told that no more is sent
 abbrev pub traffic_of : Socket → Traffic
 traffic_of s = record {
   number = length s.before.items;
   came = came_of s;
+  reads = length s.reads.items;
   went = went_of s;
   over = s.is_over;
   broke = s.is_broken;

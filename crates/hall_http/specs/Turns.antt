@@ -1,5 +1,5 @@
 -- Many connections, and what each was told.
-use Rattle.std.specs.Prelude.{◌≡◌, ◌≢◌, ◌≤◌, ◌==◌, ◌⊎◌, ℕ, List, [], ◌∷◌, ◌++◌, length, map, filter, All}
+use Rattle.std.specs.Prelude.{◌≡◌, ◌≢◌, ◌≤◌, ◌==◌, ◌+◌, ◌⊎◌, ℕ, List, [], ◌∷◌, ◌++◌, length, map, filter, All}
 use Rattle.std.specs.Prelude.{Option, Some, None, Bool, true, false}
 use Rattle.hall_http.specs.Served.{HaveRead, MayGoOn, refusal}
 use Rattle.hall_http.specs.Connection.{Exchange, AreMoments, AreOpen, requests_of, replies_of}
@@ -58,9 +58,9 @@ HasEnded xs pieces ended unread went =
 
 -- The first bytes that came of a connection are these requests, at most 1,000, of which none but the last closes it.
 -- It was sent their replies, in their order, the last perhaps in part; or all of them and then the reply F7, where what
--- was left may be refused, and no whole request stands at the front of what came after. At most 100,000 reads gave
--- bytes, each where what waited was unfinished, and then these bytes were left. What came after them was read off once
--- the connection had ended, and only then it was told that no more is sent.
+-- was left may be refused, and no whole request stands at the front of what came after. At most 100,000 of its reads
+-- gave bytes, each where what waited was unfinished, and then these bytes were left. What came after them was read off
+-- once the connection had ended, by the rest of its reads, and only then it was told that no more is sent.
 pub record IsConnectionTold (xs : List Exchange) (t : Traffic) : Type 0 where
   pub rest : List ℕ
   pub spelled : t.came ≡ requests_of xs ++ rest
@@ -70,8 +70,11 @@ pub record IsConnectionTold (xs : List Exchange) (t : Traffic) : Type 0 where
   pub pieces : ℕ
   pub unread : List ℕ
   pub off : List ℕ
+  pub read_off : ℕ
   pub told : AreSent xs t.went ⊎ (IsRefusedAfter xs t.went × IsRefusedRightly xs unread t.over × HasNoWholeRequest rest)
   pub seldom : pieces ≤ 100000
+  pub counted : t.reads ≡ pieces + read_off
+  pub some_off : read_off ≤ length off
   pub reading : HaveRead xs pieces unread
   pub bounded : length unread ≤ 81920
   pub parts : rest ≡ unread ++ off
@@ -80,8 +83,8 @@ pub record IsConnectionTold (xs : List Exchange) (t : Traffic) : Type 0 where
       → (ended : Bool) × (ended ≡ true → t.over ≡ true) × HasEnded xs pieces ended unread t.went
 
 -- the connection was answered these requests, and what it heard and was told is what came of its peer and went to it,
--- the end only where its peer told it; once it has ended, some more may have come, which is read off, and only then its
--- peer is told that no more is sent
+-- the end only where its peer told it, and in as many reads; once it has ended, some more may have come, which is read
+-- off, at least a byte in a read, and only then its peer is told that no more is sent
 pub record IsClient {P : Type 0} (traffic : P → Traffic) (xs : List Exchange) (k : Client P) : Type 0 where
   pub history : ConnectionHistory
   pub has : HasHistory history k.connection
@@ -94,6 +97,9 @@ pub record IsClient {P : Type 0} (traffic : P → Traffic) (xs : List Exchange) 
   pub hung_up : (traffic k.peer).hung_up ≡ k.is_leaving
   pub leaving : k.is_leaving ≡ true → (e : ServeEnd) × (k.connection.state ≡ state.Ended e)
   pub heard : (traffic k.peer).came ≡ history.came ++ off
+  pub read_off : ℕ
+  pub counted : (traffic k.peer).reads ≡ history.pieces + read_off
+  pub some_off : read_off ≤ length off
   pub sent : (traffic k.peer).went ≡ history.went
 
 -- whatever it was answered, it was answered no more, and it is of the same number

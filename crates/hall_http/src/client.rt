@@ -187,12 +187,16 @@ impl<P: Peer> Client<P> {
         Step::Again
     }
 
-    /// Sends once.
+    /// Sends once, where some of the reply is left.
     fn write(&mut self) -> Step
         requires kept { (xs : List Exchange) × IsClient P.traffic xs self.old }
         requires at { (ending : Option ServeEnd) × (self.old.connection.state ≡ State.Writing ending) }
         ensures { IsMoved P.traffic self.old result self.new }
     {
+        if self.connection.pending().is_empty() {
+            self.connection.sent(0);
+            return Step::Again;
+        }
         match self.peer.send(&self.connection.reply, self.connection.sent) {
             Moved::Some(count) => self.connection.sent(count),
             Moved::Wait => return self.waits(Wish::Taking),

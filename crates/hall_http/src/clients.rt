@@ -23,7 +23,7 @@ use std::alloc::{AllocError, Global};
 pub(crate) const MOST_CLIENTS: usize = 500;
 
 /// Why a newcomer was turned away.
-#[derive(Clone, Copy)]
+#[derive(Drop)]
 pub enum Away {
     /// Another connection had its place, or that isn't one of those that there are.
     NoPlace,
@@ -32,7 +32,7 @@ pub enum Away {
 }
 
 /// How a connection went that came.
-#[derive(Clone, Copy)]
+#[derive(Drop)]
 pub enum Departure {
     /// It was turned away.
     TurnedAway(Away),

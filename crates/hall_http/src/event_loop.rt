@@ -166,7 +166,7 @@ impl<'r, N: Net + AllocGlobal + time::Clock> Schedule<'r, N> {
         let alloc = rt.alloc();
         let poll = Poll::new(rt)?;
         let events = Events::with_capacity(alloc, MOST_EVENTS)?;
-        let places = Places::new(alloc, MOST_CLIENTS, connections)?;
+        let places = Places::new(alloc, connections)?;
         let ready = VecDeque::with_capacity(alloc, MOST_CLIENTS)?;
         let searching = VecDeque::with_capacity(alloc, MOST_CLIENTS)?;
         let mut listener = TcpListener::bind(rt, address)?;

@@ -31,8 +31,8 @@ pub struct Inbox {
     passed: usize,
 }
 
-/// That there was no memory for the inbox of a newcomer. Only a refusal of it makes one.
-#[derive(Clone, Copy)]
+/// That there was no memory for the inbox of a newcomer. Only a refusal of it makes one, and nothing copies it.
+#[derive(Drop)]
 pub struct NoInbox {
     refused: (),
 }

@@ -1,7 +1,7 @@
 //! The other side of one open connection.
-ghost use Rattle.std.specs.Prelude.{◌≡◌, ◌≤◌, ◌++◌, false, length, take, drop};
+ghost use Rattle.std.specs.Prelude.{◌≡◌, ◌<◌, ◌≤◌, ◌++◌, false, length, take, drop};
 ghost use Rattle.hall_http.specs.Outgoing.{outgoing_text};
-ghost use Rattle.hall_http.specs.Peer.{Traffic, broke_after, moved, over_after, then_hung_up};
+ghost use Rattle.hall_http.specs.Peer.{Traffic, broke_after, moved, over_after, reads_after, then_hung_up};
 
 use crate::outgoing::Outgoing;
 
@@ -18,9 +18,9 @@ pub enum Moved {
 
 /// The other side of one open connection.
 pub trait Peer {
-    /// Its number among all that its sockets handed out, all bytes that were read of it, and all that it was sent; and
-    /// whether a read told that no more comes, or failed; a send told that no more goes; it was told that no more is
-    /// sent.
+    /// Its number among all that its sockets handed out, all bytes that were read of it, how many reads gave them, and
+    /// all that it was sent; and whether a read told that no more comes, or failed; a send told that no more goes; it
+    /// was told that no more is sent.
     ghost traffic: { Self → Traffic };
 
     /// Reads once, at the front of the chunk.
@@ -28,18 +28,20 @@ pub trait Peer {
         ensures bound { moved result ≤ 4096 }
         ensures number { (traffic self.new).number ≡ (traffic self.old).number }
         ensures came { (traffic self.new).came ≡ (traffic self.old).came ++ take (moved result) chunk.new }
+        ensures reads { (traffic self.new).reads ≡ reads_after (traffic self.old).reads result }
         ensures went { (traffic self.new).went ≡ (traffic self.old).went }
         ensures over { (traffic self.new).over ≡ over_after (traffic self.old).over result }
         ensures broke { (traffic self.new).broke ≡ (traffic self.old).broke }
         ensures hung_up { (traffic self.new).hung_up ≡ (traffic self.old).hung_up };
 
-    /// Sends once, from this byte on, unless it was told that no more is sent.
+    /// Sends once, from this byte on, which is one of those that there are; unless it was told that no more is sent.
     fn send(&mut self, bytes: &Outgoing, from: usize) -> Moved
-        requires from { from ≤ length (outgoing_text bytes.now) }
+        requires from { from < length (outgoing_text bytes.now) }
         requires hung_up { (traffic self.old).hung_up ≡ false }
         ensures bound { moved result ≤ length (drop from (outgoing_text bytes.now)) }
         ensures number { (traffic self.new).number ≡ (traffic self.old).number }
         ensures came { (traffic self.new).came ≡ (traffic self.old).came }
+        ensures reads { (traffic self.new).reads ≡ (traffic self.old).reads }
         ensures went { (traffic self.new).went ≡
             (traffic self.old).went ++ take (moved result) (drop from (outgoing_text bytes.now)) }
         ensures over { (traffic self.new).over ≡ (traffic self.old).over }

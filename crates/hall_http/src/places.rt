@@ -1,8 +1,11 @@
 //! The places of the connections, and how many of these may still come.
 ghost use Rattle.std.specs.Prelude.{◌≡◌, ◌≤◌, ◌<◌, ◌+◌, [], ◌∷◌, ◌++◌, All, IfOk, None, Some, get_or, length, true};
+ghost use Rattle.hall_http.specs.Limits.{most_connections, most_counted};
 ghost use Rattle.hall_http.specs.Places.{IsLetGo, patience_of, taken};
+ghost use Rattle.hall_http.specs.declared.places.Visit.TheVariants.{Ready};
 
 use crate::client::{Step, Wish};
+use crate::clients::MOST_CLIENTS;
 use http_server::Log;
 use mio::net::TcpStream;
 use std::alloc::{AllocError, Global};
@@ -100,6 +103,7 @@ pub(crate) struct Places {
     let_go: Log<LetGo, u64>,
     /// All that was heard of turns, and the millisecond.
     heard: Log<(usize, Step), u64>,
+    ghost long: { length visits.items ≡ most_connections },
     ghost counted: { here ≡ taken visits.items },
     ghost in_all: { left + (length freed.items + length lost.items) ≡ most },
     ghost stays: { length seated.items ≡ length freed.items + here },
@@ -108,18 +112,17 @@ pub(crate) struct Places {
 }
 
 impl Places {
-    ghost use Rattle.hall_http.specs.Limits.{most_counted};
     ghost use Rattle.hall_http.specs.Seats.{AreFresh, AreStill, Follows, Frees, FreesOne, GoesOn, HasHeard};
     ghost use Rattle.hall_http.specs.Seats.{HaveAllGone, IsHeard, IsOpen, IsUnheard, LetsGo, LosesOne, MayLetGo};
     ghost use Rattle.hall_http.specs.Seats.{TouchesOnly, Wakes};
     ghost use Rattle.hall_http.specs.Seats.{are_full};
 
-    /// So many places, all free, for so many connections.
-    pub(crate) fn new(alloc: Global, count: usize, most: u64) -> Result<Places, AllocError>
+    /// All places, free, for so many connections.
+    pub(crate) fn new(alloc: Global, most: u64) -> Result<Places, AllocError>
         ensures { IfOk result (AreFresh most) }
     {
-        let mut visits = Vec::with_capacity(alloc, count)?;
-        for _place in 0..count {
+        let mut visits = Vec::with_capacity(alloc, MOST_CLIENTS)?;
+        for _place in 0..MOST_CLIENTS {
             visits.push(None)?;
         }
         Ok(Places {
@@ -237,7 +240,8 @@ impl Places {
     pub(crate) fn hears(&mut self, place: usize, step: Step)
         ensures heard { HasHeard self.old (place, step) self.new }
         ensures there { TouchesOnly self.old place self.new }
-        ensures known { (visit : Visit) → get_or self.new.visits.items place None ≡ Some visit → IsHeard step visit }
+        ensures known { (visit : Visit) → get_or self.new.visits.items place None ≡ Some visit →
+            IsHeard (get_or self.old.visits.items place None) step visit }
         ensures follows { (visit : Visit) → get_or self.new.visits.items place None ≡ Some visit →
             Follows (get_or self.old.visits.items place None) visit self.old.elapsed }
     {
@@ -264,12 +268,14 @@ impl Places {
         self.heard = self.heard.and(&(place, step), &self.elapsed);
     }
 
-    /// Gives a newcomer the place. What comes of it is which places were given before.
+    /// Gives a newcomer the place, which is ready and has waited for nothing. What comes of it is which places were
+    /// given before.
     pub(crate) fn seat(&mut self, place: usize) -> Log<usize, u64>
         requires { IsOpen self.old place }
         ensures before { result.items ≡ self.old.seated.items }
         ensures freed { self.new.freed.items ≡ self.old.freed.items }
         ensures there { TouchesOnly self.old place self.new }
+        ensures known { get_or self.new.visits.items place None ≡ Some (Ready None) }
         ensures seated { self.new.seated.items ≡ self.old.seated.items ++ (place, self.old.elapsed) ∷ [] }
         ensures most { self.new.most ≡ self.old.most }
         ensures let_go { self.new.let_go.items ≡ self.old.let_go.items }

@@ -140,6 +140,7 @@ impl Peer for Scripted<'_> {
     ghost traffic = { λ peer. record {
       number = length peer.before.items;
       came = flat_map (λ read. take read.1 read.0) peer.reads.items;
+      reads = length peer.reads.items;
       went = flat_map (λ write. take write.1.1 (drop write.1.0 (outgoing_text write.0))) peer.writes.items;
       over = peer.is_over;
       broke = peer.is_broken;

@@ -1,8 +1,8 @@
 use Rattle.std.proofs.Common.{arith, ap, refl, ◌≡◌, ◌∙◌, take, length, ℕ, true}
 use Rattle.std.specs.Prelude.{Bool}
 use Rattle.std.proofs.lemmas.List.{length-take-le}
-use Rattle.hall_http.specs.Peer.{moved, over_after}
-use Rattle.hall_http.proofs.Peers.{client_heard, client_ended, over_none, over_some}
+use Rattle.hall_http.specs.Peer.{moved, over_after, reads_after}
+use Rattle.hall_http.proofs.Peers.{client_heard, client_ended, over_none, over_some, reads_none, reads_some}
 use Rattle.hall_http.proofs.client.Client.read.Goals as goal
 use Rattle.hall_http.proofs.client.Client.read.Goals.{in_default-via-in-Some+else-count-gt0, in_default-via-in_default}
 
@@ -17,7 +17,8 @@ returns-in-Some g c =
         kept = λ xs is.
             client_heard g.P.Peer.traffic _ _ _ _ xs is _ _ bytes c.requires.at
             (omega (arith, whole, c.if-count-gt0.true)) (omega (arith, whole, c.in-Some.ensures.bound)) c.hear.ensures
-            c.in-Some.ensures.came c.in-Some.ensures.went
+            c.in-Some.ensures.came
+            (c.in-Some.ensures.reads ∙ reads_some _ c.in-Some.count c.if-count-gt0.true) c.in-Some.ensures.went
             (c.in-Some.ensures.over ∙ over_some _ c.in-Some.count c.if-count-gt0.true) c.in-Some.ensures.hung_up;
       },
       tt,
@@ -36,6 +37,12 @@ returns-in_default g c =
       | in_default-via-in-Some+else-count-gt0 w ↦
           ap (over_after over) w.in-Some.is ∙ over_none over w.in-Some.count (omega (arith, w.if-count-gt0.false))
       | in_default-via-in_default w ↦ ap (over_after over) w.in_default.is
+    ] in
+    let reads : (reads : ℕ) → reads_after reads c.receive.result ≡ reads = λ reads.
+    elim c.in_default.branch [
+      | in_default-via-in-Some+else-count-gt0 w ↦
+          ap (reads_after reads) w.in-Some.is ∙ reads_none reads w.in-Some.count (omega (arith, w.if-count-gt0.false))
+      | in_default-via-in_default w ↦ ap (reads_after reads) w.in_default.is
     ] in (
       refl,
       record {
@@ -43,7 +50,8 @@ returns-in_default g c =
         kept = λ xs is.
             client_ended g.P.Peer.traffic _ _ _ _ xs is _ _ (take (moved c.receive.result) c.receive.new.chunk)
             c.requires.at c.end_input.ensures (ap (λ (n : ℕ). take n c.receive.new.chunk) none)
-            c.receive.ensures.came c.receive.ensures.went (c.receive.ensures.over ∙ over _) c.receive.ensures.hung_up;
+            c.receive.ensures.came (c.receive.ensures.reads ∙ reads _) c.receive.ensures.went
+            (c.receive.ensures.over ∙ over _) c.receive.ensures.hung_up;
       },
       tt,
       tt,

@@ -1,14 +1,34 @@
-use Rattle.std.proofs.Common.{◌∙◌, inl, refl}
-use Rattle.std.proofs.lemmas.List.{append-nil}
+use Rattle.std.proofs.Common.{◌≡◌, ◌∙◌, ℕ, List, ◌-◌, ap, arith, inl, length, refl, sym}
+use Rattle.std.proofs.lemmas.Bool.{eqb-false}
+use Rattle.std.proofs.lemmas.List.{append-nil, length-drop}
+use Rattle.hall_http.specs.Outgoing.{outgoing_text}
 use Rattle.hall_http.proofs.Peers.{client_sent, client_waits, may_send}
 use Rattle.hall_http.proofs.client.Client.write.Goals as goal
 
 pub send-requires-clause-from : goal.send-requires-clause-from
-send-requires-clause-from g c = c.requires.kept.1.has.inside
+send-requires-clause-from g c =
+    let k = c.args.self.now.connection in
+    let some : length c.pending.result.now ≡ 0 → ⊥ = eqb-false _ _ (sym c.is_empty.ensures ∙ c.if-is_empty.false) in
+    let left : length c.pending.result.now ≡ length (outgoing_text k.reply) - k.sent =
+    ap (λ (s : List ℕ). length s) c.pending.ensures ∙ length-drop k.sent (outgoing_text k.reply) in
+    omega (arith, some, left)
 
 pub send-requires-clause-hung_up : goal.send-requires-clause-hung_up
 send-requires-clause-hung_up g c =
     may_send g.P.Peer.traffic _ _ _ _ c.requires.kept.0 c.requires.kept.1 c.requires.at.0 c.requires.at.1
+
+pub returns-then-is_empty : goal.returns-then-is_empty
+returns-then-is_empty g c = (
+  refl,
+  record {
+    number = refl;
+    kept = λ xs is.
+        client_sent g.P.Peer.traffic _ _ _ _ xs is _ _ c.requires.at.0 0 c.requires.at.1 c.sent.ensures
+        refl refl (sym (append-nil _)) refl refl;
+  },
+  tt,
+  tt,
+)
 
 pub returns-in-None : goal.returns-in-None
 returns-in-None g c = (
@@ -17,7 +37,8 @@ returns-in-None g c = (
     number = c.in-None.ensures.number;
     kept = λ xs is.
         client_waits g.P.Peer.traffic _ _ _ _ xs is c.args.self.now.connection _ c.in-None.ensures.came
-        (c.in-None.ensures.went ∙ append-nil _) c.in-None.ensures.over c.in-None.ensures.hung_up;
+        c.in-None.ensures.reads (c.in-None.ensures.went ∙ append-nil _) c.in-None.ensures.over
+        c.in-None.ensures.hung_up;
   },
   inl c.in-None.ensures.broke,
   tt,
@@ -29,8 +50,9 @@ returns g c = (
   record {
     number = c.in-Some.ensures.number;
     kept = λ xs is.
-        client_sent g.P.Peer.traffic _ _ _ _ xs is _ _ c.requires.at.0 _ c.requires.at.1 c.sent.ensures
-        c.in-Some.ensures.came c.in-Some.ensures.went c.in-Some.ensures.over c.in-Some.ensures.hung_up;
+        client_sent g.P.Peer.traffic _ _ _ _ xs is _ _ c.requires.at.0 _ c.requires.at.1 c.sent-in-Some.ensures
+        c.in-Some.ensures.came c.in-Some.ensures.reads c.in-Some.ensures.went c.in-Some.ensures.over
+        c.in-Some.ensures.hung_up;
   },
   tt,
   tt,
