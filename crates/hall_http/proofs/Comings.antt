@@ -2,7 +2,7 @@
 use Rattle.std.proofs.Common.{◌≡◌, ◌∙◌, sym, ap, subst, refl, arith, ℕ, ◌+◌, inr, [], ◌∷◌, ◌++◌, length, append_assoc}
 use Rattle.std.proofs.Common.{◌≤◌, drop, length-append}
 use Rattle.std.specs.Prelude.{All}
-use Rattle.std.proofs.lemmas.List.{append-nil, drop-append-le, drop_all}
+use Rattle.std.proofs.lemmas.List.{append-nil, drop-append-le, drop_all, drop_at}
 use Rattle.std.proofs.lemmas.List.Elements.{All-nil, All-push}
 use Rattle.hall_http.specs.Coming.{Nexts, Said, IsFreshPeer, IsNextStep, newcomer, since, AreCounted, EndsBy, AreDone}
 use Rattle.hall_http.specs.Peer.{Traffic}
@@ -43,6 +43,20 @@ module _ {P : Type 0} (traffic : P → Traffic) where
     counted = refl;
     most = refl;
   }
+
+  -- the newcomers among what was said have these numbers
+  pub counted_since : (before after : Said P) (count : ℕ) → DoneSoFar before after count
+      → AreCounted traffic before.count (since before after) after.count
+  counted_since before after count done =
+      let all : since before after ≡ done.steps =
+      ap (drop (length before.nexts)) done.said ∙ drop_at before.nexts done.steps (length before.nexts) refl in
+      rw all done.came
+
+  pub counted_turn : (few : ℕ) (xs : Nexts P) (many place : ℕ) → AreCounted traffic few xs many
+      → AreCounted traffic few (xs ++ next.Turn place ∷ []) many
+  counted_turn few xs many place counted =
+      subst (λ (n : ℕ). AreCounted traffic few (xs ++ next.Turn place ∷ []) n) (same_count many)
+      (counted_more few xs many (next.Turn place) counted tt)
 
   -- one thing more was said
   pub since_more : (before after : Said P) (count : ℕ) → DoneSoFar before after count → (x : Next P) (then : Said P)

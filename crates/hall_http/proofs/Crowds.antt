@@ -9,7 +9,7 @@ use Rattle.std.proofs.lemmas.List.{append-nil, take-append-drop, set-get_or}
 use Rattle.std.proofs.lemmas.List.Elements.{All-nil, All-push, All-append}
 use Rattle.hall_http.specs.Served.{refusal}
 use Rattle.hall_http.specs.Connection.{Exchange, AreMoments, LeavesOpen, requests_of}
-use Rattle.hall_http.specs.Peer.{Traffic, IsUntouched}
+use Rattle.hall_http.specs.Peer.{Traffic, IsLater, IsUntouched}
 use Rattle.hall_http.specs.Resting.{RestingSession}
 use Rattle.hall_http.specs.Crowd.{AreApart, AreKept, AreThose, AreConnectionsTold, HasGone, IsAt, AreGone, IsPast}
 use Rattle.hall_http.specs.Crowd.{IsHandedOut, AnswersNoMore, AreOf, AreStill, ComesTo, MayGo, Past, Serves}
@@ -34,7 +34,9 @@ use Rattle.hall_http.specs.declared.connection.State.TheVariants as state
 use Rattle.hall_http.proofs.Histories.{stands_at}
 use Rattle.hall_http.proofs.Numbers.{numbered, exchanges_numbered, of_none, own_more, others_same, known_more, read_at}
 use Rattle.hall_http.proofs.Numbers.{where_is, is_there, is_still}
-use Rattle.hall_http.proofs.SoFar.{handled_none, still_same}
+use Rattle.hall_http.proofs.Heard.{handled_none}
+use Rattle.hall_http.proofs.Peers.{later_same}
+use Rattle.hall_http.proofs.SoFar.{still_same}
 
 -- what is told by a history, where a read told that no more comes or none did, and these bytes were read off after its
 -- end
@@ -589,23 +591,29 @@ module _ {P : Type 0} (traffic : P → Traffic) where
 
     -- at the place there is nobody, or one that was there
     still_place : (u : Clients P) → u.places.items ≡ slice_set s.places.items place new
-        → ((l : Client P) → new ≡ Some l → (k : Client P) × (old ≡ Some k) × (number k ≡ number l))
+        → ((l : Client P) → new ≡ Some l → (k : Client P) × (old ≡ Some k) × IsLater (traffic k.peer) (traffic l.peer))
         → AreStill traffic s u
     still_place u items one other l at =
         elim (where_is s.places.items place new inside other l (rw (sym items) at)) [
           | inl x ↦
-              let (k, was, same) = one l x.1 in
-              (k, rw x.0 (read_at s.places.items place old (Some k) inside is was), same)
-          | inr x ↦ (l, x.1, refl)
+              let (k, was, later) = one l x.1 in
+              (k, rw x.0 (read_at s.places.items place old (Some k) inside is was), later)
+          | inr x ↦ (l, x.1, later_same (traffic l.peer))
         ]
 
     pub still_free : (u : Clients P) → u.places.items ≡ slice_set s.places.items place new → new ≡ None
         → AreStill traffic s u
     still_free u items none = still_place u items (λ l e. let clash = sym none ∙ e in absurd cc)
 
-    still_one : (k l : Client P) → old ≡ Some k → new ≡ Some l → number l ≡ number k → AreStill traffic s after
-    still_one k l was now same =
-        still_place after refl (λ w e. (k, was, sym same ∙ ap number (same_Some l w (sym now ∙ e))))
+    still_one : (k l : Client P) → old ≡ Some k → new ≡ Some l → IsLater (traffic k.peer) (traffic l.peer)
+        → AreStill traffic s after
+    still_one k l was now later =
+        still_place after refl
+        (λ w e. (
+          k,
+          was,
+          subst (λ (w : Client P). IsLater (traffic k.peer) (traffic w.peer)) (same_Some l w (sym now ∙ e)) later,
+        ))
 
     none_changed : old ≡ None → new ≡ None → (few many : ℕ) (turns : List Turn) → AreKept traffic few many turns s
         → AreKept traffic few many turns after
@@ -624,11 +632,11 @@ module _ {P : Type 0} (traffic : P → Traffic) where
         (subst
         (λ (all : List Turn).
         AreKept traffic few many all (record { places = with_item s.places place (Some l); gone = s.gone }))
-        (append-nil turns) (kept_turned few many turns s kept place inside k l at keeps.number [] client))
+        (append-nil turns) (kept_turned few many turns s kept place inside k l at keeps.later.number [] client))
 
     kept_still : IsPlaceKept traffic old new → AreStill traffic s after
     kept_still (inl (none, still)) = still_free after refl still
-    kept_still (inr (k, l, was, now, keeps)) = still_one k l was now keeps.number
+    kept_still (inr (k, l, was, now, keeps)) = still_one k l was now keeps.later
 
     -- whoever stands at the place is answered nothing more
     pub keep_place : IsPlaceKept traffic old new → AnswersNoMore traffic s after
@@ -649,7 +657,7 @@ module _ {P : Type 0} (traffic : P → Traffic) where
           )),
     )
     turn_place service before at result (inr (k, l, was, now, step)) = (
-      still_one k l was now step.number,
+      still_one k l was now step.later,
       λ few many turns kept.
           let stood : IsAt s place k = read_at s.places.items place old (Some k) inside is was in
           let (more, session, moments, client) = step.turned (of (number k) turns) (kept.here place k stood) in
@@ -661,7 +669,7 @@ module _ {P : Type 0} (traffic : P → Traffic) where
                 (sym (exchanges_numbered (number k) more)) moments;
             holds = (
               inr (number k, (k, stood, refl), known_more (λ (n : ℕ). n ≡ number k) (number k) more refl),
-              rw now (kept_turned few many turns s kept place inside k l stood step.number more client),
+              rw now (kept_turned few many turns s kept place inside k l stood step.later.number more client),
             );
           },
     )
@@ -684,7 +692,7 @@ module _ {P : Type 0} (traffic : P → Traffic) where
       elim (where_is s.places.items place (Some k) inside other l at) [
         | inl x ↦
             inr (x.0, sym (ap number (same_Some k l x.1)) ∙ ap (λ (p : P). (traffic p).number) is)
-        | inr x ↦ inl (l, x.1, refl)
+        | inr x ↦ inl (l, x.1, later_same (traffic l.peer))
       ]
 
   -- nobody goes a step

@@ -28,6 +28,8 @@ pub mod Peers
 pub mod Gated
 pub mod Numbers
 pub mod SoFar
+pub mod Became
+pub mod Heard
 pub mod Crowds
 pub mod Comings
 pub mod Serving

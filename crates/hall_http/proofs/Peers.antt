@@ -5,7 +5,7 @@ use Rattle.std.specs.Prelude.{Bool}
 use Rattle.std.proofs.lemmas.Bool.{eqb-false}
 use Rattle.std.proofs.lemmas.List.{append-nil, length-append}
 use Rattle.hall_http.specs.Outgoing.{outgoing_text}
-use Rattle.hall_http.specs.Peer.{Traffic, IsUntouched, over_after, reads_after, then_hung_up}
+use Rattle.hall_http.specs.Peer.{Traffic, IsLater, IsUntouched, over_after, then_hung_up}
 use Rattle.hall_http.specs.Turns.{Service, IsClient, IsClientKept, IsOverRightly, IsTurned}
 use Rattle.hall_http.specs.Connection.{Exchange, AreMoments}
 use Rattle.hall_http.specs.Resting.{HasRested, RestingSession}
@@ -38,27 +38,72 @@ over_some over count some =
 pub over_none : (over : Bool) (count : ℕ) → count ≡ 0 → over_after over (moved.Some count) ≡ true
 over_none over count none = ap (λ n. over_after over (moved.Some n)) none
 
--- a read that gave bytes is one more that did
-pub reads_some : (reads count : ℕ) → 0 < count → reads_after reads (moved.Some count) ≡ reads + 1
-reads_some reads count some =
-    let other : (count == 0) ≡ false = grind (arith, some) in
-    ap (λ (b : Bool). if b then reads else reads + 1) other
+-- what was told stays told
+pub over_by : (none over : Bool) → over ≡ true → (if none then true else over) ≡ true
+over_by true over told = refl
+over_by false over told = told
 
--- one that gave none isn't
-pub reads_none : (reads count : ℕ) → count ≡ 0 → reads_after reads (moved.Some count) ≡ reads
-reads_none reads count none = ap (λ n. reads_after reads (moved.Some n)) none
+-- the same connection later on
+pub later_same : (t : Traffic) → IsLater t t
+later_same t = record {
+  number = refl;
+  came = ([], sym (append-nil t.came));
+  went = ([], sym (append-nil t.went));
+  over = λ told. told;
+  broke = λ told. told;
+  hung_up = λ told. told;
+}
 
-reads_by : (reads count : ℕ) (b : Bool) → (count == 0) ≡ b
-    → (more : ℕ) × (reads_after reads (moved.Some count) ≡ reads + more) × (more ≤ count)
-reads_by reads count true is =
-    (0, ap (λ (b : Bool). if b then reads else reads + 1) is ∙ omega arith, omega arith)
-reads_by reads count false is =
-    (1, ap (λ (b : Bool). if b then reads else reads + 1) is, omega (arith, eqb-false _ _ is))
+pub later_as : (t u : Traffic) → u ≡ t → IsLater t u
+later_as t u same = subst (IsLater t) (sym same) (later_same t)
 
--- whether it gave any or not, there are no more of these than bytes
-pub reads_more : (reads count : ℕ)
-    → (more : ℕ) × (reads_after reads (moved.Some count) ≡ reads + more) × (more ≤ count)
-reads_more reads count = reads_by reads count (count == 0) refl
+then_more : (xs ys zs : List ℕ) → (more : List ℕ) × (ys ≡ xs ++ more) → (more : List ℕ) × (zs ≡ ys ++ more)
+    → (more : List ℕ) × (zs ≡ xs ++ more)
+then_more xs ys zs (one, first) (two, second) =
+    (one ++ two, second ∙ ap (λ (s : List ℕ). s ++ two) first ∙ append_assoc xs one two)
+
+pub later_then : (t u v : Traffic) → IsLater t u → IsLater u v → IsLater t v
+later_then t u v first second = record {
+  number = second.number ∙ first.number;
+  came = then_more t.came u.came v.came first.came second.came;
+  went = then_more t.went u.went v.went first.went second.went;
+  over = λ told. second.over (first.over told);
+  broke = λ told. second.broke (first.broke told);
+  hung_up = λ told. second.hung_up (first.hung_up told);
+}
+
+-- so it is after a read, a send, and once it was told that no more is sent
+pub later_read : (t u : Traffic) (piece : List ℕ) → u.number ≡ t.number → u.came ≡ t.came ++ piece
+    → u.went ≡ t.went → (t.over ≡ true → u.over ≡ true) → u.broke ≡ t.broke → u.hung_up ≡ t.hung_up → IsLater t u
+later_read t u piece number came went over broke hung_up = record {
+  number = number;
+  came = (piece, came);
+  went = ([], went ∙ sym (append-nil t.went));
+  over = over;
+  broke = λ told. broke ∙ told;
+  hung_up = λ told. hung_up ∙ told;
+}
+
+pub later_sent : (t u : Traffic) (piece : List ℕ) → u.number ≡ t.number → u.came ≡ t.came → u.went ≡ t.went ++ piece
+    → u.over ≡ t.over → (t.broke ≡ true → u.broke ≡ true) → u.hung_up ≡ t.hung_up → IsLater t u
+later_sent t u piece number came went over broke hung_up = record {
+  number = number;
+  came = ([], came ∙ sym (append-nil t.came));
+  went = (piece, went);
+  over = λ told. over ∙ told;
+  broke = broke;
+  hung_up = λ told. hung_up ∙ told;
+}
+
+pub later_hung_up : (t u : Traffic) → u ≡ then_hung_up t → IsLater t u
+later_hung_up t u is = subst (IsLater t) (sym is) (record {
+  number = refl;
+  came = ([], sym (append-nil t.came));
+  went = ([], sym (append-nil t.went));
+  over = λ told. told;
+  broke = λ told. told;
+  hung_up = λ told. refl;
+})
 
 -- who waits for what it is at stands rightly
 pub stands_so : {H : Type 0} (may_wait : H → List ℕ → Type 0) (k : Connection) (h : H) (s : Step) → WaitsRightly s k
@@ -362,25 +407,25 @@ module _ {P : Type 0} (traffic : P → Traffic) where
     pub turned_rests : (h i : H) (c : C) (k : Client P) (step : Step) → HasRested service.rests h i
         → IsOverRightly step (traffic k.peer) → IsTurned service traffic (h, c) k (i, c) k step
     turned_rests h i c k step rested over =
-        record { number = refl; over = over; turned = λ xs kept. client_rests h i c xs k rested kept }
+        record { later = later_same (traffic k.peer); over = over; turned = λ xs kept. client_rests h i c xs k rested kept }
 
     -- nor did the responder rest
     pub turned_kept : (at : H × C) (k l : Client P) (step : Step) → IsClientKept traffic k l
         → IsOverRightly step (traffic l.peer) → IsTurned service traffic at k at l step
     turned_kept at k l step keeps over = record {
-      number = keeps.number;
+      later = keeps.later;
       over = over;
       turned = λ xs is. client_rests at.0 at.0 at.1 xs l ([], refl) (keeps.kept xs is);
     }
 
     pub turned_start : (at : H × C) (k : Client P) → IsTurned service traffic at k at k step.Again
-    turned_start at k = turned_kept at k k step.Again (record { number = refl; kept = λ xs is. is }) tt
+    turned_start at k = turned_kept at k k step.Again (record { later = later_same (traffic k.peer); kept = λ xs is. is }) tt
 
     pub turned_then : (before at after : H × C) (k l u : Client P) (first second : Step)
         → IsTurned service traffic before k at l first → IsTurned service traffic at l after u second
         → IsTurned service traffic before k after u second
     turned_then before at after k l u first second one two = record {
-      number = two.number ∙ one.number;
+      later = later_then (traffic k.peer) (traffic l.peer) (traffic u.peer) one.later two.later;
       over = two.over;
       turned = λ xs kept.
           let (some, session, moments, between) = one.turned xs kept in
@@ -402,7 +447,7 @@ module _ {P : Type 0} (traffic : P → Traffic) where
         turned_then (h, c) (m, c) (i, d) (client k p f v) (client k p f v) (client l p f v) step.Again second
         (turned_rests h m c (client k p f v) step.Again rested tt)
         (record {
-          number = refl;
+          later = later_same (traffic p);
           over = over;
           turned = λ xs is. client_looked k p f v xs is l p service m i c d at refl looks;
         })

@@ -1,6 +1,6 @@
 -- Connections that were served by a desk.
 use Rattle.std.proofs.Common.{◌≡◌, ◌≢◌, ◌∙◌, ap, get_or, refl, sym, subst, inl, inr, ℕ, List, [], ◌∷◌, ◌++◌, Option}
-use Rattle.std.proofs.Common.{true, false}
+use Rattle.std.proofs.Common.{arith, true, false}
 use Rattle.std.specs.Prelude.{Bool}
 use Rattle.hall_policy.specs.World.{World}
 use Rattle.hall_store.specs.Store.{Content, IsSettled, Kept, Leads}
@@ -11,23 +11,20 @@ use Rattle.hall_http.specs.Connection.{Exchange, Session}
 use Rattle.hall_http.specs.Coming.{Nexts, Said, since, stays_open}
 use Rattle.hall_http.specs.Crowd.{AreAtTurns, AreHandled, AreKept, AreKeptAtTurns, AreServed, AreThose, EndUnavailable}
 use Rattle.hall_http.specs.Crowd.{AreGone, AnswersNoMore, AllLeave, AreAsSaid, HaveGone, HaveHeard, IsFor}
-use Rattle.hall_http.specs.Crowd.{IsToldRightly, StandsThere, AreHeard, heard_first, heard_last, heard_other}
-use Rattle.hall_http.specs.Crowd.{heard_turn}
+use Rattle.hall_http.specs.Crowd.{HaveGoneSince, HaveBecome, MayWaitAfter, WaitsForSearchAfter}
 use Rattle.hall_http.specs.Peer.{Traffic}
 use Rattle.hall_http.specs.Resting.{AreRests, RestingSession, after_rests, still}
 use Rattle.hall_http.specs.Laws.{FirstPartsLast}
 use Rattle.hall_http.specs.Serving.{AreAnsweredWhileOpen, GoesOn, IsAnsweredOver, LeavesRunOver, RunsOver}
 use Rattle.hall_http.specs.Serving.{WaitsForSearch}
-use Rattle.hall_http.specs.Steps.{StandsRightly, gated}
+use Rattle.hall_http.specs.Steps.{gated}
 use Rattle.hall_http.specs.Turns.{Turn, exchanges_of, service_of}
-use Rattle.hall_http.specs.declared.client.Step.{Step}
-use Rattle.hall_http.specs.declared.client.Step.TheVariants as step
 use Rattle.hall_http.specs.declared.clients.Clients.{Clients}
-use Rattle.hall_http.specs.declared.connection.Connection.{Connection}
-use Rattle.hall_http.specs.declared.server.Next.TheVariants as next
 use Rattle.hall_http.specs.declared.server.ServeAllEnd.{ServeAllEnd}
 use Rattle.hall_http.proofs.Crowds.{kept_told, kept_those}
 use Rattle.hall_http.proofs.Rested.{still_on}
+use Rattle.hall_http.proofs.Became.{all_became, became_on, leave_passes}
+use Rattle.hall_http.proofs.Heard.{have_heard_by}
 use Rattle.hall_http.proofs.SoFar.{for_grown, grows_by, left_grown, turns_grown}
 use Rattle.hall_http.proofs.Runs.{Leaves, Onward, answered_kept, further, leaves_one, leaves_over, leaves_read}
 use Rattle.hall_http.proofs.Runs.{onward_runs, run_over, runs_sane}
@@ -147,52 +144,6 @@ module _ {D H : Type 0} (kept : D → H) (content : H → Content) where
     while_open m xs i (n, more, after),
   )
 
--- what was heard of turns, of those that are answered over what is kept
-module _ {D H P : Type 0} (kept : D → H) (content : H → Content) (traffic : P → Traffic) where
-  waits_kept : (k : Connection) (h : D) (how : Step) → StandsRightly (WaitsForSearch (over kept content)) k h how
-      → StandsRightly (WaitsForSearch content) k (kept h) how
-  waits_kept k h step.Again so = so
-  waits_kept k h step.Leaves so = so
-  waits_kept k h (step.Waits what requests) so = so
-  waits_kept k h (step.Searches requests) so = so
-  waits_kept k h step.Over so = so
-  waits_kept k h step.Shut so = so
-
-  there_kept : (s : Clients P) (h : D) (told : ℕ × Step) → StandsThere (WaitsForSearch (over kept content)) s h told
-      → StandsThere (WaitsForSearch content) s (kept h) told
-  there_kept s h told (goes, inl gone) = (goes, inl gone)
-  there_kept s h told (goes, inr (k, at, on, so)) = (goes, inr (k, at, on, waits_kept k.connection h told.1 so))
-
-  told_kept : (few : ℕ) (steps : Nexts P) (turns : List Turn) (told : ℕ × Step)
-      → IsToldRightly (WaitsForSearch (over kept content)) traffic few steps turns told
-      → IsToldRightly (WaitsForSearch content) traffic few steps turns told
-  told_kept few steps turns told is = record {
-    many = is.many;
-    clients = is.clients;
-    responder = kept is.responder;
-    kept = is.kept;
-    said = is.said;
-    stands = there_kept is.clients is.responder told is.stands;
-  }
-
-  heard_kept : (few : ℕ) (goes : Bool) (steps : Nexts P) (turns : List Turn) (heard : List (ℕ × Step))
-      → AreHeard (WaitsForSearch (over kept content)) traffic few goes steps turns heard
-      → AreHeard (WaitsForSearch content) traffic few goes steps turns heard
-  heard_kept few goes steps turns heard heard_first = heard_first
-  heard_kept few goes steps turns heard (heard_other before some told one none so) =
-      heard_other before some told one none (heard_kept few true before some told so)
-  heard_kept few goes steps turns heard (heard_turn before some more told place how so rightly) =
-      heard_turn before some more told place how (heard_kept few true before some told so)
-      (told_kept few (before ++ next.Turn place ∷ []) (some ++ more) (place, how) rightly)
-  heard_kept few goes steps turns heard (heard_last before some more told place so) =
-      heard_last before some more told place (heard_kept few true before some told so)
-
-  have_kept : (goes : Bool) (old new : Said P) (turns : List Turn)
-      → HaveHeard (WaitsForSearch (over kept content)) traffic goes old new turns
-      → HaveHeard (WaitsForSearch content) traffic goes old new turns
-  have_kept goes old new turns (heard, is, so) =
-      (heard, is, heard_kept old.count goes (since old new) turns heard so)
-
 -- those that were here when no more was said have gone too
 pub all_gone : {P : Type 0} (traffic : P → Traffic) (steps : Nexts P) (s u : Clients P) → AreAsSaid traffic steps s
     → AllLeave traffic s u → HaveGone traffic steps u.gone.items
@@ -204,10 +155,10 @@ all_gone traffic steps s u said (last, is, all) =
       all = is;
       each = left_grown traffic s.gone.items u.gone.items grows steps s.gone.items said.gone;
       here = λ i d inside.
-          let (ends, (k, at, same)) = all i d inside in
+          let (ends, (k, at, later)) = all i d inside in
           let place = (get_or last i d).1.1 in (
             ends,
-            subst (IsFor traffic u.gone.items steps place) same
+            subst (IsFor traffic u.gone.items steps place) (sym later.number)
                 (for_grown traffic s.gone.items u.gone.items grows steps place ((traffic k.peer).number)
                 (said.here place k at)),
           );
@@ -218,7 +169,12 @@ module _ {D H C P : Type 0} (kept : D → H) (content : H → Content) (now_give
     (traffic : P → Traffic) (old new : Said P) (h : D) (c : C) (i : D) (d : C) (why : ServeAllEnd) (s u : Clients P)
     (handled : AreHandled
     (service_of (IsAnsweredOver (over kept content)) (GoesOn (over kept content)) (reads kept content) now_gives)
-    (λ turns. AreKeptAtTurns (WaitsForSearch (over kept content)) traffic (stays_open why) old new turns s)
+    (λ turns.
+    AreKeptAtTurns
+    (MayWaitAfter
+    (service_of (IsAnsweredOver (over kept content)) (GoesOn (over kept content)) (reads kept content) now_gives)
+    (λ z. WaitsForSearch (over kept content) z.0) (h, true) (i, stays_open why) turns)
+    traffic (stays_open why) old new turns s)
     ((h, true), c) ((i, stays_open why), d))
     (keeps : AnswersNoMore traffic s u) (empty : AreGone u) where
   abbrev xs : List Exchange
@@ -245,17 +201,44 @@ module _ {D H C P : Type 0} (kept : D → H) (content : H → Content) (now_give
     told = kept_told traffic old.count new.count handled.turns u after empty;
   }
 
+  -- who may be kept waiting in between
+  waits_after : (turns : List Turn) (request : List ℕ)
+      → MayWaitAfter
+      (service_of (IsAnsweredOver (over kept content)) (GoesOn (over kept content)) (reads kept content) now_gives)
+      (λ z. WaitsForSearch (over kept content) z.0) (h, true) (i, stays_open why) handled.turns turns request
+      → WaitsForSearchAfter content (kept h) (kept i) handled.turns turns request
+  waits_after turns request (m, rest, is, first, second, waits) = (
+    kept m.0,
+    rest,
+    is,
+    while_open kept content (h, true) (exchanges_of turns) m first,
+    while_open kept content m (exchanges_of rest) (i, stays_open why) second,
+    waits,
+  )
+
   pub crowd_turned : IsSettled (content (kept h)) → AllLeave traffic s u
       → (all : AreServed content now_gives traffic why (kept h, c) (kept i, d) u.gone.items)
       × AreAtTurns traffic u.gone.items (since old new) all.turns
-      × HaveHeard (WaitsForSearch content) traffic (stays_open why) old new all.turns
+      × HaveHeard (WaitsForSearchAfter content (kept h) (kept i) all.turns) traffic
+      (HaveGoneSince traffic u.gone.items) (stays_open why) old new all.turns
   unfolding crowd_served
-  crowd_turned settled (last, is, all) = (
-    crowd_served settled,
-    turns_grown traffic s.gone.items u.gone.items (grows_by traffic s.gone.items last u.gone.items is) (since old new)
-        handled.turns handled.holds.1,
-    have_kept kept content traffic (stays_open why) old new handled.turns handled.holds.2,
-  )
+  crowd_turned settled (last, is, all) =
+      let grows = grows_by traffic s.gone.items last u.gone.items is in
+      let passes = leave_passes traffic new.count s u empty (last, is, all) in (
+        crowd_served settled,
+        turns_grown traffic s.gone.items u.gone.items grows (since old new) handled.turns handled.holds.1,
+        have_heard_by traffic
+            (MayWaitAfter
+            (service_of (IsAnsweredOver (over kept content)) (GoesOn (over kept content)) (reads kept content)
+            now_gives)
+            (λ z. WaitsForSearch (over kept content) z.0) (h, true) (i, stays_open why) handled.turns)
+            (WaitsForSearchAfter content (kept h) (kept i) handled.turns) (HaveBecome traffic s)
+            (HaveGoneSince traffic u.gone.items) waits_after
+            (λ z was.
+            all_became traffic z u empty
+            (became_on traffic old.count new.count new.count handled.turns handled.turns s u handled.holds.0 after
+            (omega arith) passes z was)) (stays_open why) old new handled.turns handled.holds.2,
+      )
 
   pub crowd_those : AreThose traffic old.count new.count u.gone.items
   crowd_those = kept_those traffic old.count new.count handled.turns u after empty

@@ -1,24 +1,21 @@
 -- What was served so far.
-use Rattle.std.proofs.Common.{◌≡◌, ◌∙◌, sym, ap, subst, refl, arith, inl, inr, ℕ, ◌+◌, List, [], ◌∷◌, ◌++◌, ◌⊎◌, ◌≢◌}
-use Rattle.std.proofs.Common.{◌==◌, append_assoc, get_or, length, ◌≤◌, true, false, Option, Some, None}
+use Rattle.std.proofs.Common.{◌≡◌, ◌∙◌, sym, ap, subst, refl, arith, inl, inr, ℕ, List, [], ◌∷◌, ◌++◌, ◌⊎◌, ◌≢◌}
+use Rattle.std.proofs.Common.{◌==◌, append_assoc, get_or, length, ◌≤◌, true, false}
 use Rattle.std.specs.Prelude.{All, Bool}
 use Rattle.std.proofs.lemmas.Bool.{eqb-true, eqb-false}
-use Rattle.std.proofs.lemmas.List.{append-nil, map-append}
+use Rattle.std.proofs.lemmas.List.{append-nil}
 use Rattle.std.proofs.lemmas.List.Elements.{All-nil, All-push}
 use Rattle.http_server.specs.declared.log.Log.{Log}
 use Rattle.hall_http.specs.Peer.{Traffic}
 use Rattle.hall_http.specs.Coming.{Nexts, Said, since}
-use Rattle.hall_http.specs.Crowd.{Admits, AreHandled, AreKept, AreKeptAtTurns, AreOf, AreSomeKept, AreStill}
-use Rattle.hall_http.specs.Crowd.{AnswersNoMore, ComesTo, HasAt, IsAt, IsFor, Serves, AllLeave, AreAsSaid, HasLeft}
+use Rattle.hall_http.specs.Crowd.{AreKept, AreOf, AreStill}
+use Rattle.hall_http.specs.Crowd.{AnswersNoMore, ComesTo, HasAt, IsAt, IsFor, AllLeave, AreAsSaid, HasLeft}
 use Rattle.hall_http.specs.Crowd.{IsFree, KeepsPlace, MayLose, Past, Receives, WasHandedOut, WasHere, WasNext, WasToGo}
-use Rattle.hall_http.specs.Crowd.{WasTurnedAway, number_past, AreAtTurns, at_first, at_other, at_turn, AreHeard}
-use Rattle.hall_http.specs.Crowd.{heard_first, heard_last, heard_other, heard_turn, HaveHeard, IsNoTurn, MayTurnAway}
-use Rattle.hall_http.specs.Crowd.{StandsThere, WasStillHere, WasTaken}
-use Rattle.hall_http.specs.Steps.{StandsRightly}
-use Rattle.hall_http.specs.Turns.{Turn, Service, exchanges_of, goes_on}
+use Rattle.hall_http.specs.Crowd.{WasTurnedAway, number_past, AreAtTurns, at_first, at_other, at_turn}
+use Rattle.hall_http.specs.Crowd.{MayTurnAway}
+use Rattle.hall_http.specs.Crowd.{WasAt, WasStillHere, WasTaken}
+use Rattle.hall_http.specs.Turns.{Turn}
 use Rattle.hall_http.specs.declared.client.Client.{Client}
-use Rattle.hall_http.specs.declared.client.Step.{Step}
-use Rattle.hall_http.specs.declared.client.Step.TheVariants as step
 use Rattle.hall_http.specs.declared.clients.Away.{Away}
 use Rattle.hall_http.specs.declared.clients.Away.TheVariants as away
 use Rattle.hall_http.specs.declared.clients.Clients.{Clients}
@@ -27,32 +24,17 @@ use Rattle.hall_http.specs.declared.clients.Departure.TheVariants as departure
 use Rattle.hall_http.specs.declared.peer.Closed.{Closed}
 use Rattle.hall_http.specs.declared.server.Next.{Next}
 use Rattle.hall_http.specs.declared.server.Next.TheVariants as next
-use Rattle.hall_http.proofs.Comings.{since_none}
-use Rattle.hall_http.proofs.Peers.{moments_then}
-use Rattle.hall_http.proofs.Rested.{no_session, resting_then}
+use Rattle.hall_http.proofs.Peers.{later_same, later_then}
 
 module _ {P : Type 0} (traffic : P → Traffic) where
   pub still_same : (s : Clients P) → AreStill traffic s s
-  still_same s place l at = (l, at, refl)
+  still_same s place l at = (l, at, later_same (traffic l.peer))
 
   pub still_then : (s m u : Clients P) → AreStill traffic s m → AreStill traffic m u → AreStill traffic s u
   still_then s m u first second place l at =
       let (k, there, same) = second place l at in
-      let (j, here, equal) = first place k there in (j, here, equal ∙ same)
-
-  -- how whoever is at the place stands
-  module _ {R : Type 0} (may_wait : R → List ℕ → Type 0) (s : Clients P) (r : R) (place : ℕ) (how : Step)
-      (goes : goes_on how ≡ true)
-      (here : (k : Client P) → IsAt s place k → (how ≢ step.Over) × StandsRightly may_wait k.connection r how)
-      (none : IsFree s place → how ≡ step.Over) where
-    there : (o : Option (Client P)) → get_or s.places.items place None ≡ o
-        → (IsFree s place × (how ≡ step.Over))
-        ⊎ ((k : Client P) × IsAt s place k × (how ≢ step.Over) × StandsRightly may_wait k.connection r how)
-    there None is = inl (is, none is)
-    there (Some k) is = inr (k, is, (here k is).0, (here k is).1)
-
-    pub stands_there : StandsThere may_wait s r (place, how)
-    stands_there = (goes, there (get_or s.places.items place None) refl)
+      let (j, here, later) = first place k there in
+      (j, here, later_then (traffic j.peer) (traffic k.peer) (traffic l.peer) later same)
 
   -- nothing changed
   pub keeps_all : (s : Clients P) → AnswersNoMore traffic s s
@@ -66,10 +48,14 @@ module _ {P : Type 0} (traffic : P → Traffic) where
   )
 
   -- at each place of the later there was one before
-  pub has_before : (s m : Clients P) → AreStill traffic s m → (place number : ℕ) → HasAt traffic m place number
-      → HasAt traffic s place number
-  has_before s m still place number (k, at, same) =
-      let (j, there, equal) = still place k at in (j, there, equal ∙ same)
+  was_before : (s m : Clients P) → AreStill traffic s m → (place : ℕ) (t : Traffic) → WasAt traffic m place t
+      → WasAt traffic s place t
+  was_before s m still place t (k, at, later) =
+      let (j, there, first) = still place k at in
+      (j, there, later_then (traffic j.peer) (traffic k.peer) t first later)
+
+  has_was : (s : Clients P) (place : ℕ) (t : Traffic) → WasAt traffic s place t → HasAt traffic s place t.number
+  has_was s place t (k, at, later) = (k, at, sym later.number)
 
   -- some more have gone
   abbrev pub Grows : List (Past P) → List (Past P) → Type 0
@@ -84,7 +70,7 @@ module _ {P : Type 0} (traffic : P → Traffic) where
   pub grows_by : (gone last more : List (Past P)) → more ≡ gone ++ last → Grows gone more
   grows_by gone last more all = (last, all)
 
-  split_grown : (gone last more front rest : List (Past P)) (one : Past P) → more ≡ gone ++ last
+  pub split_grown : (gone last more front rest : List (Past P)) (one : Past P) → more ≡ gone ++ last
       → gone ≡ front ++ one ∷ rest → more ≡ front ++ one ∷ (rest ++ last)
   split_grown gone last more front rest one all is =
       all ∙ ap (λ (gone : List (Past P)). gone ++ last) is ∙ append_assoc front (one ∷ rest) last
@@ -112,7 +98,7 @@ module _ {P : Type 0} (traffic : P → Traffic) where
       inl (same ∙ ap (λ (gone : Log (Closed P) (Departure × ℕ)). gone.items) gone)
   loses_before s m u still gone went place (inr (closed, has, more)) = inr (
     closed,
-    has_before s m still place ((traffic closed.peer).number) has,
+    was_before s m still place (traffic closed.peer) has,
     more ∙ ap (λ (gone : Log (Closed P) (Departure × ℕ)). gone.items ++ (closed, (went, place)) ∷ []) gone,
   )
 
@@ -141,7 +127,7 @@ module _ {P : Type 0} (traffic : P → Traffic) where
         last ++ one ∷ [],
         more ∙ ap (λ (gone : List (Past P)). gone ++ one ∷ []) is ∙ append_assoc s.gone.items last (one ∷ []),
         All-push (WasHere traffic s) last one all
-            (refl, has_before s m still place ((traffic closed.peer).number) has),
+            (refl, was_before s m still place (traffic closed.peer) has),
       )
 
   -- who keeps the place
@@ -289,7 +275,7 @@ module _ {P : Type 0} (traffic : P → Traffic) where
       left_lost went place to_go (inr (closed, has, more)) =
           subst (All (HasLeft traffic u.gone.items (steps ++ one ∷ []))) (sym more)
           (All-push (HasLeft traffic u.gone.items (steps ++ one ∷ [])) s.gone.items (closed, (went, place)) left_still
-          (to_go ((traffic closed.peer).number) has))
+          (to_go ((traffic closed.peer).number) (has_was s place (traffic closed.peer) has)))
 
       next_here : (place number : ℕ) → HasAt traffic s place number
           → WasNext traffic u.gone.items (steps ++ one ∷ []) one place number
@@ -307,7 +293,7 @@ module _ {P : Type 0} (traffic : P → Traffic) where
         let same : u.gone.items ≡ s.gone.items = ap (λ (gone : Log (Closed P) (Departure × ℕ)). gone.items) gone in
         let grows = grows_same s.gone.items u.gone.items same in
         record {
-          here = λ place l at. here_still grows one place l (still place l at) (keeps place);
+          here = λ place l at. here_still grows one place l (has_was s place (traffic l.peer) (still place l at)) (keeps place);
           gone = subst (All (HasLeft traffic u.gone.items (steps ++ one ∷ []))) (sym same) (left_still grows one);
         }
 
@@ -317,7 +303,7 @@ module _ {P : Type 0} (traffic : P → Traffic) where
     turn_said place still lost =
         let grows = loses_grows departure.Over place s u lost in
         record {
-          here = λ other l at. here_still grows (next.Turn place) other l (still other l at) tt;
+          here = λ other l at. here_still grows (next.Turn place) other l (has_was s other (traffic l.peer) (still other l at)) tt;
           gone = left_lost grows (next.Turn place) departure.Over place (next_here grows (next.Turn place) place) lost;
         }
 
@@ -327,7 +313,7 @@ module _ {P : Type 0} (traffic : P → Traffic) where
     gone_said place still free lost =
         let grows = loses_grows departure.LetGo place s u lost in
         record {
-          here = λ other l at. here_still grows (next.Gone place) other l (still other l at) (λ same.
+          here = λ other l at. here_still grows (next.Gone place) other l (has_was s other (traffic l.peer) (still other l at)) (λ same.
               let clash = sym (subst (IsFree u) same free) ∙ at in
               absurd cc);
           gone = left_lost grows (next.Gone place) departure.LetGo place (next_here grows (next.Gone place) place) lost;
@@ -352,11 +338,11 @@ module _ {P : Type 0} (traffic : P → Traffic) where
           inr (s.gone.items, one, [], more, why, refl, ap (λ (p : P). (traffic p).number) is)
 
       here_comes : Receives place peer s u → (other : ℕ) (l : Client P) → IsAt u other l
-          → HasAt traffic s other (traffic l.peer).number
+          → WasAt traffic s other (traffic l.peer)
           ⊎ ((other ≡ place) × ((traffic l.peer).number ≡ (traffic peer).number))
           → IsFor traffic u.gone.items (steps ++ came ∷ []) other (traffic l.peer).number
       here_comes receives other l at (inl was) =
-          here_still (receives_grows place peer s u receives) came other l was
+          here_still (receives_grows place peer s u receives) came other l (has_was s other (traffic l.peer) was)
           (keeps_from (other == place) other refl was.0 was.1 receives)
       here_comes receives other l at (inr (here, same)) =
           rw here ([], (steps, peer, refl, sym same), All-nil (KeepsPlace traffic u.gone.items place))
@@ -401,7 +387,7 @@ module _ {P : Type 0} (traffic : P → Traffic) where
       }
 
     -- some more requests were answered, of the one at the place
-    turns_more : (turns more : List Turn) (place : ℕ) → AreOf traffic s place more
+    pub turns_more : (turns more : List Turn) (place : ℕ) → AreOf traffic s place more
         → AreAtTurns traffic s.gone.items steps turns
         → AreAtTurns traffic s.gone.items (steps ++ next.Turn place ∷ []) (turns ++ more)
     turns_more turns more place (inl none) so_far =
@@ -434,184 +420,3 @@ module _ {P : Type 0} (traffic : P → Traffic) where
         → AreAsSaid traffic (since old then) u
     said_comes long place peer apart is comes receives =
         rw (more, is) (comes_said (since old now) s u said long place peer apart comes receives)
-
-module _ {H C : Type 0} (service : Service H C) where
-  -- nothing was answered
-  pub handled_none : (at : H × C) (Holds : List Turn → Type 0) → Holds []
-      → AreHandled service Holds at at
-  handled_none at Holds holds =
-      record { turns = []; session = no_session service.rests service.answers at.0; moments = refl; holds = holds }
-
-  -- and so it is of what holds of the same
-  pub handled_same : (before after : H × C) (Holds Also : List Turn → Type 0)
-      → AreHandled service Holds before after → ((turns : List Turn) → Holds turns → Also turns)
-      → AreHandled service Also before after
-  handled_same before after Holds Also handled also = record {
-    turns = handled.turns;
-    session = handled.session;
-    moments = handled.moments;
-    holds = also handled.turns handled.holds;
-  }
-
-  -- some more were answered
-  pub handled_then : (before at after : H × C) (Holds Also : List Turn → Type 0)
-      → (handled : AreHandled service Holds before at)
-      → AreHandled service (λ more. Also (handled.turns ++ more)) at after
-      → AreHandled service Also before after
-  handled_then before at after Holds Also handled later =
-      let all : exchanges_of (handled.turns ++ later.turns) ≡ exchanges_of handled.turns ++ exchanges_of later.turns =
-      map-append (λ (turn : Turn). turn.1) handled.turns later.turns in
-      record {
-        turns = handled.turns ++ later.turns;
-        session = rw all
-            (resting_then service.rests service.answers (exchanges_of handled.turns) (exchanges_of later.turns) before.0
-            at.0 after.0
-            handled.session later.session);
-        moments = rw all
-            (moments_then service.now_gives (exchanges_of handled.turns) (exchanges_of later.turns) before.1 at.1
-            after.1
-            handled.moments later.moments);
-        holds = later.holds;
-      }
-
-  module _ {P : Type 0} (traffic : P → Traffic) where
-    -- some requests were answered, and then none
-    pub serves_then : (place : ℕ) (before after : H × C) (s m u : Clients P)
-        → Serves service traffic place before s after m → AnswersNoMore traffic m u
-        → Serves service traffic place before s after u
-    serves_then place before after s m u serves keeps = (
-      still_then traffic s m u serves.0 keeps.0,
-      λ few many turns kept.
-          handled_same before after (λ more. AreOf traffic s place more × AreKept traffic few many (turns ++ more) m)
-          (λ more. AreOf traffic s place more × AreKept traffic few many (turns ++ more) u)
-          (serves.1 few many turns kept) (λ more holds. (holds.0, keeps.1 few many (turns ++ more) holds.1)),
-    )
-
-    -- those that were served are kept
-    pub serves_kept : (place : ℕ) (before after : H × C) (s u : Clients P) → AreSomeKept traffic s
-        → Serves service traffic place before s after u → AreSomeKept traffic u
-    serves_kept place before after s u (few, many, turns, kept) serves =
-        let later = serves.1 few many turns kept in (few, many, turns ++ later.turns, later.holds.1)
-
-    module _ {R : Type 0} (may_wait : R → List ℕ → Type 0) where
-      pub handled_start : (at : H × C) (said : Said P) (s : Clients P) → AreKept traffic said.count said.count [] s
-          → AreHandled service (λ turns. AreKeptAtTurns may_wait traffic true said said turns s) at at
-      handled_start at said s kept =
-          handled_none at (λ turns. AreKeptAtTurns may_wait traffic true said said turns s) (
-            kept,
-            subst (λ (steps : Nexts P). AreAtTurns traffic s.gone.items steps []) (sym (since_none said)) at_first,
-            (
-              [],
-              sym (append-nil said.heard),
-              subst (λ (steps : Nexts P). AreHeard may_wait traffic said.count true steps [] []) (sym (since_none said))
-                  heard_first,
-            ),
-          )
-
-      module _ (old now : Said P) (before at : H × C) (s : Clients P)
-          (handled : AreHandled service (λ turns. AreKeptAtTurns may_wait traffic true old now turns s) before at)
-          (then : Said P) (one : Next P) (more : since old then ≡ since old now ++ one ∷ []) (u : Clients P)
-          (grows : Grows traffic s.gone.items u.gone.items) where
-        abbrev Then : Bool → List Turn → Type 0
-        Then goes turns = AreKeptAtTurns may_wait traffic goes old then turns u
-
-        -- so they are, as those stand that are kept at first
-        turns_then : (turns : List Turn) → AreAtTurns traffic s.gone.items (since old now) turns
-            → AreAtTurns traffic u.gone.items (since old now ++ one ∷ []) turns
-        turns_then turns at =
-            at_other (since old now) turns one
-            (turns_grown traffic s.gone.items u.gone.items grows (since old now) turns at)
-
-        -- what was heard of the turns by then
-        abbrev HeardBy : Bool → Nexts P → List Turn → Type 0
-        HeardBy goes steps turns =
-            (heard : List (ℕ × Step)) × (then.heard ≡ old.heard ++ heard)
-            × AreHeard may_wait traffic old.count goes steps turns heard
-
-        -- nobody had a turn, and nothing was heard
-        heard_still : then.heard ≡ now.heard → IsNoTurn one → (turns : List Turn)
-            → HaveHeard may_wait traffic true old now turns → HeardBy true (since old now ++ one ∷ []) turns
-        heard_still quiet none turns (heard, is, so) =
-            (heard, quiet ∙ is, heard_other (since old now) turns heard one none so)
-
-        -- after a turn it was heard how whoever is at its place stands
-        pub hears_turn : (place : ℕ) (how : Step) → then.heard ≡ now.heard ++ (place, how) ∷ [] → (r : R)
-            → StandsThere may_wait u r (place, how) → AreAsSaid traffic (since old now ++ next.Turn place ∷ []) u
-            → (some : List Turn) → AreKept traffic old.count now.count (handled.turns ++ some) u
-            → HeardBy true (since old now ++ next.Turn place ∷ []) (handled.turns ++ some)
-        hears_turn place how hears r stands said some kept =
-            let (heard, is, so) = handled.holds.2 in (
-              heard ++ (place, how) ∷ [],
-              hears ∙ ap (λ (all : List (ℕ × Step)). all ++ (place, how) ∷ []) is
-                  ∙ append_assoc old.heard heard ((place, how) ∷ []),
-              heard_turn (since old now) handled.turns some heard place how so (record {
-                many = now.count;
-                clients = u;
-                responder = r;
-                kept = kept;
-                said = said;
-                stands = stands;
-              }),
-            )
-
-        -- of the last turn nothing was heard
-        pub hears_last : then.heard ≡ now.heard → (place : ℕ) (some : List Turn)
-            → AreKept traffic old.count now.count (handled.turns ++ some) u
-            → HeardBy false (since old now ++ next.Turn place ∷ []) (handled.turns ++ some)
-        hears_last quiet place some kept =
-            let (heard, is, so) = handled.holds.2 in
-            (heard, quiet ∙ is, heard_last (since old now) handled.turns some heard place so)
-
-        pub handled_turn : (goes : Bool) (after : H × C) (place : ℕ) → one ≡ next.Turn place → then.count ≡ now.count
-            → AreAsSaid traffic (since old now) s → Serves service traffic place at s after u
-            → ((some : List Turn) → AreKept traffic old.count now.count (handled.turns ++ some) u
-            → HeardBy goes (since old now ++ next.Turn place ∷ []) (handled.turns ++ some))
-            → AreHandled service (λ turns. Then goes turns) before after
-        handled_turn goes after place is same said serves hears =
-            rw (same, more, is)
-            (handled_then before at after (λ turns. AreKeptAtTurns may_wait traffic true old now turns s)
-            (λ turns. AreKept traffic old.count now.count turns u
-            × AreAtTurns traffic u.gone.items (since old now ++ next.Turn place ∷ []) turns
-            × HeardBy goes (since old now ++ next.Turn place ∷ []) turns) handled
-            (handled_same at after
-            (λ more. AreOf traffic s place more × AreKept traffic old.count now.count (handled.turns ++ more) u)
-            (λ more. AreKept traffic old.count now.count (handled.turns ++ more) u
-            × AreAtTurns traffic u.gone.items (since old now ++ next.Turn place ∷ []) (handled.turns ++ more)
-            × HeardBy goes (since old now ++ next.Turn place ∷ []) (handled.turns ++ more))
-            (serves.1 old.count now.count handled.turns handled.holds.0)
-            (λ more holds. (
-              holds.1,
-              turns_grown traffic s.gone.items u.gone.items grows (since old now ++ next.Turn place ∷ [])
-                  (handled.turns ++ more)
-                  (turns_more traffic (since old now) s u said handled.turns more place holds.0 handled.holds.1),
-              hears more holds.1,
-            ))))
-
-        pub handled_keeps : then.count ≡ now.count → then.heard ≡ now.heard → IsNoTurn one → AnswersNoMore traffic s u
-            → AreHandled service (λ turns. Then true turns) before at
-        handled_keeps same quiet none keeps =
-            rw (same, more)
-            (handled_same before at (λ turns. AreKeptAtTurns may_wait traffic true old now turns s)
-            (λ turns. AreKept traffic old.count now.count turns u
-            × AreAtTurns traffic u.gone.items (since old now ++ one ∷ []) turns
-            × HeardBy true (since old now ++ one ∷ []) turns) handled
-            (λ turns holds. (
-              keeps.1 old.count now.count turns holds.0,
-              turns_then turns holds.1,
-              heard_still quiet none turns holds.2,
-            )))
-
-        pub handled_admits : (place : ℕ) (peer : P) → (traffic peer).number ≡ now.count → then.count ≡ now.count + 1
-            → then.heard ≡ now.heard → IsNoTurn one → Admits traffic place peer s u
-            → AreHandled service (λ turns. Then true turns) before at
-        handled_admits place peer number is quiet none admits =
-            rw (is, more)
-            (handled_same before at (λ turns. AreKeptAtTurns may_wait traffic true old now turns s)
-            (λ turns. AreKept traffic old.count (now.count + 1) turns u
-            × AreAtTurns traffic u.gone.items (since old now ++ one ∷ []) turns
-            × HeardBy true (since old now ++ one ∷ []) turns) handled
-            (λ turns holds. (
-              admits.1 old.count now.count turns number holds.0,
-              turns_then turns holds.1,
-              heard_still quiet none turns holds.2,
-            )))

@@ -4,11 +4,11 @@ use Rattle.std.specs.Prelude.{Bool, true, false, length}
 use Rattle.std.proofs.Common.{get_or}
 use Rattle.hall_http.specs.Limits.{most_connections}
 use Rattle.hall_http.specs.Answered.{IsUnavailable}
-use Rattle.hall_http.specs.Peer.{Traffic, IsOver, IsUntouched}
+use Rattle.hall_http.specs.Peer.{Traffic, IsLater, IsOver, IsUntouched}
 use Rattle.hall_http.specs.Request.{ReachesStore}
 use Rattle.hall_http.specs.Steps.{StandsRightly}
 use Rattle.hall_http.specs.Turns.{Turn, Service, exchanges_of, goes_on, of, IsConnectionTold, IsClient}
-use Rattle.hall_http.specs.Coming.{Nexts, Said, AreDone, since}
+use Rattle.hall_http.specs.Coming.{Nexts, Said, AreCounted, AreDone, since}
 use Rattle.hall_http.specs.declared.server.Next.TheVariants as next
 use Rattle.hall_http.specs.declared.server.Next.{Next}
 use Rattle.hall_http.specs.declared.server.ServeAllEnd.{ServeAllEnd}
@@ -16,7 +16,7 @@ use Rattle.hall_http.specs.declared.server.ServeAllEnd.TheVariants as end
 use Rattle.hall_store.specs.Store.{Content, IsSettled, Leads}
 use Rattle.hall_http.specs.Connection.{Exchange, AreMoments}
 use Rattle.hall_http.specs.Resting.{RestingSession}
-use Rattle.hall_http.specs.Serving.{AreAnsweredWhileOpen, LeavesRunOver, RunsOver}
+use Rattle.hall_http.specs.Serving.{AreAnsweredWhileOpen, LeavesRunOver, RunsOver, WaitsForSearch}
 use Rattle.hall_http.specs.declared.client.Client.{Client}
 use Rattle.hall_http.specs.declared.client.Step.{Step}
 use Rattle.hall_http.specs.declared.client.Step.TheVariants as step
@@ -114,16 +114,19 @@ AreSomeKept traffic s = (few many : ℕ) × (turns : List Turn) × AreKept traff
 abbrev pub HasAt : {P : Type 0} → (P → Traffic) → Clients P → ℕ → ℕ → Type 0
 HasAt {P} traffic s place number = (k : Client P) × IsAt s place k × ((traffic k.peer).number ≡ number)
 
--- whoever is at a place was there before, of the same number
+-- one that was at the place is this one, with this traffic later on
+abbrev pub WasAt : {P : Type 0} → (P → Traffic) → Clients P → ℕ → Traffic → Type 0
+WasAt {P} traffic s place t = (k : Client P) × IsAt s place k × IsLater (traffic k.peer) t
+
+-- whoever is at a place was there before
 abbrev pub AreStill : {P : Type 0} → (P → Traffic) → Clients P → Clients P → Type 0
-AreStill {P} traffic s u =
-    (place : ℕ) (l : Client P) → IsAt u place l → HasAt traffic s place (traffic l.peer).number
+AreStill {P} traffic s u = (place : ℕ) (l : Client P) → IsAt u place l → WasAt traffic s place (traffic l.peer)
 
 -- those that have gone are the same, or the one at the place went so
 abbrev pub MayLose : {P : Type 0} → (P → Traffic) → Departure → ℕ → Clients P → Clients P → Type 0
 MayLose {P} traffic went place s u =
     (u.gone.items ≡ s.gone.items)
-    ⊎ ((closed : Closed P) × HasAt traffic s place (traffic closed.peer).number
+    ⊎ ((closed : Closed P) × WasAt traffic s place (traffic closed.peer)
     × (u.gone.items ≡ s.gone.items ++ (closed, (went, place)) ∷ []))
 
 -- whatever they were answered, they were answered no more, and each that is here is at its place
@@ -136,7 +139,7 @@ AnswersNoMore traffic s u =
 abbrev pub ComesTo : {P : Type 0} → (P → Traffic) → ℕ → P → Clients P → Clients P → Type 0
 ComesTo {P} traffic place peer s u =
     (other : ℕ) (l : Client P) → IsAt u other l
-    → HasAt traffic s other (traffic l.peer).number
+    → WasAt traffic s other (traffic l.peer)
     ⊎ ((other ≡ place) × ((traffic l.peer).number ≡ (traffic peer).number))
 
 -- the same, and one came in for the place, of the number after the others
@@ -257,7 +260,7 @@ pub record AreAsSaid {P : Type 0} (traffic : P → Traffic) (steps : Nexts P) (s
 
 -- one went at the end that was at its place until then
 abbrev pub WasHere : {P : Type 0} → (P → Traffic) → Clients P → Past P → Type 0
-WasHere traffic s one = (one.1.0 ≡ departure.AtEnd) × HasAt traffic s one.1.1 (number_past traffic one)
+WasHere traffic s one = (one.1.0 ≡ departure.AtEnd) × WasAt traffic s one.1.1 (traffic_past traffic one)
 
 -- some more have gone, which were here until then
 abbrev pub AllLeave : {P : Type 0} → (P → Traffic) → Clients P → Clients P → Type 0
@@ -274,23 +277,50 @@ pub data AreAtTurns {P : Type 0} (traffic : P → Traffic) (gone : List (Past P)
       → IsFor traffic gone steps place number → All (λ turn. turn.0 ≡ number) more
       → AreAtTurns traffic gone (steps ++ next.Turn place ∷ []) (turns ++ more)
 
--- How whoever is at the place stands, where others may be answered still: none is there, and that it is over is told;
--- or one is, and it isn't told that it is over, and it stands as is told.
-abbrev pub StandsThere : {H P : Type 0} → (H → List ℕ → Type 0) → Clients P → H → ℕ × Step → Type 0
-StandsThere {H} {P} may_wait s h told =
+-- How whoever is at the place stands after these requests, where others may be answered still: none is there, and that
+-- it is over is told; or one is, and it isn't told that it is over, and it stands as is told.
+abbrev pub StandsThere : {P : Type 0} → (List Turn → List ℕ → Type 0) → Clients P → List Turn → ℕ × Step → Type 0
+StandsThere {P} may_wait s turns told =
     (goes_on told.1 ≡ true)
     × ((IsFree s told.0 × (told.1 ≡ step.Over))
-    ⊎ ((k : Client P) × IsAt s told.0 k × (told.1 ≢ step.Over) × StandsRightly may_wait k.connection h told.1))
+    ⊎ ((k : Client P) × IsAt s told.0 k × (told.1 ≢ step.Over) × StandsRightly may_wait k.connection turns told.1))
 
--- After these requests, and by what was done, each connection that came is kept, and so is told how one stands.
-pub record IsToldRightly {H P : Type 0} (may_wait : H → List ℕ → Type 0) (traffic : P → Traffic) (few : ℕ)
-    (steps : Nexts P) (turns : List Turn) (told : ℕ × Step) : Type 0 where
+-- one of those that have gone is the one with this traffic, later on
+abbrev pub WentLater : {P : Type 0} → (P → Traffic) → List (Past P) → Traffic → Type 0
+WentLater {P} traffic gone t =
+    (front : List (Past P)) × (one : Past P) × (rest : List (Past P)) × (gone ≡ front ++ one ∷ rest)
+    × IsLater t (traffic_past traffic one)
+
+-- those that had gone are the first of these, and each that was here is one of them, later on
+pub record HaveGoneSince {P : Type 0} (traffic : P → Traffic) (gone : List (Past P)) (s : Clients P) : Type 0 where
+  pub rest : List (Past P)
+  pub first : gone ≡ s.gone.items ++ rest
+  pub here : (place : ℕ) (k : Client P) → IsAt s place k → WentLater traffic gone (traffic k.peer)
+
+-- one that is here or has gone is the one with this traffic, later on
+abbrev pub IsHereOrGone : {P : Type 0} → (P → Traffic) → Clients P → Traffic → Type 0
+IsHereOrGone {P} traffic u t =
+    ((place : ℕ) × (l : Client P) × IsAt u place l × IsLater t (traffic l.peer)) ⊎ WentLater traffic u.gone.items t
+
+-- those that had gone are the first that have gone of these, and each that was here is one of these, later on
+pub record HaveBecome {P : Type 0} (traffic : P → Traffic) (u s : Clients P) : Type 0 where
+  pub rest : List (Past P)
+  pub first : u.gone.items ≡ s.gone.items ++ rest
+  pub here : (place : ℕ) (k : Client P) → IsAt s place k → IsHereOrGone traffic u (traffic k.peer)
+
+-- The connections that were handed out by these steps are kept after these requests, each of which was answered at a
+-- turn; each is at its place or has gone by what was said; they became what they are known to have become; and so is
+-- told how one stands.
+pub record IsToldRightly {P : Type 0} (may_wait : List Turn → List ℕ → Type 0) (traffic : P → Traffic) (few : ℕ)
+    (became : Clients P → Type 0) (steps : Nexts P) (turns : List Turn) (told : ℕ × Step) : Type 0 where
   pub many : ℕ
   pub clients : Clients P
-  pub responder : H
+  pub came : AreCounted traffic few steps many
   pub kept : AreKept traffic few many turns clients
   pub said : AreAsSaid traffic steps clients
-  pub stands : StandsThere may_wait clients responder told
+  pub turned : AreAtTurns traffic clients.gone.items steps turns
+  pub later : became clients
+  pub stands : StandsThere may_wait clients turns told
 
 -- nobody has a turn by this
 abbrev pub IsNoTurn : {P : Type 0} → Next P → Type 0
@@ -298,35 +328,54 @@ IsNoTurn (next.Turn place) = ⊥
 IsNoTurn _ = Unit {0}
 
 -- While these things were done, and these requests answered, this was heard of the turns: after each of them, before
--- anything else was done, how whoever is at its place stands then; but of the last turn nothing, where it ended all.
-pub data AreHeard {H P : Type 0} (may_wait : H → List ℕ → Type 0) (traffic : P → Traffic) (few : ℕ) :
-    Bool → Nexts P → List Turn → List (ℕ × Step) → Type 0 where
-  heard_first : AreHeard may_wait traffic few true [] [] []
+-- anything else was done, how whoever is at its place stands then.
+pub data AreHeard {P : Type 0} (may_wait : List Turn → List ℕ → Type 0) (traffic : P → Traffic) (few : ℕ)
+    (became : Clients P → Type 0) : Nexts P → List Turn → List (ℕ × Step) → Type 0 where
+  heard_first : AreHeard may_wait traffic few became [] [] []
   heard_other : (steps : Nexts P) (turns : List Turn) (heard : List (ℕ × Step)) (one : Next P) → IsNoTurn one
-      → AreHeard may_wait traffic few true steps turns heard
-      → AreHeard may_wait traffic few true (steps ++ one ∷ []) turns heard
+      → AreHeard may_wait traffic few became steps turns heard
+      → AreHeard may_wait traffic few became (steps ++ one ∷ []) turns heard
   heard_turn : (steps : Nexts P) (turns more : List Turn) (heard : List (ℕ × Step)) (place : ℕ) (how : Step)
-      → AreHeard may_wait traffic few true steps turns heard
-      → IsToldRightly may_wait traffic few (steps ++ next.Turn place ∷ []) (turns ++ more) (place, how)
-      → AreHeard may_wait traffic few true (steps ++ next.Turn place ∷ []) (turns ++ more) (heard ++ (place, how) ∷ [])
-  heard_last : (steps : Nexts P) (turns more : List Turn) (heard : List (ℕ × Step)) (place : ℕ)
-      → AreHeard may_wait traffic few true steps turns heard
-      → AreHeard may_wait traffic few false (steps ++ next.Turn place ∷ []) (turns ++ more) heard
+      → AreHeard may_wait traffic few became steps turns heard
+      → IsToldRightly may_wait traffic few became (steps ++ next.Turn place ∷ []) (turns ++ more) (place, how)
+      → AreHeard may_wait traffic few became (steps ++ next.Turn place ∷ []) (turns ++ more)
+      (heard ++ (place, how) ∷ [])
 
--- so the sockets heard of the turns at which these requests were answered, in the meantime
-abbrev pub HaveHeard : {H P : Type 0} → (H → List ℕ → Type 0) → (P → Traffic) → Bool → Said P → Said P → List Turn
-    → Type 0
-HaveHeard may_wait traffic goes old new turns =
+-- so the sockets heard of the turns at which these requests were answered, in the meantime; but of the last turn
+-- nothing, where it ended all
+abbrev pub HaveHeard : {P : Type 0} → (List Turn → List ℕ → Type 0) → (P → Traffic) → (Clients P → Type 0) → Bool
+    → Said P → Said P → List Turn → Type 0
+HaveHeard may_wait traffic became true old new turns =
     (heard : List (ℕ × Step)) × (new.heard ≡ old.heard ++ heard)
-    × AreHeard may_wait traffic old.count goes (since old new) turns heard
+    × AreHeard may_wait traffic old.count became (since old new) turns heard
+HaveHeard {P} may_wait traffic became false old new turns =
+    (heard : List (ℕ × Step)) × (steps : Nexts P) × (place : ℕ) × (some more : List Turn)
+    × (new.heard ≡ old.heard ++ heard) × (since old new ≡ steps ++ next.Turn place ∷ []) × (turns ≡ some ++ more)
+    × AreHeard may_wait traffic old.count became steps some heard
 
 -- so the connections stand after these requests, each of which was answered at a turn of its place, by what the sockets
 -- said in the meantime, and after each turn they heard how it stands
-abbrev pub AreKeptAtTurns : {H P : Type 0} → (H → List ℕ → Type 0) → (P → Traffic) → Bool → Said P → Said P
+abbrev pub AreKeptAtTurns : {P : Type 0} → (List Turn → List ℕ → Type 0) → (P → Traffic) → Bool → Said P → Said P
     → List Turn → Clients P → Type 0
 AreKeptAtTurns may_wait traffic goes old new turns s =
     AreKept traffic old.count new.count turns s × AreAtTurns traffic s.gone.items (since old new) turns
-    × HaveHeard may_wait traffic goes old new turns
+    × HaveHeard may_wait traffic (HaveBecome traffic s) goes old new turns
+
+-- The responder that answered the first of all requests, these, and then answered the rest of them, may keep the
+-- request waiting in between.
+abbrev pub MayWaitAfter : {H C : Type 0} → Service H C → (H → List ℕ → Type 0) → H → H → List Turn → List Turn → List ℕ
+    → Type 0
+MayWaitAfter {H} service may_wait before after all turns request =
+    (h : H) × (rest : List Turn) × (all ≡ turns ++ rest)
+    × RestingSession service.answers service.rests before (exchanges_of turns) h
+    × RestingSession service.answers service.rests h (exchanges_of rest) after × may_wait h request
+
+-- The store over which the first of all requests, these, were answered, and then the rest of them, is one over which
+-- the request may be kept waiting for a search in between.
+abbrev pub WaitsForSearchAfter : {H : Type 0} → (H → Content) → H → H → List Turn → List Turn → List ℕ → Type 0
+WaitsForSearchAfter {H} content old new all turns request =
+    (h : H) × (rest : List Turn) × (all ≡ turns ++ rest) × AreAnsweredWhileOpen content old (exchanges_of turns) h
+    × AreAnsweredWhileOpen content h (exchanges_of rest) new × WaitsForSearch content h request
 
 -- Each request that was answered is of one of the connections, of which no two have the same number. And of each
 -- connection what came spells its requests among these, and what it was sent is a first part of the replies to them.

@@ -1,5 +1,5 @@
 -- What is known of the other side of a connection.
-use Rattle.std.specs.Prelude.{◌≡◌, ◌==◌, ◌+◌, ◌⊎◌, if◌then◌else◌, ℕ, Bool, true, false, List, []}
+use Rattle.std.specs.Prelude.{◌≡◌, ◌==◌, ◌⊎◌, ◌++◌, if◌then◌else◌, ℕ, Bool, true, false, List, []}
 use Rattle.hall_http.specs.declared.peer.Moved.{Moved}
 use Rattle.hall_http.specs.declared.peer.Moved.TheVariants.{Some, Wait, None}
 
@@ -42,6 +42,16 @@ broke_after broke None = true
 -- after it was told that no more is sent
 abbrev pub then_hung_up : Traffic → Traffic
 then_hung_up t = record t { hung_up = true }
+
+-- So it is later on, the same connection: what came of it and what it was sent by then are first parts of what came and
+-- was sent in all, and what was told once is told.
+pub record IsLater (t u : Traffic) : Type 0 where
+  pub number : u.number ≡ t.number
+  pub came : (more : List ℕ) × (u.came ≡ t.came ++ more)
+  pub went : (more : List ℕ) × (u.went ≡ t.went ++ more)
+  pub over : t.over ≡ true → u.over ≡ true
+  pub broke : t.broke ≡ true → u.broke ≡ true
+  pub hung_up : t.hung_up ≡ true → u.hung_up ≡ true
 
 -- nothing was read of it, not even that no more comes; and it was sent nothing, not even that no more is sent
 pub record IsUntouched (t : Traffic) : Type 0 where

@@ -7,7 +7,7 @@ use Rattle.hall_http.specs.Resting.{RestingSession, still}
 use Rattle.hall_http.specs.Steps.{WaitsRightly, gated}
 use Rattle.hall_http.specs.Head.{IsWholeRequest, IsUnfinished, HasNoWholeRequest, NeverHas}
 use Rattle.hall_http.specs.History.{ConnectionHistory, HasHistory, Ends, told_at}
-use Rattle.hall_http.specs.Peer.{Traffic, IsOver}
+use Rattle.hall_http.specs.Peer.{Traffic, IsLater, IsOver}
 use Rattle.hall_http.specs.declared.client.Client.{Client}
 use Rattle.hall_http.specs.declared.client.Step.{Step}
 use Rattle.hall_http.specs.declared.client.Step.TheVariants as step
@@ -102,9 +102,9 @@ pub record IsClient {P : Type 0} (traffic : P → Traffic) (xs : List Exchange) 
   pub some_off : read_off ≤ length off
   pub sent : (traffic k.peer).went ≡ history.went
 
--- whatever it was answered, it was answered no more, and it is of the same number
+-- whatever it was answered, it was answered no more, and it is the same connection, later on
 pub record IsClientKept {P : Type 0} (traffic : P → Traffic) (k l : Client P) : Type 0 where
-  pub number : (traffic l.peer).number ≡ (traffic k.peer).number
+  pub later : IsLater (traffic k.peer) (traffic l.peer)
   pub kept : (xs : List Exchange) → IsClient traffic xs k → IsClient traffic xs l
 
 -- others may be answered after it
@@ -136,10 +136,10 @@ abbrev pub service_of : {H C : Type 0} → (H → Option ℕ → List ℕ → Li
 service_of answers goes_on rests now_gives =
     record { answers = gated answers goes_on; rests = still rests; now_gives = now_gives }
 
--- some more of its requests were answered, one after another, it is of the same number, and it stands so
+-- some more of its requests were answered, one after another, it is the same connection, later on, and it stands so
 pub record IsTurned {H C P : Type 0} (service : Service H C) (traffic : P → Traffic) (before : H × C) (k : Client P)
     (after : H × C) (l : Client P) (step : Step) : Type 0 where
-  pub number : (traffic l.peer).number ≡ (traffic k.peer).number
+  pub later : IsLater (traffic k.peer) (traffic l.peer)
   pub over : IsOverRightly step (traffic l.peer)
   pub turned : (xs : List Exchange) → IsClient traffic xs k
       → (more : List Exchange) × RestingSession service.answers service.rests before.0 more after.0

@@ -7,12 +7,12 @@ ghost use Rattle.hall_http.specs.declared.server.Next.TheVariants as Next;
 ghost use Rattle.hall_desk.specs.Desk.{kept_by, SaneThen};
 ghost use Rattle.hall_desk.specs.Sane.{Sane};
 ghost use Rattle.hall_desk.specs.Promises.{HasUniqueSolutions, RightAnswersAreSolutions};
-ghost use Rattle.hall_http.specs.Crowd.{Admits, AreAsSaid, AreAtTurns, AreHandled, AreKept, AreKeptAtTurns, AreServed};
-ghost use Rattle.hall_http.specs.Crowd.{AreSomeKept, EndsServing, HaveHeard, IsAt, IsFree, MayLose, Receives, Serves};
+ghost use Rattle.hall_http.specs.Crowd.{Admits, AreAsSaid, AreAtTurns, AreHandled, AreKept, AreKeptAtTurns};
+ghost use Rattle.hall_http.specs.Crowd.{AreServed, AreSomeKept, EndsServing, HaveGoneSince, HaveHeard, IsAt, IsFree, MayLose};
+ghost use Rattle.hall_http.specs.Crowd.{MayWaitAfter, Receives, Serves, WaitsForSearchAfter};
 ghost use Rattle.hall_http.specs.Peer.{IsUntouched};
 ghost use Rattle.hall_http.specs.declared.clients.Departure.TheVariants as Departure;
 ghost use Rattle.hall_http.specs.Coming.{AreDone, Hears, IsFreshPeer, Said, newcomer, since, stays_open};
-ghost use Rattle.hall_http.specs.Serving.{WaitsForSearch};
 ghost use Rattle.hall_http.specs.Steps.{StandsRightly};
 ghost use Rattle.hall_http.specs.Turns.{goes_on, service_of};
 ghost use Rattle.hall_http.specs.declared.client.Client.{Client};
@@ -94,8 +94,8 @@ pub fn serve_all<S: Store, N: Sockets, C: Clock>(
     ensures served { IfOk result (λ served. (all : AreServed S.content C.now_gives N.Peer.traffic served.0
         (kept_by desk.old, clock.old) (kept_by desk.new, clock.new) served.1.items)
         × AreAtTurns N.Peer.traffic served.1.items (since (N.said sockets.old) (N.said sockets.new)) all.turns
-        × HaveHeard (WaitsForSearch S.content) N.Peer.traffic (stays_open served.0) (N.said sockets.old)
-        (N.said sockets.new) all.turns) }
+        × HaveHeard (WaitsForSearchAfter S.content (kept_by desk.old) (kept_by desk.new) all.turns) N.Peer.traffic
+        (HaveGoneSince N.Peer.traffic served.1.items) (stays_open served.0) (N.said sockets.old) (N.said sockets.new) all.turns) }
     ensures ended { IfOk result (λ served. EndsServing N.is_over N.said N.Peer.traffic served.0
         sockets.old sockets.new served.1.items) }
     ensures memory { OnErr result ((desk.new ≡ desk.old) × (sockets.new ≡ sockets.old) × (clock.new ≡ clock.old)) }
@@ -123,8 +123,8 @@ fn serve_clients<S: Store, N: Sockets, C: Clock>(
     ensures served { (all : AreServed S.content C.now_gives N.Peer.traffic result
         (kept_by desk.old, clock.old) (kept_by desk.new, clock.new) clients.new.gone.items)
         × AreAtTurns N.Peer.traffic clients.new.gone.items (since (N.said sockets.old) (N.said sockets.new)) all.turns
-        × HaveHeard (WaitsForSearch S.content) N.Peer.traffic (stays_open result) (N.said sockets.old)
-        (N.said sockets.new) all.turns }
+        × HaveHeard (WaitsForSearchAfter S.content (kept_by desk.old) (kept_by desk.new) all.turns) N.Peer.traffic
+        (HaveGoneSince N.Peer.traffic clients.new.gone.items) (stays_open result) (N.said sockets.old) (N.said sockets.new) all.turns }
     ensures ended { EndsServing N.is_over N.said N.Peer.traffic result
         sockets.old sockets.new clients.new.gone.items }
     ensures sane { SaneThen Sane (S.content (kept_by desk.old)) (S.content (kept_by desk.new)) }
@@ -150,8 +150,9 @@ fn handle_all<H: Responder, S: Sockets, C: Clock>(
     ensures over { result ≡ ServeAllEnd.Served → S.is_over sockets.new }
     ensures said { AreAsSaid S.Peer.traffic (since (S.said sockets.old) (S.said sockets.new)) clients.new }
     ensures handled { AreHandled (service_of H.answers H.goes_on H.rests C.now_gives)
-        (λ turns. AreKeptAtTurns H.may_wait S.Peer.traffic (stays_open result) (S.said sockets.old) (S.said sockets.new)
-        turns clients.new)
+        (λ turns. AreKeptAtTurns (MayWaitAfter (service_of H.answers H.goes_on H.rests C.now_gives)
+        (λ h. H.may_wait h.0) (responder.old, true) (responder.new, stays_open result) turns) S.Peer.traffic
+        (stays_open result) (S.said sockets.old) (S.said sockets.new) turns clients.new)
         ((responder.old, true), clock.old) ((responder.new, stays_open result), clock.new) }
 {
     for _step in 0..u64::MAX {

@@ -6,8 +6,8 @@ use Rattle.hall_store.specs.Store.{Content, Kept}
 use Rattle.hall_desk.specs.Census.{census_of}
 use Rattle.hall_desk.specs.declared.census.Census.{Census}
 use Rattle.hall_http.specs.Coming.{since, stays_open}
-use Rattle.hall_http.specs.Crowd.{AreAtTurns, AreServed, EndsServing, HaveHeard, Past}
-use Rattle.hall_http.specs.Serving.{WaitsForSearch}
+use Rattle.hall_http.specs.Crowd.{AreAtTurns, AreServed, EndsServing, HaveGoneSince, HaveHeard, Past}
+use Rattle.hall_http.specs.Crowd.{WaitsForSearchAfter}
 use Rattle.hall_http.specs.declared.server.ServeAllEnd.{ServeAllEnd}
 use Rattle.hall_http.specs.declared.server.ServeAllEnd.TheVariants as end
 use Rattle.hall_tool.specs.InitText.{IsInitRun}
@@ -86,8 +86,8 @@ DoesServe {N} {L} {C} {P} {S} h content offered before after result =
     × (((left : L) × (late : C) × (gone : List (Past P)) × (e : ServeAllEnd)
     × ((all : AreServed content h.clock.now_gives h.peer.traffic e (later, clock) (after.stand.kept, late) gone)
     × AreAtTurns h.peer.traffic gone (since (h.sockets.said sockets) (h.sockets.said left)) all.turns
-    × HaveHeard (WaitsForSearch content) h.peer.traffic (stays_open e) (h.sockets.said sockets) (h.sockets.said left)
-    all.turns)
+    × HaveHeard (WaitsForSearchAfter content later after.stand.kept all.turns) h.peer.traffic
+    (HaveGoneSince h.peer.traffic gone) (stays_open e) (h.sockets.said sockets) (h.sockets.said left) all.turns)
     × EndsServing h.sockets.is_over h.sockets.said h.peer.traffic e sockets left gone
     × h.host.ends told left gone after.host × (result ≡ serve_end e))
     ⊎ ((after.host ≡ told) × (after.stand.kept ≡ later) × (result ≡ Err (Tool Memory)))))

@@ -5,17 +5,19 @@ use Rattle.hall_http.specs.declared.client.Step.{Step}
 use Rattle.hall_http.specs.declared.clients.Departure.TheVariants as departure
 use Rattle.hall_http.specs.declared.server.Next.TheVariants as next
 use Rattle.hall_http.specs.declared.server.ServeAllEnd.TheVariants as end
-use Rattle.hall_http.proofs.Comings.{done_start, done_step, done_turn, done_last, done_all, same_count, since_more}
-use Rattle.hall_http.proofs.SoFar.{grows_none, handled_start, handled_turn, handled_keeps, handled_admits, keeps_all}
-use Rattle.hall_http.proofs.SoFar.{hears_last, hears_turn, loses_grows, receives_grows, stands_there, still_same}
+use Rattle.hall_http.proofs.Comings.{counted_since, counted_turn, done_start, done_step, done_turn, done_last, done_all}
+use Rattle.hall_http.proofs.Comings.{same_count, since_more}
+use Rattle.hall_http.proofs.Heard.{handled_admits, handled_keeps, handled_start, handled_turn, hears_last, hears_turn}
+use Rattle.hall_http.proofs.Became.{loses_passes, passes_none, receives_passes}
+use Rattle.hall_http.proofs.SoFar.{keeps_all, still_same}
 use Rattle.hall_http.proofs.SoFar.{turn_said, said_comes, said_gone, said_none, said_still, said_turn}
 use Rattle.hall_http.proofs.server.handle_all.Goals as goal
 use Rattle.hall_http.proofs.server.handle_all.Goals.{in-Newcomer, in-Turn+else-not-goes_on, in-Gone}
 
 pub loop-step-init : goal.loop-step-init
 loop-step-init g c = record {
-  so_far = handled_start _ g.S.Peer.Peer.traffic g.H.Responder.may_wait _ (g.S.Sockets.said c.args.sockets.now) _
-      c.requires.none;
+  so_far = handled_start _ g.S.Peer.Peer.traffic (λ h. g.H.Responder.may_wait h.0) _
+      (g.S.Sockets.said c.args.sockets.now) _ c.requires.none;
   said = said_none g.S.Peer.Peer.traffic _ _ _ _ c.requires.none;
   long = c.requires.long;
   done = done_start g.S.Peer.Peer.traffic _;
@@ -42,10 +44,10 @@ loop-step-preserved g c =
           let more = since_more g.S.Peer.Peer.traffic old now _ done one then w.in-Newcomer.ensures.nexts in
           let clients = w.let_in.new.clients in
           rw (w.clients-is, w.responder-is, w.clock-is, w.sockets-is) (record {
-            so_far = handled_admits _ g.S.Peer.Peer.traffic g.H.Responder.may_wait old now _ _ _ so_far then one more
+            so_far = handled_admits _ g.S.Peer.Peer.traffic (λ h. g.H.Responder.may_wait h.0) old now _ _ _ so_far then
                 clients
-                (receives_grows g.S.Peer.Peer.traffic place w.in-Newcomer.peer c.loop-step.clients clients
-                w.let_in.ensures.receives) place w.in-Newcomer.peer w.in-Newcomer.ensures.fresh.0
+                (receives_passes g.S.Peer.Peer.traffic now.count place w.in-Newcomer.peer c.loop-step.clients clients
+                w.in-Newcomer.ensures.fresh.0 w.let_in.ensures.admits.0 w.let_in.ensures.receives) one more place w.in-Newcomer.peer w.in-Newcomer.ensures.fresh.0
                 w.in-Newcomer.ensures.count w.in-Newcomer.ensures.heard tt w.let_in.ensures.admits;
             said = said_comes g.S.Peer.Peer.traffic old now c.loop-step.clients then one more said clients
                 c.loop-step.invariant.long place w.in-Newcomer.peer (so_far.holds.0.numbered.left place) refl
@@ -71,15 +73,17 @@ loop-step-preserved g c =
           let one = next.Turn place in
           let more = since_more g.S.Peer.Peer.traffic old now _ done one later nexts in
           let clients = w.visit-step.new.clients in
-          let grows = loses_grows g.S.Peer.Peer.traffic departure.Over place c.loop-step.clients clients
-          w.visit-step.ensures.lost in
+          let passes = loses_passes g.S.Peer.Peer.traffic now.count departure.Over place c.loop-step.clients clients
+          w.visit-step.ensures.serves.0 w.visit-step.ensures.lost in
           rw (w.clients-is, w.responder-is, w.clock-is, w.sockets-is) (record {
-            so_far = handled_turn _ g.S.Peer.Peer.traffic g.H.Responder.may_wait old now _ _ _ so_far later one more
-                clients grows true _ place refl (count ∙ same_count _) said (rw on at w.visit-step.ensures.serves)
-                (hears_turn _ g.S.Peer.Peer.traffic g.H.Responder.may_wait old now _ _ _ so_far later one more clients
-                grows place how heard w.visit-step.new.responder
-                (stands_there g.S.Peer.Peer.traffic g.H.Responder.may_wait clients w.visit-step.new.responder place how
-                on w.visit-step.ensures.stands (λ free. w.visit-step.ensures.over free on))
+            so_far = handled_turn _ g.S.Peer.Peer.traffic (λ h. g.H.Responder.may_wait h.0) old now _ _ _ so_far later
+                clients passes place _ more true (count ∙ same_count _) said (rw on at w.visit-step.ensures.serves)
+                (hears_turn _ g.S.Peer.Peer.traffic (λ h. g.H.Responder.may_wait h.0) old now _ _ _ so_far later
+                clients passes place ((w.visit-step.new.responder, true), w.visit-step.new.clock) more how on
+                w.visit-step.ensures.stands
+                (λ free. w.visit-step.ensures.over free on) heard
+                (counted_turn g.S.Peer.Peer.traffic old.count _ now.count place
+                (counted_since g.S.Peer.Peer.traffic old now _ done))
                 (turn_said g.S.Peer.Peer.traffic _ c.loop-step.clients clients said place w.visit-step.ensures.serves.0
                 w.visit-step.ensures.lost));
             said = said_turn g.S.Peer.Peer.traffic old now c.loop-step.clients later one more said clients place refl
@@ -93,10 +97,10 @@ loop-step-preserved g c =
           let more = since_more g.S.Peer.Peer.traffic old now _ done one then w.in-Gone.ensures.nexts in
           let clients = w.forget.new.self in
           rw (w.clients-is, w.responder-is, w.clock-is, w.sockets-is) (record {
-            so_far = handled_keeps _ g.S.Peer.Peer.traffic g.H.Responder.may_wait old now _ _ _ so_far then one more
+            so_far = handled_keeps _ g.S.Peer.Peer.traffic (λ h. g.H.Responder.may_wait h.0) old now _ _ _ so_far then
                 clients
-                (loses_grows g.S.Peer.Peer.traffic departure.LetGo place c.loop-step.clients clients
-                w.forget.ensures.lost) (w.in-Gone.ensures.count ∙ same_count _) w.in-Gone.ensures.heard tt
+                (loses_passes g.S.Peer.Peer.traffic now.count departure.LetGo place c.loop-step.clients clients
+                w.forget.ensures.kept.0 w.forget.ensures.lost) one more (w.in-Gone.ensures.count ∙ same_count _) w.in-Gone.ensures.heard tt
                 w.forget.ensures.kept;
             said = said_gone g.S.Peer.Peer.traffic old now c.loop-step.clients then one more said clients place refl
                 w.forget.ensures.kept.0 w.forget.ensures.none w.forget.ensures.lost;
@@ -111,10 +115,10 @@ returns-in-End-clause-handled g c =
     let old = g.S.Sockets.said c.args.sockets.now in
     let now = g.S.Sockets.said c.loop-step.sockets in
     let then = g.S.Sockets.said c.next.new.self in
-    handled_keeps _ g.S.Peer.Peer.traffic g.H.Responder.may_wait old now _ _ _ c.loop-step.invariant.so_far then
-    next.End
-    (since_more g.S.Peer.Peer.traffic old now _ c.loop-step.invariant.done next.End then c.in-End.ensures.nexts) _
-    (grows_none g.S.Peer.Peer.traffic _) (c.in-End.ensures.count ∙ same_count _) c.in-End.ensures.heard tt
+    handled_keeps _ g.S.Peer.Peer.traffic (λ h. g.H.Responder.may_wait h.0) old now _ _ _ c.loop-step.invariant.so_far
+    then _ (passes_none g.S.Peer.Peer.traffic now.count _) next.End
+    (since_more g.S.Peer.Peer.traffic old now _ c.loop-step.invariant.done next.End then c.in-End.ensures.nexts)
+    (c.in-End.ensures.count ∙ same_count _) c.in-End.ensures.heard tt
     (keeps_all g.S.Peer.Peer.traffic _)
 
 pub returns-in-Refused-clause-handled : goal.returns-in-Refused-clause-handled
@@ -122,11 +126,10 @@ returns-in-Refused-clause-handled g c =
     let old = g.S.Sockets.said c.args.sockets.now in
     let now = g.S.Sockets.said c.loop-step.sockets in
     let then = g.S.Sockets.said c.next.new.self in
-    handled_keeps _ g.S.Peer.Peer.traffic g.H.Responder.may_wait old now _ _ _ c.loop-step.invariant.so_far then
-    next.Refused
+    handled_keeps _ g.S.Peer.Peer.traffic (λ h. g.H.Responder.may_wait h.0) old now _ _ _ c.loop-step.invariant.so_far
+    then _ (passes_none g.S.Peer.Peer.traffic now.count _) next.Refused
     (since_more g.S.Peer.Peer.traffic old now _ c.loop-step.invariant.done next.Refused then c.in-Refused.ensures.nexts)
-    _
-    (grows_none g.S.Peer.Peer.traffic _) (c.in-Refused.ensures.count ∙ same_count _) c.in-Refused.ensures.heard tt
+    (c.in-Refused.ensures.count ∙ same_count _) c.in-Refused.ensures.heard tt
     (keeps_all g.S.Peer.Peer.traffic _)
 
 pub returns-then-not-goes_on-clause-handled : goal.returns-then-not-goes_on-clause-handled
@@ -140,13 +143,14 @@ returns-then-not-goes_on-clause-handled g c =
     let one = next.Turn c.in-Turn.place in
     let more = since_more g.S.Peer.Peer.traffic old now _ c.loop-step.invariant.done one then c.in-Turn.ensures.nexts in
     let clients = c.visit-step.new.clients in
-    let grows = loses_grows g.S.Peer.Peer.traffic departure.Over c.in-Turn.place c.loop-step.clients clients
-    c.visit-step.ensures.lost in
-    handled_turn _ g.S.Peer.Peer.traffic g.H.Responder.may_wait old now _ _ _ c.loop-step.invariant.so_far then one more
-    clients grows false _ c.in-Turn.place refl (c.in-Turn.ensures.count ∙ same_count _) c.loop-step.invariant.said
-    (rw off at c.visit-step.ensures.serves)
-    (hears_last _ g.S.Peer.Peer.traffic g.H.Responder.may_wait old now _ _ _ c.loop-step.invariant.so_far then one more
-    clients grows c.in-Turn.ensures.heard c.in-Turn.place)
+    let passes = loses_passes g.S.Peer.Peer.traffic now.count departure.Over c.in-Turn.place c.loop-step.clients clients
+    c.visit-step.ensures.serves.0 c.visit-step.ensures.lost in
+    handled_turn _ g.S.Peer.Peer.traffic (λ h. g.H.Responder.may_wait h.0) old now _ _ _ c.loop-step.invariant.so_far
+    then clients passes c.in-Turn.place _ more false (c.in-Turn.ensures.count ∙ same_count _)
+    c.loop-step.invariant.said (rw off at c.visit-step.ensures.serves)
+    (hears_last _ g.S.Peer.Peer.traffic (λ h. g.H.Responder.may_wait h.0) old now _ _ _ c.loop-step.invariant.so_far
+    then clients passes c.in-Turn.place ((c.visit-step.new.responder, false), c.visit-step.new.clock) more
+    c.in-Turn.ensures.heard)
 
 pub returns-clause-handled : goal.returns-clause-handled
 returns-clause-handled g c = c.loop-step.invariant.so_far

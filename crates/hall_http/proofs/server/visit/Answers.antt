@@ -2,7 +2,8 @@ use Rattle.std.proofs.Common.{◌≡◌, ◌∙◌, ap, sym, true, false}
 use Rattle.hall_http.specs.Turns.{goes_on}
 use Rattle.hall_http.specs.declared.client.Step.{Step}
 use Rattle.hall_http.specs.declared.clients.Departure.TheVariants as departure
-use Rattle.hall_http.proofs.SoFar.{loses_before, loses_none, serves_kept, serves_then}
+use Rattle.hall_http.proofs.Heard.{serves_kept, serves_then}
+use Rattle.hall_http.proofs.SoFar.{loses_before, loses_none}
 use Rattle.hall_http.proofs.server.visit.Goals as goal
 
 pub forget-requires : goal.forget-requires

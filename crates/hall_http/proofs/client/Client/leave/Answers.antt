@@ -1,4 +1,5 @@
 use Rattle.std.proofs.Common.{◌∙◌, inr, refl}
+use Rattle.hall_http.proofs.Peers.{later_then}
 use Rattle.hall_http.proofs.client.Client.leave.Goals as goal
 
 pub returns-then-self : goal.returns-then-self
@@ -11,7 +12,7 @@ returns g c =
     let first = c.hang_up.ensures.kept in
     let second = c.read_off.ensures.1 in (
       c.read_off.ensures.0,
-      record { number = second.number ∙ first.number; kept = λ xs is. second.kept xs (first.kept xs is) },
+      record { later = later_then _ _ _ first.later second.later; kept = λ xs is. second.kept xs (first.kept xs is) },
       c.read_off.ensures.2,
       c.read_off.ensures.3,
     )

@@ -1,8 +1,8 @@
 use Rattle.std.proofs.Common.{arith, ap, refl, ◌≡◌, ◌∙◌, take, length, ℕ, true}
 use Rattle.std.specs.Prelude.{Bool}
 use Rattle.std.proofs.lemmas.List.{length-take-le}
-use Rattle.hall_http.specs.Peer.{moved, over_after, reads_after}
-use Rattle.hall_http.proofs.Peers.{client_heard, client_ended, over_none, over_some, reads_none, reads_some}
+use Rattle.hall_http.specs.Peer.{moved, over_after}
+use Rattle.hall_http.proofs.Peers.{client_heard, client_ended, later_read, over_by, over_none, over_some}
 use Rattle.hall_http.proofs.client.Client.read.Goals as goal
 use Rattle.hall_http.proofs.client.Client.read.Goals.{in_default-via-in-Some+else-count-gt0, in_default-via-in_default}
 
@@ -13,7 +13,8 @@ returns-in-Some g c =
     length-take-le c.in-Some.count c.receive.new.chunk (omega (arith, c.receive.array_long, c.in-Some.ensures.bound)) in (
       refl,
       record {
-        number = c.in-Some.ensures.number;
+        later = later_read _ _ bytes c.in-Some.ensures.number c.in-Some.ensures.came c.in-Some.ensures.went
+            (λ told. c.in-Some.ensures.over ∙ over_by _ _ told) c.in-Some.ensures.broke c.in-Some.ensures.hung_up;
         kept = λ xs is.
             client_heard g.P.Peer.traffic _ _ _ _ xs is _ _ bytes c.requires.at
             (omega (arith, whole, c.if-count-gt0.true)) (omega (arith, whole, c.in-Some.ensures.bound)) c.hear.ensures
@@ -46,7 +47,8 @@ returns-in_default g c =
     ] in (
       refl,
       record {
-        number = c.receive.ensures.number;
+        later = later_read _ _ _ c.receive.ensures.number c.receive.ensures.came c.receive.ensures.went
+            (λ told. c.receive.ensures.over ∙ over _) c.receive.ensures.broke c.receive.ensures.hung_up;
         kept = λ xs is.
             client_ended g.P.Peer.traffic _ _ _ _ xs is _ _ (take (moved c.receive.result) c.receive.new.chunk)
             c.requires.at c.end_input.ensures (ap (λ (n : ℕ). take n c.receive.new.chunk) none)

@@ -1,7 +1,11 @@
 use Rattle.std.proofs.Common.{arith, ◌<◌, length, Some}
 use Rattle.hall_http.proofs.Crowds.{keep_place}
 use Rattle.hall_http.proofs.Numbers.{read_at}
+use Rattle.hall_http.proofs.SoFar.{keeps_all}
 use Rattle.hall_http.proofs.clients.Clients.finish_one.Goals as goal
+
+pub returns-then-place-len-clause-kept : goal.returns-then-place-len-clause-kept
+returns-then-place-len-clause-kept g c = keeps_all g.P.Peer.traffic c.args.self.now
 
 pub finish_at-requires : goal.finish_at-requires
 finish_at-requires g c =

@@ -5,7 +5,12 @@ use Rattle.std.specs.Vec.{with_item}
 use Rattle.hall_http.specs.declared.client.Client.{Client}
 use Rattle.hall_http.proofs.Crowds.{kept_gone, keep_place, still_free}
 use Rattle.hall_http.proofs.Numbers.{read_at}
+use Rattle.hall_http.proofs.Peers.{later_as}
+use Rattle.hall_http.proofs.SoFar.{keeps_all}
 use Rattle.hall_http.proofs.clients.Clients.forget.Goals as goal
+
+pub returns-then-place-len-clause-kept : goal.returns-then-place-len-clause-kept
+returns-then-place-len-clause-kept g c = keeps_all g.P.Peer.traffic c.args.self.now
 
 pub returns-then-place-len-clause-none : goal.returns-then-place-len-clause-none
 returns-then-place-len-clause-none g c =
@@ -40,7 +45,8 @@ returns-clause-lost g c =
         c.in-Some.client,
         read_at c.args.self.now.places.items c.args.place c.index_mut.result.now (Some c.in-Some.client) inside
             c.index_mut.ensures.value (sym c.take_at.ensures.taken ∙ c.in-Some.is),
-        sym (ap (λ (p : g.row.P.Denot). (g.P.Peer.traffic p).number) c.new-closed.ensures),
+        later_as (g.P.Peer.traffic c.in-Some.client.peer) (g.P.Peer.traffic c.new-closed.result.peer)
+            (ap (λ (p : g.row.P.Denot). g.P.Peer.traffic p) c.new-closed.ensures),
       ),
       c.and-self.ensures,
     )
