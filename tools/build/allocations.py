@@ -39,7 +39,7 @@ READ = [
 # A fault of memory as a value, and inside the result of a call.
 GIVEN = rf"(?:return )?(?:Err\()?(?:CommandFault::Tool\()?\b{MADE}\b"
 # A call that takes memory, and answers nothing else than that there was none.
-GROWS = r"(?:\w+\.push|\w+\.insert|self\.add|new_router|serve_all|fault_bytes|format!)\([^{}]*\)"
+GROWS = r"(?:\w+\.push|\w+\.insert|self\.add|new_router|fault_bytes|format!)\([^{}]*\)"
 # What a round of a loop does that goes on to the next one.
 ROUND = r"(?:(?!\bbreak\b)[^{}])*"
 FORMS = [
@@ -108,9 +108,13 @@ PLACES = {
         " let (left, ended) = task_over(alloc, host, store, &task, reader, writer); drop(left); ended }"
         " Err(_) => Err(CommandFault::Tool(ToolFault::Memory)),",
     ],
-    # A server ends so once a request was answered Shut; a desk answers a table by a table or a denial; and memory that
-    # was just opened holds nothing.
-    "hall_tool/src/task.rt": ["ServeAllEnd::Shut => Err(CommandFault::Tool(ToolFault::Store)),"],
+    # A server ends so once it was refused its room, and the sockets were handed back, or a request was answered Shut; a
+    # desk answers a table by a table or a denial; and memory that was just opened holds nothing.
+    "hall_tool/src/task.rt": [
+        "let Ok((end, gone)) = serve_all(alloc, desk, &mut sockets, &mut clock) else {"
+        " host.end(sockets, none_came()); return Err(CommandFault::Tool(ToolFault::Memory));",
+        "ServeAllEnd::Shut => Err(CommandFault::Tool(ToolFault::Store)),",
+    ],
     "hall_tool/src/table.rt": ["_ => Err(ToolFault::Store),"],
     "hall_tool/src/check.rt": ["Ok(Migrated::Occupied) => Err(ToolFault::Store),"],
     "hall_tool/src/program.rt": ["end(Err(CommandFault::Tool(ToolFault::Memory)), error)"],

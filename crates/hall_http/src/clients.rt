@@ -48,6 +48,13 @@ pub enum Departure {
 /// handed out for. Only proofs read them.
 pub type Gone<P> = Log<Closed<P>, (Departure, usize)>;
 
+/// Those that came, where none did.
+pub fn none_came<P>() -> Gone<P>
+    ensures { result.items ≡ [] }
+{
+    Log::new()
+}
+
 /// The open connections, and those that have gone.
 #[derive(Drop)]
 pub(crate) struct Clients<P> {

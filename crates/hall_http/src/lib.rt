@@ -36,7 +36,7 @@ mod words;
 pub use answer::{Answer, answer_bytes};
 pub use blocking::serve;
 pub use client::{Step, Wish};
-pub use clients::{Away, Departure, Gone};
+pub use clients::{Away, Departure, Gone, none_came};
 pub use clock::{SystemClock, WallClock, moment_of};
 pub use connection::{Clock, ServeEnd};
 pub use device::write_all;

@@ -10,9 +10,10 @@ use Rattle.sqlite.specs.State.{State, HasCleanDisk}
 use Rattle.sqlite.specs.Steps.{over_memory}
 use Rattle.hall_grid.specs.Device.{Tally}
 use Rattle.hall_store.specs.Maps.{empty_world}
-use Rattle.hall_store.specs.Store.{Kept}
+use Rattle.hall_store.specs.Store.{Content, Kept}
 use Rattle.hall_store.specs.declared.fault.StoreFault.{StoreFault}
 use Rattle.hall_store.specs.declared.fault.StoreFault.TheVariants as store
+use Rattle.hall_store.proofs.Knowing.{kept_then}
 use Rattle.hall_sql.specs.AllRead.{AreAllRead}
 use Rattle.hall_sql.specs.CanFail.{CanFail, HasReason, KeepsNoRound, KeepsNoWorld}
 use Rattle.hall_sql.specs.Cause.{IsStoreCause}
@@ -27,12 +28,13 @@ use Rattle.hall_sql.specs.Rows.{world_of}
 use Rattle.hall_sql.specs.declared.migration.Migrated.TheVariants.{Done, Occupied}
 use Rattle.hall_sql.proofs.AllRead.{bare_read}
 use Rattle.hall_sql.proofs.OpenedLemmas.{memory_serves}
-use Rattle.hall_sql.proofs.UnreadMarks.{still_read}
+use Rattle.hall_sql.proofs.StoreLemmas.{rested_kept}
 use Rattle.hall_sql.proofs.Wordings.{like_itself}
 use Rattle.hall_sql.proofs.WriteCauseLemmas.{cause_over}
 use Rattle.hall_desk.specs.Checked.{IsChecked}
-use Rattle.hall_tool.specs.CheckRun.{CopyFails, CopyText, IsFoundWritten, OldFails, OldText, PresentFails}
-use Rattle.hall_tool.specs.CheckRun.{WorldFails}
+use Rattle.hall_desk.specs.declared.sanity.Checked.{Checked}
+use Rattle.hall_tool.specs.CheckRun.{CopyFails, CopyText, IsCopyUnread, IsFoundWritten, OldFails, OldText}
+use Rattle.hall_tool.specs.CheckRun.{PresentFails, PresentText}
 use Rattle.hall_tool.specs.Shown.{IsShownBy}
 use Rattle.hall_tool.specs.WorldText.{WorldText}
 use Rattle.hall_tool.specs.declared.ending.Ending.{Ending}
@@ -62,6 +64,36 @@ same_world : (old mid : State) → KeptTablesIn old_schema old mid → HasCleanD
 same_world old mid rested clean opens = ap (λ (d : Database). without_testers (world_of d.trees))
     (rested.same clean opens)
 
+-- a world that stayed was checked as it was
+pub world_checked : (budget : Option ℕ) (old new : Content) (checked : Checked) → Kept old new
+    → (new.honest → new.serves × IsChecked new.world budget checked) → new.honest → IsChecked old.world budget checked
+world_checked budget old new checked kept told honest =
+    let now = told honest in
+    subst (λ world. IsChecked world budget checked) (kept.world honest now.0) now.1
+
+-- of the present version, after its rows were found to be records
+pub present_text : (budget : Option ℕ) (old mid new : State) (text : List ℕ) (status : ℕ)
+    → KeptTables old mid → Kept (content_of mid) (content_of new) → (HasCleanDisk mid → IsTrue mid.is_open)
+    → (HasCleanDisk mid → AreAllRead hall_schema old.now.trees) → (HasCleanDisk new → IsTrue new.is_open)
+    → WorldText budget (HasCleanDisk new) (content_of mid).world text status → PresentText budget old new text status
+present_text budget old mid new text status rested kept serves whole opens (checked, told, line, ends) = inr (
+  λ clean. (opens clean, whole (kept.honest clean)),
+  (
+    checked,
+    λ clean. (let was = kept.honest clean in
+        subst (λ world. IsChecked world budget checked) ((rested_kept old mid rested).world was (serves was))
+        (told clean)),
+    line,
+    ends,
+  ),
+)
+
+-- and its world stayed
+pub present_kept : (old mid new : State) → KeptTables old mid → Kept (content_of mid) (content_of new)
+    → Kept (content_of old) (content_of new)
+present_kept old mid new rested kept =
+    kept_then (content_of old) (content_of mid) (content_of new) (rested_kept old mid rested) kept
+
 -- so that the copy's world is theirs
 pub old_text : (budget : Option ℕ) (old mid new : State) (text : List ℕ) (status : ℕ)
     → KeptTablesIn old_schema old mid → KeptTablesIn old_schema mid new → (HasCleanDisk mid → IsTrue mid.is_open)
@@ -85,17 +117,15 @@ old_text budget old mid new text status first second serves whole (checked, told
 pub copy_text : (budget : Option ℕ) (source left : State) (empty filled last : Held MemStore) (count : ℕ)
     (text : List ℕ) (status : ℕ)
     → Migrates source left (state over_memory empty) (state over_memory filled) (Ok (Done count))
-    → Kept (content_of (state over_memory filled)) (content_of (state over_memory last))
-    → WorldText budget (content_of (state over_memory last)) text status → CopyText budget source left text status
-copy_text budget source left empty filled last count text status migrates kept (checked, told, line, ends) =
-    let now = memory_serves last in
-    let before = memory_serves filled in (
-      checked,
-      λ clean. subst (λ world. IsChecked world budget checked)
-          (kept.world now.0 now.1 ∙ (migrates.taken clean before.0).held) (told now.0).1,
-      line,
-      ends,
-    )
+    → WorldText budget (HasCleanDisk (state over_memory last)) (content_of (state over_memory filled)).world text status
+    → CopyText budget source left text status
+copy_text budget source left empty filled last count text status migrates (checked, told, line, ends) = (
+  checked,
+  λ clean. subst (λ world. IsChecked world budget checked) (migrates.taken clean (memory_serves filled).0).held
+      (told (memory_serves last).0),
+  line,
+  ends,
+)
 
 -- ---- why nothing was found
 

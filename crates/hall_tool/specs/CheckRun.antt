@@ -1,9 +1,11 @@
 -- What is written of a database that is checked, how it is found, and how the command ends.
-use Rattle.std.specs.Prelude.{◌≡◌, ◌⊎◌, ℕ, List, Option, Result, Err}
+use Rattle.std.specs.Prelude.{◌≡◌, ◌⊎◌, ℕ, List, Option, Result, Err, IsTrue}
+use Rattle.sqlite_trees.specs.declared.memory.MemStore.{MemStore}
 use Rattle.sqlite_trees.specs.declared.store.Store.{Ghosts}
 use Rattle.sqlite.specs.Held.{Held, state}
 use Rattle.sqlite.specs.State.{State, HasCleanDisk}
 use Rattle.hall_grid.specs.Device.{Tally}
+use Rattle.hall_store.specs.Store.{Kept}
 use Rattle.hall_sql.specs.AllRead.{AreAllRead}
 use Rattle.hall_sql.specs.BadRows.{AreNone, AreToldBad}
 use Rattle.hall_sql.specs.CanFail.{HasReason, KeepsNoRound}
@@ -14,20 +16,18 @@ use Rattle.hall_sql.specs.Made.{all_tables, old_tables}
 use Rattle.hall_sql.specs.Migrate.{old_content_of}
 use Rattle.hall_sql.specs.OpenedRead.{IsCauseToRead, OpensToRead, StartsToRead}
 use Rattle.hall_sql.specs.Content.{content_of}
-use Rattle.hall_sql.specs.Rows.{world_of}
+use Rattle.hall_sql.specs.Standing.{KeptTablesIn}
 use Rattle.hall_sql.specs.Tables.{hall_schema, old_schema}
 use Rattle.hall_sql.specs.declared.bad_rows.BadRows.{BadRows}
 use Rattle.hall_sql.specs.declared.open.OpenFault.{OpenFault}
 use Rattle.hall_sql.specs.declared.open_read.FoundHall.{FoundHall}
 use Rattle.hall_sql.specs.declared.open_read.FoundHall.TheVariants.{Present, Old}
 use Rattle.hall_sql.specs.declared.tables.HallTable.{HallTable}
-use Rattle.hall_desk.specs.Checked.{IsChecked}
-use Rattle.hall_desk.specs.declared.sanity.Checked.{Checked}
 use Rattle.hall_tool.specs.BadText.{bad_text}
 use Rattle.hall_tool.specs.Machine.{Files}
 use Rattle.hall_tool.specs.Shown.{IsShownBy}
 use Rattle.hall_tool.specs.Tasks.{command_end}
-use Rattle.hall_tool.specs.WorldText.{WorldText, checked_status, checked_text}
+use Rattle.hall_tool.specs.WorldText.{WorldText}
 use Rattle.hall_tool.specs.declared.fault.CommandFault.{CommandFault}
 use Rattle.hall_tool.specs.declared.fault.CommandFault.TheVariants.{Database}
 use Rattle.hall_tool.specs.declared.fault.ToolFault.{ToolFault}
@@ -39,18 +39,17 @@ IsBadTold tables old new text status =
     (bad : List BadRows) × (¬ AreNone bad) × (HasCleanDisk new → AreToldBad tables old new bad)
     × (text ≡ bad_text bad) × (status ≡ 1)
 
--- what is written of tables of the present version: some rows are no record; or each is one, and their world was
--- checked
+-- what is written of tables of the present version: some rows are no record; or each is one, and their world, as it
+-- was found, was checked
 abbrev pub PresentText : Option ℕ → State → State → List ℕ → ℕ → Type 0
 PresentText budget old new text status =
     IsBadTold all_tables old new text status
-    ⊎ ((HasCleanDisk new → AreAllRead hall_schema old.now.trees) × WorldText budget (content_of new) text status)
+    ⊎ ((HasCleanDisk new → IsTrue new.is_open × AreAllRead hall_schema old.now.trees)
+    × WorldText budget (HasCleanDisk new) (content_of old).world text status)
 
--- what is written of the world of tables of the version before, which was checked in a copy, and the exit status
+-- what is written of the world of tables of the version before, as they were found, which was checked in a copy
 abbrev pub CopyText : Option ℕ → State → State → List ℕ → ℕ → Type 0
-CopyText budget old new text status =
-    (checked : Checked) × (HasCleanDisk new → IsChecked (old_content_of old).world budget checked)
-    × (text ≡ checked_text budget checked) × (status ≡ checked_status checked)
+CopyText budget old new = WorldText budget (HasCleanDisk new) (old_content_of old).world
 
 -- so of tables of the version before
 abbrev pub OldText : Option ℕ → State → State → List ℕ → ℕ → Type 0
@@ -62,6 +61,11 @@ OldText budget old new text status =
 abbrev pub FoundText : {S : Type 0} → Ghosts S → Option ℕ → FoundHall S → Held S → List ℕ → ℕ → Type 0
 FoundText g budget (Present held) last = PresentText budget (state g held) (state g last)
 FoundText g budget (Old held) last = OldText budget (state g held) (state g last)
+
+-- how a hall that was found is left: of the present version with its world, of the version before with its tables
+abbrev pub FoundStays : {S : Type 0} → Ghosts S → FoundHall S → Held S → Type 0
+FoundStays g (Present held) last = Kept (content_of (state g held)) (content_of (state g last))
+FoundStays g (Old held) last = KeptTablesIn old_schema (state g held) (state g last)
 
 -- ---- why nothing was found, where it wasn't out of memory
 
@@ -105,13 +109,14 @@ IsFoundWritten Text Why contents old new ended =
     ⊎ ((new ≡ old) × ((ended ≡ Err Memory) ⊎ ((ended ≡ Err Store) × Why)))
 
 -- the files handed out the database at the path, a hall's, what was found of it was written, and they were given it
--- back; or they refused it, or it was refused, for this cause, and nothing was written
+-- back as it was left; or they refused it, or it was refused, for this cause, and nothing was written
 abbrev pub IsCheckAt : {G S W : Type 0} → Files G S → (W → Option (List ℕ)) → List ℕ → Option ℕ → G → G → Tally W
     → Tally W → Result ℕ CommandFault → Type 0
 IsCheckAt {G} {S} files contents db budget old new writer written result =
     ((found : FoundHall S) × (between : G) × (last : Held S) × (ended : Result ℕ ToolFault)
     × OpensToRead files.store files.paths.image_at files.paths.tells files.paths.opens old db found between
-    × StartsToRead files.store (files.paths.image_at db) found × files.paths.closes between last new
+    × StartsToRead files.store (files.paths.image_at db) found × FoundStays files.store found last
+    × files.paths.closes between last new
     × IsFoundWritten (FoundText files.store budget found last) (FoundFails files.store found last) contents writer
     written ended
     × (result ≡ command_end ended))

@@ -1,6 +1,6 @@
 -- What is done with a hall, on a machine, over stores with some content, readers and writers: where it leads, and how
 -- it ends.
-use Rattle.std.specs.Prelude.{◌≡◌, ◌⊎◌, ℕ, List, Option, Some, None, Result, Ok, Err}
+use Rattle.std.specs.Prelude.{◌≡◌, ◌⊎◌, ℕ, List, [], Option, Some, None, Result, Ok, Err}
 use Rattle.hall_grid.specs.Device.{Tally}
 use Rattle.hall_store.specs.Store.{Content, Kept}
 use Rattle.hall_desk.specs.Census.{census_of}
@@ -73,9 +73,10 @@ IsCensusTaken old new None = Kept old new
 
 -- The machine was asked once to listen, on the port, for so many connections. It listened there, was told that the hall
 -- in the file at the path is served, and how many people and rounds it knows or nothing of that, and showed a clock;
--- and then the connections were served over the store, each at turns of its place, and the machine was told of all that
--- came. Or memory was refused then, and nothing more was done. Or the machine refused, and the store is as it was.
--- Neither reader nor writer is asked.
+-- and then the connections were served over the store, each at turns of its place, and the machine was handed back the
+-- sockets and told of all that came. Or memory was refused then, and the machine was handed back the sockets as it had
+-- handed them out, and told that none came. Or the machine refused, and the store is as it was. Neither reader nor
+-- writer is asked.
 abbrev pub DoesServe : {N L C P S R W : Type 0} → Hosts N L C P → (S → Content) → Service → OnHost N S R W
     → OnHost N S R W → Result ℕ CommandFault → Type 0
 DoesServe {N} {L} {C} {P} {S} h content offered before after result =
@@ -90,7 +91,7 @@ DoesServe {N} {L} {C} {P} {S} h content offered before after result =
     (HaveGoneSince h.peer.traffic gone) (stays_open e) (h.sockets.said sockets) (h.sockets.said left) all.turns)
     × EndsServing h.sockets.is_over h.sockets.said h.peer.traffic e sockets left gone
     × h.host.ends told left gone after.host × (result ≡ serve_end e))
-    ⊎ ((after.host ≡ told) × (after.stand.kept ≡ later) × (result ≡ Err (Tool Memory)))))
+    ⊎ (h.host.ends told sockets [] after.host × (after.stand.kept ≡ later) × (result ≡ Err (Tool Memory)))))
     ⊎ (h.host.refuses before.host offered.port after.host × (after.stand.kept ≡ before.stand.kept)
     × (result ≡ Err Port)))
     × (after.stand.reader ≡ before.stand.reader) × (after.stand.writer ≡ before.stand.writer)

@@ -2,8 +2,8 @@
 use Rattle.std.specs.Prelude.{◌≡◌, ◌-◌, ◌++◌, ℕ, zero, suc, Bool, true, false, ◌||◌, not, List, [], ◌∷◌, length, take}
 use Rattle.std.specs.Prelude.{Option, Some, None, codes, decimal, if◌then◌else◌}
 use Rattle.std.specs.List.{flat_map, list_any}
+use Rattle.hall_policy.specs.World.{World}
 use Rattle.hall_policy.specs.declared.record.PuzzleKey.{PuzzleKey}
-use Rattle.hall_store.specs.Store.{Content}
 use Rattle.hall_desk.specs.Checked.{IsChecked}
 use Rattle.hall_desk.specs.declared.sanity.Checked.{Checked}
 use Rattle.hall_desk.specs.declared.sentence.Breaches.{Breaches}
@@ -150,8 +150,8 @@ checked_text budget checked =
 abbrev pub checked_status : Checked → ℕ
 checked_status checked = if is_broken checked then 1 else 0
 
--- what is written of the world that is kept, and the exit status: that of a check of it
-abbrev pub WorldText : Option ℕ → Content → List ℕ → ℕ → Type 0
-WorldText budget content text status =
-    (checked : Checked) × (content.honest → content.serves × IsChecked content.world budget checked)
+-- what is written of a world, and the exit status: that of a check of it, where a device was honest
+abbrev pub WorldText : Option ℕ → Type 0 → World → List ℕ → ℕ → Type 0
+WorldText budget Honest world text status =
+    (checked : Checked) × (Honest → IsChecked world budget checked)
     × (text ≡ checked_text budget checked) × (status ≡ checked_status checked)

@@ -2,6 +2,7 @@
 ghost use Rattle.std.specs.Prelude.{◌≡◌, Err, IfOk, IfErr, IsErrOf, string_bytes};
 ghost use Rattle.sqlite.specs.Held.{state};
 ghost use Rattle.hall_store.specs.Store.{Kept};
+ghost use Rattle.hall_sql.specs.Content.{content_of};
 ghost use Rattle.hall_sql.specs.Standing.{KeptTablesIn};
 ghost use Rattle.hall_sql.specs.Tables.{old_schema};
 ghost use Rattle.hall_tool.specs.CheckRun.{CopyFails, CopyText, IsCheckAt, OldFails, OldText, PresentFails};
@@ -28,15 +29,16 @@ use sqlite::Alter;
 use std::alloc::Global;
 use std::io::Write;
 
-/// What is written of the world that the store keeps.
+/// What is written of the world that the store keeps, which stays.
 fn world_ending<S: WholeStore>(
     alloc: Global,
     store: &mut S,
     budget: Option<u64>,
 ) -> Result<Ending, ToolFault>
     ensures kept { Kept (S.content store.old) (S.content store.new) }
-    ensures text { IfOk result
-        (λ ending. WorldText budget (S.content store.new) (string_bytes ending.line) ending.status) }
+    ensures text { IfOk result (λ ending. ((S.content store.new).honest → (S.content store.new).serves)
+        × WorldText budget (S.content store.new).honest (S.content store.old).world (string_bytes ending.line)
+        ending.status) }
     ensures fault { IsErrOf result ToolFault.Store → (S.content store.new).can_fail }
     ensures cause { IfErr result IsOfMemoryOrStore }
 {
@@ -52,6 +54,7 @@ fn present_ending<S: Alter + Drop>(
     store: &mut SqlStore<S>,
     budget: Option<u64>,
 ) -> Result<Ending, ToolFault>
+    ensures kept { Kept (content_of (state S.Store store.old)) (content_of (state S.Store store.new)) }
     ensures text { IfOk result (λ ending. PresentText budget (state S.Store store.old) (state S.Store store.new)
         (string_bytes ending.line) ending.status) }
     ensures fault { IsErrOf result ToolFault.Store → PresentFails (state S.Store store.old) (state S.Store store.new) }
@@ -101,6 +104,7 @@ fn old_ending<S: Alter + Drop>(
     store: &mut OldStore<S>,
     budget: Option<u64>,
 ) -> Result<Ending, ToolFault>
+    ensures rested { KeptTablesIn old_schema (state S.Store store.old) (state S.Store store.new) }
     ensures text { IfOk result (λ ending. OldText budget (state S.Store store.old) (state S.Store store.new)
         (string_bytes ending.line) ending.status) }
     ensures fault { IsErrOf result ToolFault.Store → OldFails (state S.Store store.old) (state S.Store store.new) }

@@ -8,7 +8,7 @@ use crate::replay::replay_run;
 use crate::table::table_run;
 use hall_desk::Desk;
 use hall_grid::Counted;
-use hall_http::{Host, ServeAllEnd, serve_all};
+use hall_http::{Host, ServeAllEnd, none_came, serve_all};
 use hall_store::Store;
 use std::alloc::Global;
 use std::io::{Read, Write};
@@ -161,6 +161,7 @@ impl<H: Host> Task<H> for Serve<'_> {
         host.tell(self.port, self.path, desk.census(alloc).ok());
         let mut clock = host.clock();
         let Ok((end, gone)) = serve_all(alloc, desk, &mut sockets, &mut clock) else {
+            host.end(sockets, none_came());
             return Err(CommandFault::Tool(ToolFault::Memory));
         };
         host.end(sockets, gone);

@@ -11,6 +11,7 @@ returns-in-Ok-Present g c = inl (
   c.write_found.result,
   rw c.in-Ok-Present.field-0-is at c.in-Ok-Present.ensures.opened,
   rw c.in-Ok-Present.field-0-is at c.in-Ok-Present.ensures.starts,
+  c.present_ending-found.ensures.kept,
   rw c.into_connection.ensures.same at c.give_back.ensures,
   found_written _ g.W.Write.contents _ _ _ c.present_ending-found.result c.write_found.result
       c.present_ending-found.ensures.text
@@ -27,6 +28,7 @@ returns-in-Ok-Old g c = inl (
   c.write_found-in-Ok-Old.result,
   rw c.in-Ok-Old.field-0-is at c.in-Ok-Old.ensures.opened,
   rw c.in-Ok-Old.field-0-is at c.in-Ok-Old.ensures.starts,
+  c.old_ending-found.ensures.rested,
   rw c.into_connection-in-Ok-Old.ensures.same at c.give_back-in-Ok-Old.ensures,
   found_written _ g.W.Write.contents _ _ _ c.old_ending-found.result c.write_found-in-Ok-Old.result
       c.old_ending-found.ensures.text

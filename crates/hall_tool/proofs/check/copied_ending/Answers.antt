@@ -10,8 +10,8 @@ returns-in-Ok-Done-clause-text g c =
     let old = state g.S.Store c.args.store.now in
     let new = state g.S.Store c.migrate.new.old in
     IfOk-weaker c.world_ending.result _ _ (λ ending told. copy_text c.args.budget old new c.in-Ok.copy c.migrate.new.new
-    c.world_ending.new.store c.in-Ok-Done.field-0-0 (string_bytes ending.line) ending.status done
-    c.world_ending.ensures.kept told) c.world_ending.ensures.text
+    c.world_ending.new.store c.in-Ok-Done.field-0-0 (string_bytes ending.line) ending.status done told.1)
+    c.world_ending.ensures.text
 
 pub returns-in-Err-clause-fault : goal.returns-in-Err-clause-fault
 returns-in-Err-clause-fault g c is = absurd (c.in-Err.ensures.cause

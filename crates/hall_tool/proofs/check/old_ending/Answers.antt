@@ -2,8 +2,16 @@ use Rattle.std.proofs.Common.{inl, refl}
 use Rattle.std.specs.Prelude.{string_bytes}
 use Rattle.std.proofs.lemmas.Result.{IfOk-weaker}
 use Rattle.sqlite.specs.Held.{state}
+use Rattle.hall_sql.proofs.StoreLemmas.{rests_on}
 use Rattle.hall_tool.proofs.Checking.{old_fails, old_text, store_failed}
 use Rattle.hall_tool.proofs.check.old_ending.Goals as goal
+
+pub returns-then-is_whole-clause-rested : goal.returns-then-is_whole-clause-rested
+returns-then-is_whole-clause-rested g c =
+    let old = state g.S.Store c.args.store.now in
+    let mid = state g.S.Store c.bad_rows.new.self in
+    let new = state g.S.Store c.copied_ending.new.store in
+    rests_on old mid new c.in-Ok.ensures.rested c.copied_ending.ensures.rested
 
 pub returns-then-is_whole-clause-text : goal.returns-then-is_whole-clause-text
 returns-then-is_whole-clause-text g c =
