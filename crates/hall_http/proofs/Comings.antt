@@ -5,6 +5,8 @@ use Rattle.std.specs.Prelude.{All}
 use Rattle.std.proofs.lemmas.List.{append-nil, drop-append-le, drop_all, drop_at}
 use Rattle.std.proofs.lemmas.List.Elements.{All-nil, All-push}
 use Rattle.hall_http.specs.Coming.{Nexts, Said, IsFreshPeer, IsNextStep, newcomer, since, AreCounted, EndsBy, AreDone}
+use Rattle.hall_http.specs.Coming.{AreAllHeard, turn, turns_in}
+use Rattle.hall_http.specs.declared.client.Step.{Step}
 use Rattle.hall_http.specs.Peer.{Traffic}
 use Rattle.hall_http.specs.declared.server.Next.{Next}
 use Rattle.hall_http.specs.declared.server.Next.TheVariants as next
@@ -16,6 +18,29 @@ same_count many = omega arith
 
 pub since_none : {P : Type 0} (before : Said P) → since before before ≡ []
 since_none before = drop_all (length before.nexts) before.nexts (omega arith)
+
+turns_more : {P : Type 0} (xs : Nexts P) (x : Next P) → turns_in (xs ++ x ∷ []) ≡ turns_in xs + turn x
+turns_more [] x = omega arith
+turns_more (y ∷ xs) x = omega (arith, turns_more xs x)
+
+-- all turns were heard of, and no other was given
+pub heard_still : {P : Type 0} (before after : Said P) (x : Next P) → AreAllHeard before
+    → after.nexts ≡ before.nexts ++ x ∷ [] → after.heard ≡ before.heard → turn x ≡ 0 → AreAllHeard after
+heard_still before after x all nexts heard none =
+    omega (arith, all, ap length heard, ap turns_in nexts, turns_more before.nexts x, none)
+
+-- all turns were heard of, and so was one more
+pub heard_one : {P : Type 0} (before after : Said P) (place : ℕ) (told : ℕ × Step) → AreAllHeard before
+    → after.nexts ≡ before.nexts ++ next.Turn place ∷ [] → after.heard ≡ before.heard ++ told ∷ [] → AreAllHeard after
+heard_one before after place told all nexts heard =
+    omega (
+      arith,
+      all,
+      ap length heard,
+      length-append before.heard (told ∷ []),
+      ap turns_in nexts,
+      turns_more before.nexts (next.Turn place),
+    )
 
 module _ {P : Type 0} (traffic : P → Traffic) where
   counted_more : (few : ℕ) (xs : Nexts P) (many : ℕ) (x : Next P) → AreCounted traffic few xs many

@@ -5,7 +5,7 @@ use Rattle.std.specs.Prelude.{Bool}
 use Rattle.std.proofs.lemmas.Bool.{eqb-false}
 use Rattle.std.proofs.lemmas.List.{append-nil, length-append}
 use Rattle.hall_http.specs.Outgoing.{outgoing_text}
-use Rattle.hall_http.specs.Peer.{Traffic, IsLater, IsUntouched, over_after, then_hung_up}
+use Rattle.hall_http.specs.Peer.{Traffic, IsLater, IsUntouched, over_after, reads_after, then_hung_up}
 use Rattle.hall_http.specs.Turns.{Service, IsClient, IsClientKept, IsOverRightly, IsTurned}
 use Rattle.hall_http.specs.Connection.{Exchange, AreMoments}
 use Rattle.hall_http.specs.Resting.{HasRested, RestingSession}
@@ -37,6 +37,28 @@ over_some over count some =
 -- one that gave none does
 pub over_none : (over : Bool) (count : ℕ) → count ≡ 0 → over_after over (moved.Some count) ≡ true
 over_none over count none = ap (λ n. over_after over (moved.Some n)) none
+
+-- a read that gave bytes is one more that did
+pub reads_some : (reads count : ℕ) → 0 < count → reads_after reads (moved.Some count) ≡ reads + 1
+reads_some reads count some =
+    let other : (count == 0) ≡ false = grind (arith, some) in
+    ap (λ (b : Bool). if b then reads else reads + 1) other
+
+-- one that gave none isn't
+pub reads_none : (reads count : ℕ) → count ≡ 0 → reads_after reads (moved.Some count) ≡ reads
+reads_none reads count none = ap (λ n. reads_after reads (moved.Some n)) none
+
+reads_by : (reads count : ℕ) (b : Bool) → (count == 0) ≡ b
+    → (more : ℕ) × (reads_after reads (moved.Some count) ≡ reads + more) × (more ≤ count)
+reads_by reads count true is =
+    (0, ap (λ (b : Bool). if b then reads else reads + 1) is ∙ omega arith, omega arith)
+reads_by reads count false is =
+    (1, ap (λ (b : Bool). if b then reads else reads + 1) is, omega (arith, eqb-false _ _ is))
+
+-- whether it gave any or not, there are no more of these than bytes
+pub reads_more : (reads count : ℕ)
+    → (more : ℕ) × (reads_after reads (moved.Some count) ≡ reads + more) × (more ≤ count)
+reads_more reads count = reads_by reads count (count == 0) refl
 
 -- what was told stays told
 pub over_by : (none over : Bool) → over ≡ true → (if none then true else over) ≡ true

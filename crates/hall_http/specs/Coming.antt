@@ -24,6 +24,20 @@ pub record Said (P : Type 0) : Type 0 where
   pub most : ℕ
   pub heard : List (ℕ × Step)
 
+-- 1 for a turn, and 0 for anything else
+abbrev pub turn : {P : Type 0} → Next P → ℕ
+turn (next.Turn place) = 1
+turn _ = 0
+
+-- how many of these are turns
+abbrev pub turns_in : {P : Type 0} → Nexts P → ℕ
+turns_in [] = 0
+turns_in (one ∷ rest) = turn one + turns_in rest
+
+-- of each turn that they gave they heard how its connection stands
+abbrev pub AreAllHeard : {P : Type 0} → Said P → Type 0
+AreAllHeard said = length said.heard ≡ turns_in said.nexts
+
 -- this was heard, and nothing was said meanwhile
 abbrev pub Hears : {P : Type 0} → ℕ × Step → Said P → Said P → Type 0
 Hears one old new =

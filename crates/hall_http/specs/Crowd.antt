@@ -327,8 +327,8 @@ abbrev pub IsNoTurn : {P : Type 0} → Next P → Type 0
 IsNoTurn (next.Turn place) = ⊥
 IsNoTurn _ = Unit {0}
 
--- While these things were done, and these requests answered, this was heard of the turns: after each of them, before
--- anything else was done, how whoever is at its place stands then.
+-- While these things were done, and these requests answered, this was heard of the turns: of each of them, in their
+-- order, how whoever is at its place stands then.
 pub data AreHeard {P : Type 0} (may_wait : List Turn → List ℕ → Type 0) (traffic : P → Traffic) (few : ℕ)
     (became : Clients P → Type 0) : Nexts P → List Turn → List (ℕ × Step) → Type 0 where
   heard_first : AreHeard may_wait traffic few became [] [] []

@@ -1,6 +1,7 @@
 //! The machine that a hall is served on.
 ghost use Rattle.std.specs.Prelude.{◌≡◌, ℕ, List, Option, IfOk, OnErr};
 ghost use Rattle.hall_desk.specs.declared.census.Census.{Census};
+ghost use Rattle.hall_http.specs.Coming.{AreAllHeard};
 ghost use Rattle.hall_http.specs.Crowd.{Past};
 ghost use Rattle.hall_http.specs.Clock.{read_by};
 ghost use Rattle.hall_http.specs.Host.{TellsNothing, ListensOn, ended, told_on, uncalled};
@@ -41,8 +42,10 @@ pub trait Host {
     /// It was told of the connections that came to these sockets.
     ghost ends: { Self → Self.Sockets → List (Past Self.Sockets.Peer) → Self → Type 0 };
 
-    /// Listens on the port for so many connections, of clients of this machine alone.
+    /// Listens on the port for so many connections, of clients of this machine alone. The sockets have heard of each
+    /// turn that they gave.
     fn listen(&mut self, port: u64, connections: u64) -> io::Result<Self::Sockets>
+        ensures heard { IfOk result (λ sockets. AreAllHeard (Self.Sockets.said sockets)) }
         ensures listening { IfOk result (λ sockets. listens self.old port connections sockets self.new) }
         ensures refused { OnErr result (refuses self.old port self.new) };
 

@@ -12,7 +12,7 @@ ghost use Rattle.hall_http.specs.Crowd.{AreServed, AreSomeKept, EndsServing, Hav
 ghost use Rattle.hall_http.specs.Crowd.{MayWaitAfter, Receives, Serves, WaitsForSearchAfter};
 ghost use Rattle.hall_http.specs.Peer.{IsUntouched};
 ghost use Rattle.hall_http.specs.declared.clients.Departure.TheVariants as Departure;
-ghost use Rattle.hall_http.specs.Coming.{AreDone, Hears, IsFreshPeer, Said, newcomer, since, stays_open};
+ghost use Rattle.hall_http.specs.Coming.{AreAllHeard, AreDone, Hears, IsFreshPeer, Said, newcomer, since, stays_open};
 ghost use Rattle.hall_http.specs.Steps.{StandsRightly};
 ghost use Rattle.hall_http.specs.Turns.{goes_on, service_of};
 ghost use Rattle.hall_http.specs.declared.client.Client.{Client};
@@ -54,8 +54,10 @@ pub trait Sockets {
     /// it was asked for; and all that it heard of turns, in order.
     ghost said: { Self → Said Self.Peer };
 
-    /// Waits until something is to be done. A newcomer's number is how many there were before it.
+    /// Waits until something is to be done. A newcomer's number is how many there were before it. Of each turn before
+    /// it has heard by then.
     fn next(&mut self) -> Next<Self::Peer>
+        requires { AreAllHeard (said self.old) }
         ensures fresh { IsFreshPeer Self.Peer.traffic (said self.old).count result }
         ensures count { (said self.new).count ≡ (said self.old).count + newcomer result }
         ensures nexts { (said self.new).nexts ≡ (said self.old).nexts ++ result ∷ [] }
@@ -91,6 +93,7 @@ pub fn serve_all<S: Store, N: Sockets, C: Clock>(
     sockets: &mut N,
     clock: &mut C,
 ) -> Result<(ServeAllEnd, Gone<N::Peer>), AllocError>
+    requires { AreAllHeard (N.said sockets.old) }
     ensures served { IfOk result (λ served. (all : AreServed S.content C.now_gives N.Peer.traffic served.0
         (kept_by desk.old, clock.old) (kept_by desk.new, clock.new) served.1.items)
         × AreAtTurns N.Peer.traffic served.1.items (since (N.said sockets.old) (N.said sockets.new)) all.turns
@@ -118,6 +121,7 @@ fn serve_clients<S: Store, N: Sockets, C: Clock>(
     sockets: &mut N,
     clock: &mut C,
 ) -> ServeAllEnd
+    requires heard { AreAllHeard (N.said sockets.old) }
     requires none { AreKept N.Peer.traffic (N.said sockets.old).count (N.said sockets.old).count [] clients.old }
     requires long { length clients.old.places.items ≡ most_connections }
     ensures served { (all : AreServed S.content C.now_gives N.Peer.traffic result
@@ -144,6 +148,7 @@ fn handle_all<H: Responder, S: Sockets, C: Clock>(
     responder: &mut H,
     clock: &mut C,
 ) -> ServeAllEnd
+    requires heard { AreAllHeard (S.said sockets.old) }
     requires none { AreKept S.Peer.traffic (S.said sockets.old).count (S.said sockets.old).count [] clients.old }
     requires long { length clients.old.places.items ≡ most_connections }
     ensures done { AreDone S.Peer.traffic result (S.said sockets.old) (S.said sockets.new) }

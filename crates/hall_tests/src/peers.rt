@@ -228,7 +228,10 @@ impl<'a> Listed<'a> {
         coming: Vec<Coming<'a>>,
         turns: u64,
         is_stubborn: bool,
-    ) -> Listed<'a> {
+    ) -> Listed<'a>
+        ensures nexts { result.nexts.items ≡ [] }
+        ensures heard { result.heard.items ≡ [] }
+    {
         Listed {
             coming,
             count: 0,

@@ -2,6 +2,7 @@
 ghost use Rattle.std.specs.Prelude.{◌≡◌, [], ◌∷◌, ◌++◌, map};
 ghost use Rattle.hall_http.specs.Coming.{logged};
 ghost use Rattle.hall_http.specs.EventLoop.{said_by};
+ghost use Rattle.hall_tests.specs.Brief.{AgreeInTurns};
 
 use crate::opening::opening_desk;
 use hall_desk::Desk;
@@ -22,20 +23,7 @@ struct Brief<'r> {
     has_gone: bool,
     nexts: Log<Next<Socket>, bool>,
     heard: Log<(usize, Step), bool>,
-}
-
-impl<'r> Brief<'r> {
-    /// Notes what is to be done next.
-    fn noted(&mut self, next: Next<Socket>) -> Next<Socket>
-        ensures same { result ≡ next }
-        ensures noted { logged self.new.nexts ≡ logged self.old.nexts ++ next ∷ [] }
-        ensures heard { self.new.heard ≡ self.old.heard }
-        ensures inner { self.new.inner ≡ self.old.inner }
-    {
-        self.has_gone = self.has_gone || matches!(&next, Next::Gone(_));
-        self.nexts = self.nexts.and(&next, &self.has_gone);
-        next
-    }
+    ghost same: { AgreeInTurns (logged nexts) (map (λ one. one.0) heard.items) (said_by inner) },
 }
 
 impl<'r> Sockets for Brief<'r> {
@@ -51,11 +39,14 @@ impl<'r> Sockets for Brief<'r> {
     } };
 
     fn next(&mut self) -> Next<Socket> {
-        if self.has_gone {
-            return self.noted(Next::Refused);
-        }
-        let next = self.inner.next();
-        self.noted(next)
+        let next = if self.has_gone {
+            Next::Refused
+        } else {
+            self.inner.next()
+        };
+        self.has_gone = self.has_gone || matches!(&next, Next::Gone(_));
+        self.nexts = self.nexts.and(&next, &self.has_gone);
+        next
     }
 
     fn stands(&mut self, place: usize, step: Step) {

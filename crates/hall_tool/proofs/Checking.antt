@@ -29,12 +29,13 @@ use Rattle.hall_sql.specs.declared.migration.Migrated.TheVariants.{Done, Occupie
 use Rattle.hall_sql.proofs.AllRead.{bare_read}
 use Rattle.hall_sql.proofs.OpenedLemmas.{memory_serves}
 use Rattle.hall_sql.proofs.StoreLemmas.{rested_kept}
+use Rattle.hall_sql.proofs.UnreadMarks.{still_read}
 use Rattle.hall_sql.proofs.Wordings.{like_itself}
 use Rattle.hall_sql.proofs.WriteCauseLemmas.{cause_over}
 use Rattle.hall_desk.specs.Checked.{IsChecked}
 use Rattle.hall_desk.specs.declared.sanity.Checked.{Checked}
-use Rattle.hall_tool.specs.CheckRun.{CopyFails, CopyText, IsCopyUnread, IsFoundWritten, OldFails, OldText}
-use Rattle.hall_tool.specs.CheckRun.{PresentFails, PresentText}
+use Rattle.hall_tool.specs.CheckRun.{CopyFails, CopyText, IsFoundWritten, OldFails, OldText, PresentFails}
+use Rattle.hall_tool.specs.CheckRun.{PresentText, WorldFails}
 use Rattle.hall_tool.specs.Shown.{IsShownBy}
 use Rattle.hall_tool.specs.WorldText.{WorldText}
 use Rattle.hall_tool.specs.declared.ending.Ending.{Ending}

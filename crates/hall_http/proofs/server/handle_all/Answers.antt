@@ -6,7 +6,7 @@ use Rattle.hall_http.specs.declared.clients.Departure.TheVariants as departure
 use Rattle.hall_http.specs.declared.server.Next.TheVariants as next
 use Rattle.hall_http.specs.declared.server.ServeAllEnd.TheVariants as end
 use Rattle.hall_http.proofs.Comings.{counted_since, counted_turn, done_start, done_step, done_turn, done_last, done_all}
-use Rattle.hall_http.proofs.Comings.{same_count, since_more}
+use Rattle.hall_http.proofs.Comings.{heard_one, heard_still, same_count, since_more}
 use Rattle.hall_http.proofs.Heard.{handled_admits, handled_keeps, handled_start, handled_turn, hears_last, hears_turn}
 use Rattle.hall_http.proofs.Became.{loses_passes, passes_none, receives_passes}
 use Rattle.hall_http.proofs.SoFar.{keeps_all, still_same}
@@ -19,9 +19,13 @@ loop-step-init g c = record {
   so_far = handled_start _ g.S.Peer.Peer.traffic (λ h. g.H.Responder.may_wait h.0) _
       (g.S.Sockets.said c.args.sockets.now) _ c.requires.none;
   said = said_none g.S.Peer.Peer.traffic _ _ _ _ c.requires.none;
+  heard = c.requires.heard;
   long = c.requires.long;
   done = done_start g.S.Peer.Peer.traffic _;
 }
+
+pub next-requires : goal.next-requires
+next-requires g c = c.loop-step.invariant.heard
 
 pub visit-step-requires : goal.visit-step-requires
 visit-step-requires g c = (_, _, c.loop-step.invariant.so_far.turns, c.loop-step.invariant.so_far.holds.0)
@@ -52,6 +56,8 @@ loop-step-preserved g c =
             said = said_comes g.S.Peer.Peer.traffic old now c.loop-step.clients then one more said clients
                 c.loop-step.invariant.long place w.in-Newcomer.peer (so_far.holds.0.numbered.left place) refl
                 w.let_in.ensures.admits.0 w.let_in.ensures.receives;
+            heard = heard_still now then one c.loop-step.invariant.heard w.in-Newcomer.ensures.nexts
+                w.in-Newcomer.ensures.heard refl;
             long = w.let_in.ensures.long ∙ c.loop-step.invariant.long;
             done = done_step g.S.Peer.Peer.traffic old now _ done one then w.in-Newcomer.ensures.fresh
                 w.in-Newcomer.ensures.count w.in-Newcomer.ensures.nexts w.in-Newcomer.ensures.most tt;
@@ -88,6 +94,7 @@ loop-step-preserved g c =
                 w.visit-step.ensures.lost));
             said = said_turn g.S.Peer.Peer.traffic old now c.loop-step.clients later one more said clients place refl
                 w.visit-step.ensures.serves.0 w.visit-step.ensures.lost;
+            heard = heard_one now later place (place, how) c.loop-step.invariant.heard nexts heard;
             long = w.visit-step.ensures.long ∙ c.loop-step.invariant.long;
             done = done_step g.S.Peer.Peer.traffic old now _ done one later tt count nexts most tt;
           })
@@ -104,6 +111,8 @@ loop-step-preserved g c =
                 w.forget.ensures.kept;
             said = said_gone g.S.Peer.Peer.traffic old now c.loop-step.clients then one more said clients place refl
                 w.forget.ensures.kept.0 w.forget.ensures.none w.forget.ensures.lost;
+            heard = heard_still now then one c.loop-step.invariant.heard w.in-Gone.ensures.nexts
+                w.in-Gone.ensures.heard refl;
             long = w.forget.ensures.long ∙ c.loop-step.invariant.long;
             done = done_step g.S.Peer.Peer.traffic old now _ done one then tt w.in-Gone.ensures.count
                 w.in-Gone.ensures.nexts w.in-Gone.ensures.most tt;

@@ -1,5 +1,5 @@
 use Rattle.std.proofs.Common.{◌≡◌, length, true}
-use Rattle.hall_http.specs.Coming.{since}
+use Rattle.hall_http.specs.Coming.{AreAllHeard, since}
 use Rattle.hall_http.specs.Crowd.{AreAsSaid, AreHandled, AreKeptAtTurns, MayWaitAfter}
 use Rattle.hall_http.specs.Turns.{service_of}
 use Rattle.hall_http.proofs.Comings.{DoneSoFar}
@@ -14,6 +14,7 @@ invariant-loop-step g l = record {
       (g.S.Sockets.said l.fn.sockets) (g.S.Sockets.said l.sockets) turns l.clients)
       ((l.fn.responder, true), l.fn.clock) ((l.responder, true), l.clock);
   said : AreAsSaid g.S.Peer.Peer.traffic (since (g.S.Sockets.said l.fn.sockets) (g.S.Sockets.said l.sockets)) l.clients;
+  heard : AreAllHeard (g.S.Sockets.said l.sockets);
   long : length l.clients.places.items ≡ 500;
   done : DoneSoFar g.S.Peer.Peer.traffic (g.S.Sockets.said l.fn.sockets) (g.S.Sockets.said l.sockets) l._step;
 }

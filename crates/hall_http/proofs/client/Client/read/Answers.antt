@@ -1,8 +1,9 @@
 use Rattle.std.proofs.Common.{arith, ap, refl, ◌≡◌, ◌∙◌, take, length, ℕ, true}
 use Rattle.std.specs.Prelude.{Bool}
 use Rattle.std.proofs.lemmas.List.{length-take-le}
-use Rattle.hall_http.specs.Peer.{moved, over_after}
+use Rattle.hall_http.specs.Peer.{moved, over_after, reads_after}
 use Rattle.hall_http.proofs.Peers.{client_heard, client_ended, later_read, over_by, over_none, over_some}
+use Rattle.hall_http.proofs.Peers.{reads_none, reads_some}
 use Rattle.hall_http.proofs.client.Client.read.Goals as goal
 use Rattle.hall_http.proofs.client.Client.read.Goals.{in_default-via-in-Some+else-count-gt0, in_default-via-in_default}
 

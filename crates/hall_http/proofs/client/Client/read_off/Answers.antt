@@ -1,21 +1,28 @@
-use Rattle.std.proofs.Common.{◌∙◌, inr, refl, sym}
-use Rattle.hall_http.proofs.Peers.{client_left, later_read, over_by}
+use Rattle.std.proofs.Common.{◌≡◌, ◌∙◌, arith, inr, length, refl, sym, take}
+use Rattle.std.proofs.lemmas.List.{length-take-le}
+use Rattle.hall_http.proofs.Peers.{client_left, later_read, over_by, reads_more}
 use Rattle.hall_http.proofs.client.Client.read_off.Goals as goal
 
 pub returns-in-Some : goal.returns-in-Some
-returns-in-Some g c = (
-  refl,
-  record {
-    later = later_read _ _ _ c.in-Some.ensures.number c.in-Some.ensures.came c.in-Some.ensures.went
-        (λ told. c.in-Some.ensures.over ∙ over_by _ _ told) c.in-Some.ensures.broke c.in-Some.ensures.hung_up;
-    kept = λ xs is.
-        client_left g.P.Peer.traffic _ _ _ _ xs is c.args.self.now.connection _ c.requires.at.0 _ _ c.requires.at.1
-        c.requires.unended c.in-Some.ensures.came c.in-Some.ensures.went
-        (λ over. let clash = sym c.requires.unended ∙ over in absurd cc) c.in-Some.ensures.hung_up;
-  },
-  tt,
-  c.requires.at,
-)
+returns-in-Some g c =
+    let bytes = take c.in-Some.field-0 c.receive.new.chunk in
+    let whole : length bytes ≡ c.in-Some.field-0 =
+    length-take-le c.in-Some.field-0 c.receive.new.chunk
+    (omega (arith, c.receive.array_long, c.in-Some.ensures.bound)) in
+    let (some, rise, few) = reads_more (g.P.Peer.traffic c.args.self.now.peer).reads c.in-Some.field-0 in (
+      refl,
+      record {
+        later = later_read _ _ _ c.in-Some.ensures.number c.in-Some.ensures.came c.in-Some.ensures.went
+            (λ told. c.in-Some.ensures.over ∙ over_by _ _ told) c.in-Some.ensures.broke c.in-Some.ensures.hung_up;
+        kept = λ xs is.
+            client_left g.P.Peer.traffic _ _ _ _ xs is c.args.self.now.connection _ c.requires.at.0 _ _ c.requires.at.1
+            c.requires.unended c.in-Some.ensures.came
+            (some, c.in-Some.ensures.reads ∙ rise, omega (arith, whole, few)) c.in-Some.ensures.went
+            (λ over. let clash = sym c.requires.unended ∙ over in absurd cc) c.in-Some.ensures.hung_up;
+      },
+      tt,
+      c.requires.at,
+    )
 
 pub returns-in-None : goal.returns-in-None
 returns-in-None g c = (

@@ -1,6 +1,8 @@
-use Rattle.std.proofs.Common.{◌∙◌, inl, refl}
-use Rattle.std.proofs.lemmas.List.{append-nil}
-use Rattle.hall_http.proofs.Peers.{client_sent, client_waits, later_sent, may_send}
+use Rattle.std.proofs.Common.{◌≡◌, ◌∙◌, ℕ, List, ◌-◌, ap, arith, inl, length, refl, sym}
+use Rattle.std.proofs.lemmas.Bool.{eqb-false}
+use Rattle.std.proofs.lemmas.List.{append-nil, length-drop}
+use Rattle.hall_http.specs.Outgoing.{outgoing_text}
+use Rattle.hall_http.proofs.Peers.{client_sent, client_waits, later_same, later_sent, may_send}
 use Rattle.hall_http.proofs.client.Client.write.Goals as goal
 
 pub send-requires-clause-from : goal.send-requires-clause-from
@@ -19,7 +21,7 @@ pub returns-then-is_empty : goal.returns-then-is_empty
 returns-then-is_empty g c = (
   refl,
   record {
-    number = refl;
+    later = later_same _;
     kept = λ xs is.
         client_sent g.P.Peer.traffic _ _ _ _ xs is _ _ c.requires.at.0 0 c.requires.at.1 c.sent.ensures
         refl refl (sym (append-nil _)) refl refl;
