@@ -2,9 +2,7 @@
 use Rattle.std.specs.Prelude.{◌≡◌, ◌++◌, ◌∷◌, ◌⊎◌, ℕ, false, List, [], map}
 use Rattle.hall_grid.specs.Board.{Board}
 use Rattle.hall_solve.specs.Puzzle.{OutcomeOfPuzzle}
-use Rattle.hall_solve.specs.Searched.{visits_made}
 use Rattle.hall_solve.specs.declared.outcome.Outcome.TheVariants as outcome
-use Rattle.hall_solve.specs.declared.searched.Visits.{Visits}
 use Rattle.hall_policy.specs.declared.record.PuzzleRow.{PuzzleRow}
 use Rattle.hall_policy.specs.declared.record.PuzzleState.{PuzzleState}
 use Rattle.hall_desk.specs.Finds.{AreParted, EveryRow, Finds, IsBreachTold}
@@ -16,14 +14,9 @@ use Rattle.hall_desk.specs.declared.states.Judged.{Judged}
 use Rattle.hall_desk.specs.declared.states.Judged.TheVariants.{True, False, Undecided}
 use Rattle.hall_desk.specs.declared.states.States.{States}
 
--- a search of the puzzle gave up, and spent the budget
-abbrev pub HasGivenUp : ℕ → Board → Type 0
-HasGivenUp budget puzzle =
-    (visits : Visits) × OutcomeOfPuzzle puzzle budget outcome.GaveUp × (visits_made visits ≡ budget)
-
--- the state says something of the puzzle, and a search gave up
+-- the state says something of the puzzle, and a search of it may give up within the budget
 abbrev pub IsUndecided : ℕ → Board → PuzzleState → Type 0
-IsUndecided budget puzzle state = (is_open state ≡ false) × HasGivenUp budget puzzle
+IsUndecided budget puzzle state = (is_open state ≡ false) × OutcomeOfPuzzle puzzle budget outcome.GaveUp
 
 -- what is judged of the state
 abbrev pub IsJudgedSo : Board → ℕ → PuzzleState → Judged → Type 0

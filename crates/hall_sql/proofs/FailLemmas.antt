@@ -36,7 +36,8 @@ use Rattle.hall_store.specs.declared.change.Change.TheVariants.{AddAnswer, AddPr
 use Rattle.hall_store.specs.declared.change.RoundFlag.{RoundFlag}
 use Rattle.hall_store.specs.declared.fault.StoreFault.{StoreFault}
 use Rattle.hall_store.specs.declared.fault.StoreFault.TheVariants.{Failed}
-use Rattle.hall_sql.specs.CanFail.{CanFail, CanRefuse, HasReason, KeepsNoWorld, RefusesChange, RefusesPuzzle}
+use Rattle.hall_sql.specs.CanFail.{CanFail, CanRefuse, HasReason, KeepsBadRow, KeepsNoWorld, RefusesChange}
+use Rattle.hall_sql.specs.CanFail.{RefusesPuzzle, StoreCanFail, WholeCanFail}
 use Rattle.hall_sql.specs.Cause.{FeedFails, IsStoreCause, ReadFails, RoundFails, StopsAtRow}
 use Rattle.hall_sql.specs.Columns.{answer_params, person_params, protest_params}
 use Rattle.hall_sql.specs.Content.{content_of}
@@ -64,59 +65,72 @@ use Rattle.hall_sql.proofs.Wordings.{Wording, hall_in, worded}
 
 -- ---- reasons
 
+-- what is said of a clean disk
+abbrev Reason : (Database → Type 0) → State → Type 0
+Reason Bad s = (0 < s.faults) ⊎ ((s.is_open ≡ false) ⊎ Bad s.now)
+
 -- one that is shut needs no other
-while_open : (Bad : Database → Type 0) (s : State) → (IsTrue s.is_open → HasReason Bad s) → HasReason Bad s
+while_open : (Bad : Database → Type 0) (s : State) → (IsTrue s.is_open → Reason Bad s) → Reason Bad s
 while_open Bad s why = go s.is_open refl
   where
-    go : (b : Bool) → s.is_open ≡ b → HasReason Bad s
+    go : (b : Bool) → s.is_open ≡ b → Reason Bad s
     go true is = why is
     go false is = inr (inl is)
 
 module _ (Bad : Database → Type 0) (old new : State) (stayed : KeptRows old new) (clean : HasCleanDisk new) where
-  by_store : IsStoreCause old new → HasReason Bad new
+  by_store : IsStoreCause old new → Reason Bad new
   by_store (inl (inl more)) = inl (omega (arith, more))
   by_store (inl (inr many)) = inl (omega (arith, many))
   by_store (inr shut) = while_open Bad new (λ opens. absurd (let no : false ≡ true = sym shut
       ∙ stayed.follows.opened clean opens in cc))
 
-  by_tables : Bad old.now → HasReason Bad new
+  by_tables : Bad old.now → Reason Bad new
   by_tables bad = while_open Bad new (λ opens. inr (inr (subst Bad (sym (stayed.same clean opens)) bad)))
 
 -- what reads call bad of the tables
 abbrev KeepsNone : Database → Type 0
 KeepsNone db = KeepsNoWorld db.trees
 
+-- and what those of a whole table do
+abbrev KeepsUnread : Database → Type 0
+KeepsUnread db = KeepsBadRow db.trees
+
 -- where a call failed, the state says why
-by_reason : {R : Type 0} (result : Result R StoreFault) (Why : Type 0) (new : State)
+by_reason : (Bad : Database → Type 0) {R : Type 0} (result : Result R StoreFault) (Why : Type 0) (new : State)
     → (HasCleanDisk new → Fails Why result)
-    → (HasCleanDisk new → Why → HasReason KeepsNone new) → Fails (CanFail new) result
-by_reason (Ok x) Why new cause why = tt
-by_reason (Err e) Why new cause why = λ failed clean. why clean (cause clean failed)
+    → (HasCleanDisk new → Why → Reason Bad new) → Fails (HasReason Bad new) result
+by_reason Bad (Ok x) Why new cause why = tt
+by_reason Bad (Err e) Why new cause why = λ failed clean. why clean (cause clean failed)
 
 -- a read whose cause lies in the store alone
 pub store_fault : {R : Type 0} (result : Result R StoreFault) (old new : State) → KeptTables old new
-    → (HasCleanDisk new → Fails (IsStoreCause old new) result) → Fails (CanFail new) result
+    → (HasCleanDisk new → Fails (IsStoreCause old new) result) → Fails (StoreCanFail new) result
 store_fault result old new rested cause =
-    by_reason result (IsStoreCause old new) new cause (λ clean. by_store KeepsNone old new (rested_stayed rested) clean)
+    by_reason (λ _. ⊥) result (IsStoreCause old new) new cause
+    (λ clean. by_store (λ _. ⊥) old new (rested_stayed rested) clean)
 
 -- ---- reads
 
--- the cause lies in the store, or what the tables kept is no world
-abbrev IsRead : State → State → Type 0
-IsRead old new = IsStoreCause old new ⊎ KeepsNoWorld old.now.trees
+-- the cause lies in the store, or the tables were bad in this sense
+abbrev IsBad : (Database → Type 0) → State → State → Type 0
+IsBad Bad old new = IsStoreCause old new ⊎ Bad old.now
 
 of_hall : (s : State) → IsHall s → HasCleanDisk s → IsTrue s.is_open → IsHallSchema s.now.schema
 of_hall s hall clean opens = (hall.settled clean opens).1
 
 module _ {X : Type 0} (read : Row → Option X) (sql : List ℕ) (params : Row) (unread : TellsUnread read sql params)
     (old new : State) (hall : IsHall old) (clean : HasCleanDisk old) where
-  of_read : ReadFails read sql params old new → IsRead old new
-  of_read (inl cause) = inl cause
-  of_read (inr it) =
+  of_rows : ReadFails read sql params old new → IsBad KeepsUnread old new
+  of_rows (inl cause) = inl cause
+  of_rows (inr it) =
       let has = of_hall old hall clean (shown_was_open sql params old new it.0 it.1) in
-      inr (inl (unread old new it.0 has it.1 it.2))
+      inr (unread old new it.0 has it.1 it.2)
 
-of_round : (id : List ℕ) (old new : State) → IsHall old → HasCleanDisk old → RoundFails id old new → IsRead old new
+  of_read : ReadFails read sql params old new → IsBad KeepsNone old new
+  of_read fails = elim (of_rows fails) [ inl cause ↦ inl cause | inr some ↦ inr (inl some) ]
+
+of_round : (id : List ℕ) (old new : State) → IsHall old → HasCleanDisk old → RoundFails id old new
+    → IsBad KeepsNone old new
 of_round id old new hall clean (inl head) = of_read round_in HEAD.now (Text id ∷ []) (head_unread id) old new hall clean
     head
 of_round id old new hall clean (inr (inl places)) = of_read place_in PLACES_OF.now (Text id ∷ []) (places_of_unread id)
@@ -125,30 +139,37 @@ of_round id old new hall clean (inr (inr (inl testers))) = of_read tester_in TES
     (testers_of_unread id) old new hall clean testers
 of_round id old new hall clean (inr (inr (inr none))) = inr (inr (id, none))
 
-by_read : (old new : State) → KeptRows old new → HasCleanDisk new → IsRead old new → HasReason KeepsNone new
-by_read old new stayed clean (inl cause) = by_store KeepsNone old new stayed clean cause
-by_read old new stayed clean (inr bad) = by_tables KeepsNone old new stayed clean bad
+module _ (Bad : Database → Type 0) where
+  by_read : (old new : State) → KeptRows old new → HasCleanDisk new → IsBad Bad old new → Reason Bad new
+  by_read old new stayed clean (inl cause) = by_store Bad old new stayed clean cause
+  by_read old new stayed clean (inr bad) = by_tables Bad old new stayed clean bad
+
+  by_rest : {R : Type 0} (result : Result R StoreFault) {old new : State} → KeptTables old new → (Why : Type 0)
+      → (HasCleanDisk old → Why → IsBad Bad old new) → (HasCleanDisk new → Fails Why result)
+      → Fails (HasReason Bad new) result
+  by_rest result {old} {new} rested Why told cause =
+      by_reason Bad result Why new cause
+      (λ clean why.
+      let was : HasCleanDisk old = omega (arith, rested.follows.lasts.clean, clean) in
+      by_read old new (rested_stayed rested) clean (told was why))
 
 module _ {R : Type 0} (result : Result R StoreFault) {old new : State} (hall : IsHall old) (rested : KeptTables old new)
   where
-    by_rest : (Why : Type 0) → (HasCleanDisk old → Why → IsRead old new) → (HasCleanDisk new → Fails Why result)
-        → Fails (CanFail new) result
-    by_rest Why told cause =
-        by_reason result Why new cause
-        (λ clean why.
-        let was : HasCleanDisk old = omega (arith, rested.follows.lasts.clean, clean) in
-        by_read old new (rested_stayed rested) clean (told was why))
+    module _ {X : Type 0} (read : Row → Option X) (sql : List ℕ) (params : Row) (unread : TellsUnread read sql params)
+        (cause : HasCleanDisk new → Fails (ReadFails read sql params old new) result) where
+      abbrev Why : Type 0
+      Why = ReadFails read sql params old new
 
-    pub read_fault : {X : Type 0} (read : Row → Option X) (sql : List ℕ) (params : Row) → TellsUnread read sql params
-        → (HasCleanDisk new → Fails (ReadFails read sql params old new) result) → Fails (CanFail new) result
-    read_fault read sql params unread cause =
-        by_rest (ReadFails read sql params old new) (λ was why. of_read read sql params unread old new hall was why)
-        cause
+      pub read_fault : Fails (CanFail new) result
+      read_fault = by_rest KeepsNone result rested Why (of_read read sql params unread old new hall) cause
+
+      -- where it reads a whole table, or any rows
+      pub whole_fault : Fails (WholeCanFail new) result
+      whole_fault = by_rest KeepsUnread result rested Why (of_rows read sql params unread old new hall) cause
 
     pub round_fault : (id : List ℕ) → (HasCleanDisk new → Fails (RoundFails id old new) result)
         → Fails (CanFail new) result
-    round_fault id cause =
-        by_rest (RoundFails id old new) (λ was why. of_round id old new hall was why) cause
+    round_fault id cause = by_rest KeepsNone result rested (RoundFails id old new) (of_round id old new hall) cause
 
 -- ---- rows that are fed
 
@@ -242,9 +263,9 @@ module _ {X : Type 0} (read : Row → Option X) (sql : List ℕ) (params : Row) 
 
 -- ---- writes
 
--- the cause lies in the store, or what the tables kept is no world, or they refused the change
+-- the cause lies in the store, or a row of the tables was no record, or they refused the change
 abbrev IsTold : Change → State → State → Type 0
-IsTold change old new = IsStoreCause old new ⊎ (KeepsNoWorld old.now.trees ⊎ RefusesChange change old.now)
+IsTold change old new = IsStoreCause old new ⊎ (KeepsUnread old.now ⊎ RefusesChange change old.now)
 
 change_fault : {R : Type 0} (change : Change) (old new : State) (result : Result R StoreFault) (Why : Type 0)
     → OnErr result (KeptRows old new) → (HasCleanDisk new → Fails Why result)
@@ -254,12 +275,12 @@ change_fault change old new (Err e) Why stayed cause told = λ failed clean.
     let was : HasCleanDisk old = omega (arith, stayed.follows.lasts.clean, clean) in
     go clean (told was (cause clean failed))
   where
-    IsBad : Database → Type 0
-    IsBad db = KeepsNoWorld db.trees ⊎ RefusesChange change db
+    Bad : Database → Type 0
+    Bad db = KeepsUnread db ⊎ RefusesChange change db
 
-    go : HasCleanDisk new → IsTold change old new → HasReason IsBad new
-    go clean (inl store) = by_store IsBad old new stayed clean store
-    go clean (inr bad) = by_tables IsBad old new stayed clean bad
+    go : HasCleanDisk new → IsTold change old new → Reason Bad new
+    go clean (inl store) = by_store Bad old new stayed clean store
+    go clean (inr bad) = by_tables Bad old new stayed clean bad
 
 -- one statement, or several of which one is refused
 refused_told : {A B C : Type 0} → A ⊎ C → A ⊎ (B ⊎ C)
@@ -276,9 +297,9 @@ read_told (inl cause) = inl cause
 read_told (inr bad) = inr (inl bad)
 
 person_told : (person : Person) (mid left : State) → IsHallSchema mid.now.schema → PersonIsRefused person mid left
-    → KeepsNoWorld mid.now.trees ⊎ (IsUnknown person.name mid.now
+    → KeepsUnread mid.now ⊎ (IsUnknown person.name mid.now
     × IsStatementRefused ADD_PERSON.now (person_params person) mid.now)
-person_told person mid left has (inl it) = inl (inl (person_unread person.name mid left it.0 has it.1 it.2))
+person_told person mid left has (inl it) = inl (person_unread person.name mid left it.0 has it.1 it.2)
 person_told person mid left has (inr it) = inr it
 
 module _ {R : Type 0} (old new : State) (result : Result R StoreFault) (hall : IsHall old) where
@@ -315,7 +336,7 @@ module _ {R : Type 0} (old new : State) (result : Result R StoreFault) (hall : I
     where
       go : HasCleanDisk old → SetStateFails key known old new → IsTold (SetState key known) old new
       go was (inl find) =
-          read_told (of_read puzzle_row_in PUZZLE.now (Text key.author ∷ Text key.label ∷ [])
+          read_told (of_rows puzzle_row_in PUZZLE.now (Text key.author ∷ Text key.label ∷ [])
           (puzzle_unread key.author key.label) old new hall was find)
       go was (inr it) = put (put_told (record it.0 { state = known }) old new it.2)
         where
@@ -337,7 +358,7 @@ module _ {R : Type 0} (old new : State) (result : Result R StoreFault) (hall : I
       change_fault (SetRoundFlag id flag) old new result (SetFlagFails id flag old new) stayed cause go
     where
       go : HasCleanDisk old → SetFlagFails id flag old new → IsTold (SetRoundFlag id flag) old new
-      go was (inl find) = read_told (of_read round_in HEAD.now (Text id ∷ []) (head_unread id) old new hall was find)
+      go was (inl find) = read_told (of_rows round_in HEAD.now (Text id ∷ []) (head_unread id) old new hall was find)
       go was (inr (round, kept, inl cause)) = inl cause
       go was (inr (round, kept, inr refused)) = inr (inr (round, kept, refused))
 
@@ -365,7 +386,7 @@ module _ {R : Type 0} (old new : State) (result : Result R StoreFault) (hall : I
     where
       go : HasCleanDisk old → RuleFails key ruling old new → IsTold (RuleProtest key ruling) old new
       go was (inl find) =
-          read_told (of_read protest_in PROTEST.now (Text key.entrant ∷ Text key.round ∷ Text key.token ∷ [])
+          read_told (of_rows protest_in PROTEST.now (Text key.entrant ∷ Text key.round ∷ Text key.token ∷ [])
           (protest_unread key.entrant key.round key.token) old new hall was find)
       go was (inr (row, kept, inl cause)) = inl cause
       go was (inr (row, kept, inr refused)) = inr (inr (row, kept, refused))

@@ -8,7 +8,7 @@ use Rattle.hall_policy.specs.World.{World}
 use Rattle.hall_store.specs.Store.{Fails}
 use Rattle.hall_store.specs.declared.fault.StoreFault.{StoreFault}
 use Rattle.hall_store.specs.declared.fault.StoreFault.TheVariants.{Memory, Failed}
-use Rattle.hall_sql.specs.CanFail.{CanFail}
+use Rattle.hall_sql.specs.CanFail.{CanFail, WholeCanFail}
 use Rattle.hall_sql.specs.Cause.{AreRead, IsFound, ReadFails}
 use Rattle.hall_sql.specs.Counts.{AreSoMany}
 use Rattle.hall_sql.specs.Feed.{AreAll}
@@ -19,7 +19,7 @@ use Rattle.hall_sql.specs.Tables.{IsHallSchema}
 use Rattle.hall_sql.specs.Versions.{IsAnyHall, IsVersion}
 use Rattle.hall_sql.specs.Whole.{AreRecords}
 use Rattle.hall_sql.proofs.CauseLemmas.{fails_as}
-use Rattle.hall_sql.proofs.FailLemmas.{read_fault}
+use Rattle.hall_sql.proofs.FailLemmas.{read_fault, whole_fault}
 use Rattle.hall_sql.proofs.StoreLemmas.{read_whole, rested_hall, rested_kept, told, told_so}
 use Rattle.hall_sql.proofs.UnreadRows.{TellsUnread}
 use Rattle.hall_sql.proofs.Versions.{told_any}
@@ -206,3 +206,11 @@ table_in_hall read sql {old} {new} result hall unread it =
       whole = it.whole;
       cause = it.cause;
     }
+
+-- and fails as such a one
+pub table_fault : {X R : Type 0} (read : Row → Option X) (sql : List ℕ) {old new : State}
+    (result : Result R StoreFault)
+    {Means : World → R → Type 0} → IsHall old → TellsUnread read sql [] → ReadsTable read sql old new result Means
+    → Fails (WholeCanFail new) result
+table_fault read sql result hall unread it =
+    whole_fault result hall (rested_hall hall it.rested) read sql [] unread it.cause

@@ -1,6 +1,7 @@
 -- Where a query of the hall's shows a row that is no record, a row of its table is none; and one by a key shows at most
 -- one row.
-use Rattle.std.proofs.Common.{Bool, ◌≡◌, ◌≤◌, inr, ℕ, pos, List, [], ◌∷◌, ◌++◌, map, filter, length, is_some, true, false}
+use Rattle.std.proofs.Common.{Bool, ◌≡◌, ◌≤◌, inr, ℕ, pos, List, [], ◌∷◌, ◌++◌, map, filter, length, is_some, true}
+use Rattle.std.proofs.Common.{false}
 use Rattle.std.proofs.Common.{Option, Some, None, IsTrue, Contains, refl, sym, ap, subst, ◌∙◌, arith}
 use Rattle.std.proofs.lemmas.List.{length-map}
 use Rattle.std.proofs.lemmas.List.Sorted.{length_permutation}
@@ -177,7 +178,9 @@ module _ (name : List ℕ) where
   pub person_one : TellsOne PERSON.now (Text name ∷ [])
   unfolding first_key
   person_one =
-      one_shown person_in 3 0 PERSON.now (Text name ∷ []) (equals 1 0 ∷ []) person_columns [] _ (λ u. (person_is u).0) (λ u. (person_is u).1) (λ u. (person_is u).2) (λ db. refl) (λ r. refl) (λ trees all. all.0) (1 ∷ []) (0 ∷ []) (λ row. refl)
+      one_shown person_in 3 0 PERSON.now (Text name ∷ []) (equals 1 0 ∷ []) person_columns [] _ (λ u. (person_is u).0)
+      (λ u. (person_is u).1) (λ u. (person_is u).2) (λ db. refl) (λ r. refl) (λ trees all. all.0) (1 ∷ []) (0 ∷ [])
+      (λ row. refl)
       (λ db hall. hall.keyed.0) (λ db has sound. unique_in db.schema People db.trees (inr has) sound)
 
   pub person_by_key_unread : TellsUnread person_in PERSON_BY_KEY.now (Text name ∷ [])
@@ -189,7 +192,9 @@ module _ (name : List ℕ) where
   pub person_by_key_one : TellsOne PERSON_BY_KEY.now (Text name ∷ [])
   unfolding first_key
   person_by_key_one =
-      one_shown person_in 3 0 PERSON_BY_KEY.now (Text name ∷ []) (equals 2 0 ∷ []) person_columns [] _ (λ u. (person_by_key_is u).0) (λ u. (person_by_key_is u).1) (λ u. (person_by_key_is u).2) (λ db. refl) (λ r. refl) (λ trees all. all.0) (2 ∷ []) (0 ∷ []) (λ row. refl)
+      one_shown person_in 3 0 PERSON_BY_KEY.now (Text name ∷ []) (equals 2 0 ∷ []) person_columns [] _
+      (λ u. (person_by_key_is u).0) (λ u. (person_by_key_is u).1) (λ u. (person_by_key_is u).2) (λ db. refl)
+      (λ r. refl) (λ trees all. all.0) (2 ∷ []) (0 ∷ []) (λ row. refl)
       (λ db hall. hall.keyed.0) (λ db has sound. own_keys db.schema db.trees has sound)
 
 pub people_unread : TellsUnread person_in ALL_PEOPLE.now []
@@ -210,7 +215,9 @@ module _ (author label : List ℕ) where
   pub puzzle_one : TellsOne PUZZLE.now (Text author ∷ Text label ∷ [])
   unfolding first_key
   puzzle_one =
-      one_shown puzzle_row_in 5 3 PUZZLE.now (Text author ∷ Text label ∷ []) puzzles.key_terms puzzles.puzzle_columns [] _ (λ u. (puzzles.puzzle_is u).0) (λ u. (puzzles.puzzle_is u).1) (λ u. (puzzles.puzzle_is u).2) (λ db. refl) (λ r. refl) (λ trees all. all.1.0) (1 ∷ 2 ∷ []) (0 ∷ 1 ∷ []) (λ row. refl)
+      one_shown puzzle_row_in 5 3 PUZZLE.now (Text author ∷ Text label ∷ []) puzzles.key_terms puzzles.puzzle_columns []
+      _ (λ u. (puzzles.puzzle_is u).0) (λ u. (puzzles.puzzle_is u).1) (λ u. (puzzles.puzzle_is u).2) (λ db. refl)
+      (λ r. refl) (λ trees all. all.1.0) (1 ∷ 2 ∷ []) (0 ∷ 1 ∷ []) (λ row. refl)
       (λ db hall. hall.keyed.1.0) (λ db has sound. unique_in db.schema Puzzles db.trees (inr has) sound)
 
 pub puzzles_of_unread : (author : List ℕ) → TellsUnread puzzle_row_in PUZZLES_OF.now (Text author ∷ [])
@@ -238,7 +245,9 @@ module _ (id : List ℕ) where
   pub head_one : TellsOne HEAD.now (Text id ∷ [])
   unfolding first_key
   head_one =
-      one_shown round_in 10 5 HEAD.now (Text id ∷ []) id_terms round_columns [] _ (λ u. (head_is u).0) (λ u. (head_is u).1) (λ u. (head_is u).2) (λ db. refl) (λ r. refl) (λ trees all. all.1.1.0) (1 ∷ []) (0 ∷ []) (λ row. refl)
+      one_shown round_in 10 5 HEAD.now (Text id ∷ []) id_terms round_columns [] _ (λ u. (head_is u).0)
+      (λ u. (head_is u).1) (λ u. (head_is u).2) (λ db. refl) (λ r. refl) (λ trees all. all.1.1.0) (1 ∷ []) (0 ∷ [])
+      (λ row. refl)
       (λ db hall. hall.keyed.1.1.0) (λ db has sound. unique_in db.schema Rounds db.trees (inr has) sound)
 
   pub places_of_unread : TellsUnread place_in PLACES_OF.now (Text id ∷ [])
@@ -293,7 +302,10 @@ module _ (entrant round : List ℕ) (number : ℕ) (token : List ℕ) where
   pub answer_one : TellsOne ANSWER.now (Text entrant ∷ Text round ∷ Int (pos number) ∷ Text token ∷ [])
   unfolding first_key
   answer_one =
-      one_shown answer_in 8 9 ANSWER.now (Text entrant ∷ Text round ∷ Int (pos number) ∷ Text token ∷ []) answers.key_terms answers.answer_columns [] _ (λ u. (answers.answer_is u).0) (λ u. (answers.answer_is u).1) (λ u. (answers.answer_is u).2) (λ db. refl) (λ r. refl) (λ trees all. all.1.1.1.1.0) (1 ∷ 2 ∷ 3 ∷ 4 ∷ []) (0 ∷ 1 ∷ 2 ∷ 3 ∷ []) (λ row. refl)
+      one_shown answer_in 8 9 ANSWER.now (Text entrant ∷ Text round ∷ Int (pos number) ∷ Text token ∷ [])
+      answers.key_terms answers.answer_columns [] _ (λ u. (answers.answer_is u).0) (λ u. (answers.answer_is u).1)
+      (λ u. (answers.answer_is u).2) (λ db. refl) (λ r. refl) (λ trees all. all.1.1.1.1.0) (1 ∷ 2 ∷ 3 ∷ 4 ∷ [])
+      (0 ∷ 1 ∷ 2 ∷ 3 ∷ []) (λ row. refl)
       (λ db hall. hall.keyed.1.1.1.1.0) (λ db has sound. unique_in db.schema Answers db.trees (inr has) sound)
 
 module _ (entrant round : List ℕ) (number : ℕ) where
@@ -357,7 +369,10 @@ module _ (entrant round token : List ℕ) where
   pub protest_one : TellsOne PROTEST.now (Text entrant ∷ Text round ∷ Text token ∷ [])
   unfolding first_key
   protest_one =
-      one_shown protest_in 7 12 PROTEST.now (Text entrant ∷ Text round ∷ Text token ∷ []) protests.key_terms protests.protest_columns [] _ (λ u. (protests.protest_is u).0) (λ u. (protests.protest_is u).1) (λ u. (protests.protest_is u).2) (λ db. refl) (λ r. refl) (λ trees all. all.1.1.1.1.1.0) (1 ∷ 2 ∷ 3 ∷ []) (0 ∷ 1 ∷ 2 ∷ []) (λ row. refl)
+      one_shown protest_in 7 12 PROTEST.now (Text entrant ∷ Text round ∷ Text token ∷ []) protests.key_terms
+      protests.protest_columns [] _ (λ u. (protests.protest_is u).0) (λ u. (protests.protest_is u).1)
+      (λ u. (protests.protest_is u).2) (λ db. refl) (λ r. refl) (λ trees all. all.1.1.1.1.1.0) (1 ∷ 2 ∷ 3 ∷ [])
+      (0 ∷ 1 ∷ 2 ∷ []) (λ row. refl)
       (λ db hall. hall.keyed.1.1.1.1.1.0) (λ db has sound. unique_in db.schema Protests db.trees (inr has) sound)
 
 pub protests_of_unread : (entrant round : List ℕ) → TellsUnread protest_in PROTESTS_OF.now

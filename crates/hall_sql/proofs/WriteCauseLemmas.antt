@@ -14,7 +14,8 @@ use Rattle.sqlite.specs.declared.error.Error.TheVariants.{SqliteFailure}
 use Rattle.sqlite.specs.Order.{Row}
 use Rattle.sqlite.specs.Does.{Does}
 use Rattle.sqlite.specs.Listing.{understood}
-use Rattle.sqlite.specs.State.{IsLive, State, HasCleanDisk, IsMisplaced, Escapes, EndsScope, RunsCommand, Executes, ExecutesIn}
+use Rattle.sqlite.specs.State.{IsLive, State, HasCleanDisk, IsMisplaced, Escapes, EndsScope, RunsCommand, Executes}
+use Rattle.sqlite.specs.State.{ExecutesIn}
 use Rattle.sqlite.specs.State.{mode_of, text_of, is_pragma, shows_rows}
 use Rattle.sqlite.specs.Steps.{FailsToCommit}
 use Rattle.sqlite.proofs.Callers.{IsPlain, command_of, statement_of}
@@ -388,7 +389,8 @@ module _ {S : Type 0} (g : Ghosts S) (held : Held S) (hall : IsHall (state g hel
   base = state g (record held { in_transaction = true })
 
   -- what was refused inside it was rolled back
-  pub whole_cause : {Refused : Type 0} → IsLive (state g held) → (mid end : State) → HasCleanDisk (state g held) → LeadsConnection mid end
+  pub whole_cause : {Refused : Type 0} → IsLive (state g held) → (mid end : State) → HasCleanDisk (state g held) →
+      LeadsConnection mid end
       → (IsUnderWay base → IsStoreCause base mid ⊎ Refused) → IsStoreCause (state g held) end ⊎ Refused
   whole_cause live mid end clean lasts why = elim (cases_Bool (state g held).is_open) [
     | inl opens ↦

@@ -1,5 +1,6 @@
 -- The text of a query that is refused for no cause of its own.
-use Rattle.std.specs.Prelude.{◌≡◌, ◌≤◌, ◌&&◌, ℕ, Bool, true, false, List, [], length, nat_le, nat_eq, Result, Ok, Err, None}
+use Rattle.std.specs.Prelude.{◌≡◌, ◌≤◌, ◌&&◌, ℕ, Bool, true, false, List, [], length, nat_le, nat_eq, Result, Ok, Err}
+use Rattle.std.specs.Prelude.{None}
 use Rattle.sqlite_trees.specs.declared.store.Store.{Ghosts}
 use Rattle.sqlite.specs.Effect.{IsDatabase}
 use Rattle.sqlite.specs.Held.{Held, state}

@@ -35,13 +35,17 @@ use Rattle.hall_sql.specs.declared.round_writes.TheConstants.{REPLACE_HEAD}
 abbrev pub KeepsNoRound : World → Type 0
 KeepsNoRound world = (id : List ℕ) × HasNoRound world id
 
--- What the tables keep is no world: a row is no record, or what is kept under a round's id is no round with its lists.
+-- a row of the tables is no record
+abbrev pub KeepsBadRow : Trees → Type 0
+KeepsBadRow trees = ¬ (AreAllRead hall_schema trees)
+
+-- what the tables keep is no world: a row is no record, or what is kept under a round's id is no round with its lists
 abbrev pub KeepsNoWorld : Trees → Type 0
-KeepsNoWorld trees = (¬ (AreAllRead hall_schema trees)) ⊎ KeepsNoRound (world_of trees)
+KeepsNoWorld trees = KeepsBadRow trees ⊎ KeepsNoRound (world_of trees)
 
 -- ---- what is refused
 
--- Those before one person of the list are imported, and what the tables then keep is no world, or that one's name is
+-- Those before one person of the list are imported, and a row of the tables is then no record, or that one's name is
 -- unknown, and the statement that adds the person is refused.
 pub record RefusesPerson (people : List Person) (old : Database) : Type 0 where
   pub at : ℕ
@@ -50,7 +54,7 @@ pub record RefusesPerson (people : List Person) (old : Database) : Type 0 where
   pub mid : Database
   pub hall : IsHallData mid
   pub before : ImportsEach (take at people) old mid
-  pub refused : KeepsNoWorld mid.trees
+  pub refused : KeepsBadRow mid.trees
       ⊎ (IsUnknown person.name mid × IsStatementRefused ADD_PERSON.now (person_params person) mid)
 
 -- the statement that puts the puzzle under its key is refused
@@ -77,16 +81,23 @@ RefusesChange (RuleProtest key ruling) db =
 
 -- ---- all of it
 
--- A call was refused for another cause than being out of memory: a fault of the device has been counted, or the
--- connection is shut, or its tables are bad in this sense.
+-- Why a call may have been refused for another cause than being out of memory, where the disk is clean: a fault of the
+-- device has been counted, or the connection is shut, or its tables are bad in this sense.
 abbrev pub HasReason : (Database → Type 0) → State → Type 0
-HasReason Bad s = (0 < s.faults) ⊎ ((s.is_open ≡ false) ⊎ Bad s.now)
+HasReason Bad s = HasCleanDisk s → (0 < s.faults) ⊎ ((s.is_open ≡ false) ⊎ Bad s.now)
 
--- A call that reads may be refused for another cause than being out of memory, where the disk is clean: what the tables
--- keep is no world, or the connection has a reason.
+-- why one that reads may: what the tables keep is no world
 abbrev pub CanFail : State → Type 0
-CanFail s = HasCleanDisk s → HasReason (λ db. KeepsNoWorld db.trees) s
+CanFail = HasReason (λ db. KeepsNoWorld db.trees)
 
--- A call that makes the change may: so, or the tables refuse this change.
+-- why one that reads a whole table may: a row of the tables is no record
+abbrev pub WholeCanFail : State → Type 0
+WholeCanFail = HasReason (λ db. KeepsBadRow db.trees)
+
+-- why one may to which nothing that the tables keep is a cause
+abbrev pub StoreCanFail : State → Type 0
+StoreCanFail = HasReason (λ _. ⊥)
+
+-- why one that makes the change may: a row of the tables is no record, or they refuse this change
 abbrev pub CanRefuse : Change → State → Type 0
-CanRefuse change s = HasCleanDisk s → HasReason (λ db. KeepsNoWorld db.trees ⊎ RefusesChange change db) s
+CanRefuse change = HasReason (λ db. KeepsBadRow db.trees ⊎ RefusesChange change db)

@@ -44,8 +44,8 @@ pub(crate) fn puzzle<S: Alter>(
     key: &PuzzleKey,
 ) -> Result<Option<PuzzleRow>, StoreFault>
     requires hall { IsHall (state S.Store conn.old) }
-    ensures { ReadsRows puzzle_row_in PUZZLE.now (Text key.now.author ∷ Text key.now.label ∷ []) (state S.Store conn.old)
-        (state S.Store conn.new) result (λ world found. found ≡ get world.puzzles key.now) }
+    ensures { ReadsRows puzzle_row_in PUZZLE.now (Text key.now.author ∷ Text key.now.label ∷ [])
+        (state S.Store conn.old) (state S.Store conn.new) result (λ world found. found ≡ get world.puzzles key.now) }
 {
     find(
         conn,

@@ -9,7 +9,7 @@ ghost use Rattle.hall_store.specs.declared.fault.StoreFault.TheVariants.{Failed}
 ghost use Rattle.hall_sql.specs.AdoptCause.{AdoptFails};
 ghost use Rattle.hall_sql.specs.AllRead.{AreAllRead};
 ghost use Rattle.hall_sql.specs.BadRows.{AreNone, AreToldBad};
-ghost use Rattle.hall_sql.specs.CanFail.{CanFail};
+ghost use Rattle.hall_sql.specs.CanFail.{StoreCanFail};
 ghost use Rattle.hall_sql.specs.Cause.{IsStoreCause};
 ghost use Rattle.hall_sql.specs.FillCause.{TakeFails};
 ghost use Rattle.hall_sql.specs.Made.{all_tables};
@@ -113,7 +113,7 @@ impl<S: Alter + Drop> SqlStore<S> {
             AreToldBad all_tables (state S.Store self.old) (state S.Store self.new) bad.items) }
         ensures whole { HasCleanDisk (state S.Store self.new) → IfOk result (λ bad.
             AreNone bad.items → AreAllRead hall_schema (state S.Store self.old).now.trees) }
-        ensures fault { Fails (CanFail (state S.Store self.new)) result }
+        ensures fault { Fails (StoreCanFail (state S.Store self.new)) result }
         ensures cause { HasCleanDisk (state S.Store self.new)
             → Fails (IsStoreCause (state S.Store self.old) (state S.Store self.new)) result }
     {
@@ -159,7 +159,7 @@ impl<S: Alter + Drop> ReadStore for SqlStore<S> {
     ghost use Rattle.hall_sql.specs.Reads.{Reads, ReadsRows};
     ghost use Rattle.hall_sql.specs.Whole.{AreRecords, IsRoundRead};
     ghost use Rattle.hall_sql.specs.Cause.{FeedFails, RoundFails};
-    ghost use Rattle.hall_sql.specs.CanFail.{CanFail};
+    ghost use Rattle.hall_sql.specs.CanFail.{CanFail, WholeCanFail};
     ghost use Rattle.hall_sql.specs.Content.{content_of};
     ghost use Rattle.hall_sql.specs.Standing.{KeptTables};
 
@@ -186,8 +186,9 @@ impl<S: Alter + Drop> ReadStore for SqlStore<S> {
     }
 
     fn people(&mut self, alloc: Global) -> Result<Vec<Person>, StoreFault>
-        ensures { ReadsRows person_in ALL_PEOPLE.now [] (state S.Store self.old) (state S.Store self.new) result
+        ensures reads { ReadsRows person_in ALL_PEOPLE.now [] (state S.Store self.old) (state S.Store self.new) result
             (λ world people. people.items ≡ values world.people) }
+        ensures fault { Fails (WholeCanFail (state S.Store self.new)) result }
     {
         all_people(&mut self.conn, alloc)
     }
@@ -208,8 +209,9 @@ impl<S: Alter + Drop> ReadStore for SqlStore<S> {
     }
 
     fn all_puzzles(&mut self, alloc: Global) -> Result<Vec<PuzzleRow>, StoreFault>
-        ensures { ReadsRows puzzle_row_in ALL_PUZZLES.now [] (state S.Store self.old) (state S.Store self.new) result
-            (λ world rows. rows.items ≡ values world.puzzles) }
+        ensures reads { ReadsRows puzzle_row_in ALL_PUZZLES.now [] (state S.Store self.old) (state S.Store self.new)
+            result (λ world rows. rows.items ≡ values world.puzzles) }
+        ensures fault { Fails (WholeCanFail (state S.Store self.new)) result }
     {
         all_puzzles(&mut self.conn, alloc)
     }
@@ -238,8 +240,9 @@ impl<S: Alter + Drop> ReadStore for SqlStore<S> {
     }
 
     fn rounds(&mut self, alloc: Global) -> Result<Vec<Round>, StoreFault>
-        ensures { ReadsRows round_in ALL_ROUNDS.now [] (state S.Store self.old) (state S.Store self.new) result
+        ensures reads { ReadsRows round_in ALL_ROUNDS.now [] (state S.Store self.old) (state S.Store self.new) result
             (λ world rounds. rounds.items ≡ values world.rounds) }
+        ensures fault { Fails (WholeCanFail (state S.Store self.new)) result }
     {
         rounds(&mut self.conn, alloc)
     }
@@ -482,6 +485,8 @@ impl<S: Alter + Drop> WholeStore for SqlStore<S> {
     ghost use Rattle.std.specs.Prelude.{◌≡◌, []};
     ghost use Rattle.std.specs.FinMap.{entries, values};
     ghost use Rattle.sqlite.specs.Held.{state};
+    ghost use Rattle.hall_store.specs.Store.{Fails};
+    ghost use Rattle.hall_sql.specs.CanFail.{WholeCanFail};
     ghost use Rattle.hall_sql.specs.Reads.{ReadsRows};
     ghost use Rattle.hall_sql.specs.Rows.{answer_in, place_in, protest_in, tester_in};
     ghost use Rattle.hall_sql.specs.declared.answers.TheConstants.{ALL_ANSWERS};
@@ -492,29 +497,33 @@ impl<S: Alter + Drop> WholeStore for SqlStore<S> {
     fn under_own_keys(&self) {}
 
     fn all_places(&mut self, alloc: Global) -> Result<Vec<Place>, StoreFault>
-        ensures { ReadsRows place_in ALL_PLACES.now [] (state S.Store self.old) (state S.Store self.new) result
+        ensures reads { ReadsRows place_in ALL_PLACES.now [] (state S.Store self.old) (state S.Store self.new) result
             (λ world places. places.items ≡ entries world.places) }
+        ensures fault { Fails (WholeCanFail (state S.Store self.new)) result }
     {
         all_places(&mut self.conn, alloc)
     }
 
     fn all_testers(&mut self, alloc: Global) -> Result<Vec<Tester>, StoreFault>
-        ensures { ReadsRows tester_in ALL_TESTERS.now [] (state S.Store self.old) (state S.Store self.new) result
+        ensures reads { ReadsRows tester_in ALL_TESTERS.now [] (state S.Store self.old) (state S.Store self.new) result
             (λ world testers. testers.items ≡ entries world.testers) }
+        ensures fault { Fails (WholeCanFail (state S.Store self.new)) result }
     {
         all_testers(&mut self.conn, alloc)
     }
 
     fn all_answers(&mut self, alloc: Global) -> Result<Vec<AnswerRow>, StoreFault>
-        ensures { ReadsRows answer_in ALL_ANSWERS.now [] (state S.Store self.old) (state S.Store self.new) result
+        ensures reads { ReadsRows answer_in ALL_ANSWERS.now [] (state S.Store self.old) (state S.Store self.new) result
             (λ world rows. rows.items ≡ values world.answers) }
+        ensures fault { Fails (WholeCanFail (state S.Store self.new)) result }
     {
         all_answers(&mut self.conn, alloc)
     }
 
     fn all_protests(&mut self, alloc: Global) -> Result<Vec<ProtestRow>, StoreFault>
-        ensures { ReadsRows protest_in ALL_PROTESTS.now [] (state S.Store self.old) (state S.Store self.new) result
-            (λ world rows. rows.items ≡ values world.protests) }
+        ensures reads { ReadsRows protest_in ALL_PROTESTS.now [] (state S.Store self.old) (state S.Store self.new)
+            result (λ world rows. rows.items ≡ values world.protests) }
+        ensures fault { Fails (WholeCanFail (state S.Store self.new)) result }
     {
         all_protests(&mut self.conn, alloc)
     }

@@ -30,7 +30,8 @@ use Rattle.hall_store.specs.Change.{changed}
 -- `writes` is a number that one write may raise by one, and nothing else raises. Which one is the store's own matter: a
 -- store may count its writes, or say 0 for ever. So what is proved of all stores bounds how many writes are made.
 -- `may_leave`, the worlds that the next open may find, were the program stopped at this moment. `can_fail`, a call that
--- only reads may be refused for another cause than being out of memory; `can_refuse`, one that makes the change may.
+-- only reads may be refused for another cause than being out of memory; `whole_can_fail`, one that reads a whole table
+-- may; `can_refuse`, one that makes the change may.
 pub record Content : Type 1 where
   pub honest : Type 0
   pub serves : Type 0
@@ -39,6 +40,7 @@ pub record Content : Type 1 where
   pub world : World
   pub may_leave : World → Type 0
   pub can_fail : Type 0
+  pub whole_can_fail : Type 0
   pub can_refuse : Change → Type 0
 
 -- the device has failed once more, or so often that it is no longer counted

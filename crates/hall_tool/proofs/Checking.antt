@@ -15,7 +15,7 @@ use Rattle.hall_store.specs.declared.fault.StoreFault.{StoreFault}
 use Rattle.hall_store.specs.declared.fault.StoreFault.TheVariants as store
 use Rattle.hall_store.proofs.Knowing.{kept_then}
 use Rattle.hall_sql.specs.AllRead.{AreAllRead}
-use Rattle.hall_sql.specs.CanFail.{CanFail, HasReason, KeepsNoRound, KeepsNoWorld}
+use Rattle.hall_sql.specs.CanFail.{StoreCanFail, WholeCanFail}
 use Rattle.hall_sql.specs.Cause.{IsStoreCause}
 use Rattle.hall_sql.specs.CopyCause.{CannotCopy}
 use Rattle.hall_sql.specs.FillCause.{TablesFail}
@@ -34,8 +34,7 @@ use Rattle.hall_sql.proofs.Wordings.{like_itself}
 use Rattle.hall_sql.proofs.WriteCauseLemmas.{cause_over}
 use Rattle.hall_desk.specs.Checked.{IsChecked}
 use Rattle.hall_desk.specs.declared.sanity.Checked.{Checked}
-use Rattle.hall_tool.specs.CheckRun.{CopyFails, CopyText, IsFoundWritten, OldFails, OldText, PresentFails}
-use Rattle.hall_tool.specs.CheckRun.{PresentText, WorldFails}
+use Rattle.hall_tool.specs.CheckRun.{CopyFails, CopyText, IsFoundWritten, OldFails, OldText, PresentText}
 use Rattle.hall_tool.specs.Shown.{IsShownBy}
 use Rattle.hall_tool.specs.WorldText.{WorldText}
 use Rattle.hall_tool.specs.declared.ending.Ending.{Ending}
@@ -130,32 +129,27 @@ copy_text budget source left empty filled last count text status migrates (check
 
 -- ---- why nothing was found
 
--- after each row of the present version was found to be a record
+-- where each row was a record, it is still one, so that no row is a cause
+pub reads_fail : (old new : State) → Kept (content_of old) (content_of new)
+    → (HasCleanDisk old → IsTrue old.is_open → AreAllRead hall_schema old.now.trees) → WholeCanFail new
+    → StoreCanFail new
+reads_fail old new kept whole can clean = elim (can clean) [
+  | inl counted ↦ inl counted
+  | inr (inl shut) ↦ inr (inl shut)
+  | inr (inr unread) ↦ elim (cases_Bool new.is_open) [
+    | inl opens ↦
+        let was = kept.honest clean in
+        absurd (unread (still_read old new kept.writes (whole was (kept.serves clean opens)) clean opens))
+    | inr shut ↦ inr (inl shut)
+  ]
+]
+
+-- so of the present version, after each of its rows was found to be a record
 pub present_fails : (old mid new : State) → KeptTables old mid → Kept (content_of mid) (content_of new)
-    → (HasCleanDisk mid → AreAllRead hall_schema old.now.trees) → CanFail new → PresentFails old new
-present_fails old mid new rested kept whole can clean = inr (all, by_rounds (can clean))
-  where
-    was : HasCleanDisk mid
-    was = kept.honest clean
-
-    all : AreAllRead hall_schema old.now.trees
-    all = whole was
-
-    -- a read makes no row that is no record
-    after : IsTrue new.is_open → AreAllRead hall_schema new.now.trees
-    after opens =
-        still_read mid new kept.writes
-        (subst (λ (d : Database). AreAllRead hall_schema d.trees) (sym (rested.same was (kept.serves clean opens))) all)
-        clean opens
-
-    by_rounds : HasReason (λ db. KeepsNoWorld db.trees) new → HasReason (λ db. KeepsNoRound (world_of db.trees)) new
-    by_rounds (inl counted) = inl counted
-    by_rounds (inr (inl shut)) = inr (inl shut)
-    by_rounds (inr (inr (inl unread))) = elim (cases_Bool new.is_open) [
-      | inl opens ↦ absurd (unread (after opens))
-      | inr shut ↦ inr (inl shut)
-    ]
-    by_rounds (inr (inr (inr rounds))) = inr (inr rounds)
+    → (HasCleanDisk mid → AreAllRead hall_schema old.now.trees) → WholeCanFail new → StoreCanFail new
+present_fails old mid new rested kept whole =
+    reads_fail mid new kept
+    (λ was opens. subst (λ (d : Database). AreAllRead hall_schema d.trees) (sym (rested.same was opens)) (whole was))
 
 -- the store failed where that is what is told
 pub store_failed : {R : Type 0} (fault : StoreFault) (e : ToolFault) → ((fault ≡ store.Memory) × (e ≡ Memory))
@@ -171,18 +165,13 @@ no_cause old new (inl (inl more)) = omega (arith, more)
 no_cause old new (inl (inr top)) = omega (arith, top)
 no_cause old new (inr shut) = let no : false ≡ true = sym shut ∙ (memory_serves old).1 in cc
 
--- so that a call can fail there for what the tables keep alone, and where each row is a record, for a round's
-no_round : (held : Held MemStore) → AreAllRead hall_schema (state over_memory held).now.trees
-    → CanFail (state over_memory held)
-    → KeepsNoRound (world_of (state over_memory held).now.trees)
-no_round held all can = go (can (memory_serves held).0)
-  where
-    go : HasReason (λ db. KeepsNoWorld db.trees) (state over_memory held)
-        → KeepsNoRound (world_of (state over_memory held).now.trees)
-    go (inl counted) = absurd (omega (arith, counted))
-    go (inr (inl shut)) = absurd (let no : false ≡ true = sym shut ∙ (memory_serves held).1 in cc)
-    go (inr (inr (inl unread))) = absurd (unread all)
-    go (inr (inr (inr rounds))) = rounds
+-- and nothing is
+never_fails : (held : Held MemStore) → ¬ (StoreCanFail (state over_memory held))
+never_fails held can = elim (can (memory_serves held).0) [
+  | inl counted ↦ omega (arith, counted)
+  | inr (inl shut) ↦ let no : false ≡ true = sym shut ∙ (memory_serves held).1 in cc
+  | inr (inr none) ↦ none
+]
 
 -- the tables that were to take the rows had none
 pub bare_like : (held : Held MemStore) → IsBareDatabase hall_schema (state over_memory held).now
@@ -202,29 +191,26 @@ module _ (source left : State) (empty : Held MemStore) (bare : IsBareDatabase ha
     copy_refused after fault migrates failed clean = go (migrates.cause clean (memory_serves after).0 failed)
       where
         go : MigrateFails source left (state over_memory empty) (state over_memory after)
-            → TablesFail old_schema source left ⊎ WorldFails source
+            → TablesFail old_schema source left ⊎ CannotCopy (old_content_of source).world
         go (inl unread) = inl unread
         go (inr (rows, own, inl (inl cause))) = absurd (no_cause empty after cause)
         go (inr (rows, own, inl (inr unread))) = absurd (unread
             (bare_read (state over_memory empty).now (bare_like empty bare)))
-        go (inr (rows, own, inr (like, cannot))) = inr (inl (rows, own, (state over_memory empty).now, like, cannot))
+        go (inr (rows, own, inr (like, cannot))) = inr (rows, own, (state over_memory empty).now, like, cannot)
 
     -- it can't be held up by what the tables in memory held before, which was nothing
     pub never_occupied : (after : Held MemStore) → (content_of (state over_memory empty)).world ≡ empty_world
         → Migrates source left (state over_memory empty) (state over_memory after) (Ok Occupied) → CopyFails source left
     never_occupied after none migrates clean = absurd ((migrates.taken clean (memory_serves after).0).some none)
 
-    -- or it was made, and was not read
+    -- or it was made, and then each of its rows is a record, so that it is read
     pub copy_unread : (filled last : Held MemStore) (count : ℕ)
         → Migrates source left (state over_memory empty) (state over_memory filled) (Ok (Done count))
         → Kept (content_of (state over_memory filled)) (content_of (state over_memory last))
-        → CanFail (state over_memory last) → CopyFails source left
+        → WholeCanFail (state over_memory last) → CopyFails source left
     copy_unread filled last count migrates kept can clean =
-        let now = memory_serves last in
-        let took = migrates.taken clean (memory_serves filled).0 in
-        let world = kept.world now.0 now.1 ∙ took.held in
-        let all = still_read (state over_memory filled) (state over_memory last) kept.writes took.read now.0 now.1 in
-        inr (inr (subst KeepsNoRound world (no_round last all can)))
+        absurd (never_fails last (reads_fail (state over_memory filled) (state over_memory last) kept
+        (λ was opens. (migrates.taken clean was).read) can))
 
 -- after each row was found to be a record
 pub old_fails : (old mid new : State) → KeptTablesIn old_schema old mid → KeptTablesIn old_schema mid new
@@ -234,14 +220,12 @@ old_fails old mid new first second serves whole fails clean =
     let was : HasCleanDisk mid = omega (arith, second.follows.lasts.clean, clean) in
     let opens = serves was in
     let world = same_world old mid first was opens in
+    let all = whole was in
     elim (fails clean) [
-      | inl unread ↦ inl (elim unread [
-        | inl cause ↦ cause_over old mid new first.follows.lasts was second.follows.lasts cause
+      | inl unread ↦ elim unread [
+        | inl cause ↦ inl (cause_over old mid new first.follows.lasts was second.follows.lasts cause)
         | inr some ↦ absurd (some (subst (λ (d : Database). AreAllRead old_schema d.trees) (sym (first.same was opens))
-            (whole was)))
-      ])
-      | inr copy ↦ inr (elim copy [
-        | inl cannot ↦ inl (subst CannotCopy world cannot)
-        | inr rounds ↦ inr (subst KeepsNoRound world rounds)
-      ])
+            all))
+      ]
+      | inr cannot ↦ inr (all, subst CannotCopy world cannot)
     ]

@@ -7,7 +7,7 @@ use Rattle.hall_grid.specs.Device.{Tally}
 use Rattle.hall_store.specs.Store.{Kept}
 use Rattle.hall_sql.specs.AllRead.{AreAllRead}
 use Rattle.hall_sql.specs.BadRows.{AreNone, AreToldBad}
-use Rattle.hall_sql.specs.CanFail.{HasReason, KeepsNoRound}
+use Rattle.hall_sql.specs.CanFail.{StoreCanFail}
 use Rattle.hall_sql.specs.Cause.{IsStoreCause}
 use Rattle.hall_sql.specs.CopyCause.{CannotCopy}
 use Rattle.hall_sql.specs.FillCause.{TablesFail}
@@ -15,7 +15,6 @@ use Rattle.hall_sql.specs.Made.{all_tables, old_tables}
 use Rattle.hall_sql.specs.Migrate.{old_content_of}
 use Rattle.hall_sql.specs.OpenedRead.{IsCauseToRead, OpensToRead, StartsToRead}
 use Rattle.hall_sql.specs.Content.{content_of}
-use Rattle.hall_sql.specs.Rows.{world_of}
 use Rattle.hall_sql.specs.Standing.{KeptTablesIn}
 use Rattle.hall_sql.specs.Tables.{hall_schema, old_schema}
 use Rattle.hall_sql.specs.declared.bad_rows.BadRows.{BadRows}
@@ -69,33 +68,21 @@ FoundStays g (Old held) last = KeptTablesIn old_schema (state g held) (state g l
 
 -- ---- why nothing was found, where it wasn't out of memory
 
--- why the world of tables of the version before isn't checked in memory: it can't be copied there, or it keeps under a
--- round's id what is no round with its lists
-abbrev pub WorldFails : State → Type 0
-WorldFails old = CannotCopy (old_content_of old).world ⊎ KeepsNoRound (old_content_of old).world
-
 -- Why nothing was found of the world of tables of the version before, where their device was honest to the end: they
--- aren't read whole, or their world isn't checked.
+-- aren't read whole, or their world can't be copied into memory.
 abbrev pub CopyFails : State → State → Type 0
-CopyFails old new = HasCleanDisk new → TablesFail old_schema old new ⊎ WorldFails old
+CopyFails old new = HasCleanDisk new → TablesFail old_schema old new ⊎ CannotCopy (old_content_of old).world
 
--- Why nothing was found of such tables: so, but a row that is no record is told, so that where they aren't read, the
--- cause lies in their store.
+-- Why nothing was found of such tables: the cause lies in their store, or each of their rows is a record, and their
+-- world can't be copied. A row that is no record is told, and so is no cause.
 abbrev pub OldFails : State → State → Type 0
-OldFails old new = HasCleanDisk new → IsStoreCause old new ⊎ WorldFails old
-
--- Why nothing was found of tables of the present version, where their device was honest to the end: the cause lies in
--- their store, or each of their rows is a record, and as they were left a fault has been counted, or they are shut, or
--- keep under a round's id what is no round with its lists. A row that is no record is told, and so is no cause.
-abbrev pub PresentFails : State → State → Type 0
-PresentFails old new =
+OldFails old new =
     HasCleanDisk new
-    → IsStoreCause old new
-    ⊎ (AreAllRead hall_schema old.now.trees × HasReason (λ db. KeepsNoRound (world_of db.trees)) new)
+    → IsStoreCause old new ⊎ (AreAllRead old_schema old.now.trees × CannotCopy (old_content_of old).world)
 
--- why nothing was found of a hall, which was left so
+-- Why nothing was found of a hall, which was left so: of tables of the present version, for nothing that they keep.
 abbrev pub FoundFails : {S : Type 0} → Ghosts S → FoundHall S → Held S → Type 0
-FoundFails g (Present held) last = PresentFails (state g held) (state g last)
+FoundFails g (Present held) last = StoreCanFail (state g last)
 FoundFails g (Old held) last = OldFails (state g held) (state g last)
 
 -- ---- the command

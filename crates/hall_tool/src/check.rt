@@ -2,11 +2,11 @@
 ghost use Rattle.std.specs.Prelude.{◌≡◌, Err, IfOk, IfErr, IsErrOf, string_bytes};
 ghost use Rattle.sqlite.specs.Held.{state};
 ghost use Rattle.hall_store.specs.Store.{Kept};
+ghost use Rattle.hall_sql.specs.CanFail.{StoreCanFail};
 ghost use Rattle.hall_sql.specs.Content.{content_of};
 ghost use Rattle.hall_sql.specs.Standing.{KeptTablesIn};
 ghost use Rattle.hall_sql.specs.Tables.{old_schema};
-ghost use Rattle.hall_tool.specs.CheckRun.{CopyFails, CopyText, IsCheckAt, OldFails, OldText, PresentFails};
-ghost use Rattle.hall_tool.specs.CheckRun.{PresentText};
+ghost use Rattle.hall_tool.specs.CheckRun.{CopyFails, CopyText, IsCheckAt, OldFails, OldText, PresentText};
 ghost use Rattle.hall_tool.specs.Machine.{files_of};
 ghost use Rattle.hall_tool.specs.Shown.{IsShownBy};
 ghost use Rattle.hall_tool.specs.Status.{IsOfMemoryOrStore};
@@ -39,7 +39,7 @@ fn world_ending<S: WholeStore>(
     ensures text { IfOk result (λ ending. ((S.content store.new).honest → (S.content store.new).serves)
         × WorldText budget (S.content store.new).honest (S.content store.old).world (string_bytes ending.line)
         ending.status) }
-    ensures fault { IsErrOf result ToolFault.Store → (S.content store.new).can_fail }
+    ensures fault { IsErrOf result ToolFault.Store → (S.content store.new).whole_can_fail }
     ensures cause { IfErr result IsOfMemoryOrStore }
 {
     match check(alloc, store, budget) {
@@ -57,7 +57,7 @@ fn present_ending<S: Alter + Drop>(
     ensures kept { Kept (content_of (state S.Store store.old)) (content_of (state S.Store store.new)) }
     ensures text { IfOk result (λ ending. PresentText budget (state S.Store store.old) (state S.Store store.new)
         (string_bytes ending.line) ending.status) }
-    ensures fault { IsErrOf result ToolFault.Store → PresentFails (state S.Store store.old) (state S.Store store.new) }
+    ensures fault { IsErrOf result ToolFault.Store → StoreCanFail (state S.Store store.new) }
     ensures cause { IfErr result IsOfMemoryOrStore }
 {
     // A row that is no record is told before any call that would fail at it.

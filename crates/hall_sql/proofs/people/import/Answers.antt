@@ -60,4 +60,5 @@ returns-in_err-import_all-clause-cause g c clean =
     fails_as c.from_residual.result _ _ c.from_residual.ensures.1 (λ failed.
     subst (λ h. ImportFails g.S.Store c.args.people.now (state g.S.Store c.args.conn.now) (state g.S.Store h))
     (sym same)
-    (whole_cause g.S.Store c.args.conn.now c.requires.hall c.live.ensures mid end was lasts (λ goes. it.cause now goes failed)))
+    (whole_cause g.S.Store c.args.conn.now c.requires.hall c.live.ensures mid end was lasts
+    (λ goes. it.cause now goes failed)))

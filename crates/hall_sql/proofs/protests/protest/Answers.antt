@@ -30,8 +30,16 @@ find-requires-clause-asks g c =
 
 pub find-requires-clause-one : goal.find-requires-clause-one
 find-requires-clause-one g c =
-    rw (c.params-to_sql.ensures, c.params-to_sql-2.ensures, c.params-to_sql-3.ensures, c.as_str.ensures.text, c.as_str-2.ensures.text, c.as_str-3.ensures.text)
-    (asks_one g.S.Store PROTEST.now (Text c.args.key.now.entrant ∷ Text c.args.key.now.round ∷ Text c.args.key.now.token ∷ []) (protest_one c.args.key.now.entrant c.args.key.now.round c.args.key.now.token))
+    rw (
+      c.params-to_sql.ensures,
+      c.params-to_sql-2.ensures,
+      c.params-to_sql-3.ensures,
+      c.as_str.ensures.text,
+      c.as_str-2.ensures.text,
+      c.as_str-3.ensures.text,
+    )
+    (asks_one g.S.Store PROTEST.now (Text c.args.key.now.entrant ∷ Text c.args.key.now.round ∷ Text c.args.key.now.token
+    ∷ []) (protest_one c.args.key.now.entrant c.args.key.now.round c.args.key.now.token))
 
 pub returns-clause-reads : goal.returns-clause-reads
 returns-clause-reads g c =

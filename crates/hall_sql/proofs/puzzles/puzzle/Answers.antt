@@ -17,7 +17,8 @@ find-requires-clause-asks g c =
 pub find-requires-clause-one : goal.find-requires-clause-one
 find-requires-clause-one g c =
     rw (c.params-to_sql.ensures, c.params-to_sql-2.ensures, c.as_str.ensures.text, c.as_str-2.ensures.text)
-    (asks_one g.S.Store PUZZLE.now (Text c.args.key.now.author ∷ Text c.args.key.now.label ∷ []) (puzzle_one c.args.key.now.author c.args.key.now.label))
+    (asks_one g.S.Store PUZZLE.now (Text c.args.key.now.author ∷ Text c.args.key.now.label ∷ [])
+    (puzzle_one c.args.key.now.author c.args.key.now.label))
 
 pub returns : goal.returns
 returns g c =

@@ -57,4 +57,5 @@ returns-in_err-put_inside-clause-cause g c clean =
     let was : HasCleanDisk (state g.S.Store c.args.conn.now) = omega (arith, it.carries.lasts.clean, now) in
     fails_as c.from_residual.result _ _ c.from_residual.ensures.1 (λ failed.
     subst (λ h. PutRoundFails c.args.row.now (state g.S.Store c.args.conn.now) (state g.S.Store h)) (sym same)
-    (whole_cause g.S.Store c.args.conn.now c.requires.hall c.live.ensures mid end was lasts (λ goes. it.cause now goes failed)))
+    (whole_cause g.S.Store c.args.conn.now c.requires.hall c.live.ensures mid end was lasts
+    (λ goes. it.cause now goes failed)))

@@ -1,4 +1,4 @@
-use Rattle.std.proofs.Common.{inl, refl}
+use Rattle.std.proofs.Common.{refl}
 use Rattle.std.specs.Prelude.{string_bytes}
 use Rattle.std.proofs.lemmas.Result.{IfOk-weaker}
 use Rattle.sqlite.specs.Held.{state}
@@ -28,8 +28,8 @@ returns-then-is_whole-clause-text g c =
     serves told) c.world_ending.ensures.text
 
 pub returns-in-Err-clause-fault : goal.returns-in-Err-clause-fault
-returns-in-Err-clause-fault g c is clean = inl (c.in-Err.ensures.cause clean
-    (store_failed c.in-Err.fault c.told.result c.told.ensures is))
+returns-in-Err-clause-fault g c is = c.in-Err.ensures.fault (store_failed c.in-Err.fault c.told.result c.told.ensures
+    is)
 
 pub returns-then-is_whole-clause-fault : goal.returns-then-is_whole-clause-fault
 returns-then-is_whole-clause-fault g c is =

@@ -25,8 +25,19 @@ find-requires-clause-asks g c =
 
 pub find-requires-clause-one : goal.find-requires-clause-one
 find-requires-clause-one g c =
-    rw (c.params-to_sql.ensures, c.params-to_sql-2.ensures, c.params-to_sql-3.ensures, c.params-to_sql-4.ensures, c.as_str.ensures.text, c.as_str-2.ensures.text, c.as_str-3.ensures.text, c.get.ensures.value)
-    (asks_one g.S.Store ANSWER.now (Text c.args.key.now.entrant ∷ Text c.args.key.now.round ∷ Int (pos c.args.key.now.number) ∷ Text c.args.key.now.token ∷ []) (answer_one c.args.key.now.entrant c.args.key.now.round c.args.key.now.number c.args.key.now.token))
+    rw (
+      c.params-to_sql.ensures,
+      c.params-to_sql-2.ensures,
+      c.params-to_sql-3.ensures,
+      c.params-to_sql-4.ensures,
+      c.as_str.ensures.text,
+      c.as_str-2.ensures.text,
+      c.as_str-3.ensures.text,
+      c.get.ensures.value,
+    )
+    (asks_one g.S.Store ANSWER.now (Text c.args.key.now.entrant ∷ Text c.args.key.now.round ∷ Int
+    (pos c.args.key.now.number) ∷ Text c.args.key.now.token ∷ []) (answer_one c.args.key.now.entrant
+    c.args.key.now.round c.args.key.now.number c.args.key.now.token))
 
 pub returns : goal.returns
 returns g c =
