@@ -6,7 +6,8 @@ use Rattle.std.proofs.lemmas.Option.{same_Some}
 use Rattle.std.proofs.lemmas.List.{append-nil}
 use Rattle.std.proofs.lemmas.List.Elements.{All-append, All-cons, All-nil}
 use Rattle.hall_http.specs.Peer.{Traffic, IsLater}
-use Rattle.hall_http.specs.Crowd.{AllLeave, AreGone, AreKept, AreStill, ComesTo, HasGone, HaveGoneSince, HaveBecome, IsAt}
+use Rattle.hall_http.specs.Crowd.{AllLeave, AreGone, AreKept, AreStill, ComesTo, HasGone, HaveGoneSince, HaveBecome}
+use Rattle.hall_http.specs.Crowd.{IsAt}
 use Rattle.hall_http.specs.Crowd.{IsHereOrGone, MayLose, Past, Receives, WasAt, number_past, traffic_past}
 use Rattle.hall_http.specs.Turns.{Turn}
 use Rattle.hall_http.specs.declared.client.Client.{Client}

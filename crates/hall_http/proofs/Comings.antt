@@ -19,7 +19,7 @@ same_count many = omega arith
 pub since_none : {P : Type 0} (before : Said P) → since before before ≡ []
 since_none before = drop_all (length before.nexts) before.nexts (omega arith)
 
-turns_more : {P : Type 0} (xs : Nexts P) (x : Next P) → turns_in (xs ++ x ∷ []) ≡ turns_in xs + turn x
+pub turns_more : {P : Type 0} (xs : Nexts P) (x : Next P) → turns_in (xs ++ x ∷ []) ≡ turns_in xs + turn x
 turns_more [] x = omega arith
 turns_more (y ∷ xs) x = omega (arith, turns_more xs x)
 

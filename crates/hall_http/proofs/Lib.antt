@@ -34,3 +34,4 @@ pub mod Crowds
 pub mod Comings
 pub mod Serving
 pub mod Wire
+pub mod Sent

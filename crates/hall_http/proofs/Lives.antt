@@ -755,7 +755,8 @@ bytes_of_lives_hide_answers world last end r a b round e xs ys texts others whol
     (served_events left.events) sane
     (served_typed whole.events whole.typed) (served_life whole.events world last whole.life)
     (served_life left.events world end left.life)
-    kept_sealed is_a is_b there alone (turns r a b xs ys whole.events left.events whole.made left.made exchange same) in (
+    kept_sealed is_a is_b there alone
+    (turns r a b xs ys whole.events left.events whole.made left.made exchange same) in (
       bytes_in last e xs whole.events texts whole.made told,
       subst (λ (gs : List Reply). AreBytesIn (is_told_request last e) ys gs others) (ap (map reply_to) (sym events))
           (bytes_in last e ys left.events others left.made told_too),

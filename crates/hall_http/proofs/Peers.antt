@@ -19,6 +19,7 @@ use Rattle.hall_http.specs.declared.connection.Connection.{Connection}
 use Rattle.hall_http.specs.declared.connection.ServeEnd.{ServeEnd}
 use Rattle.hall_http.specs.declared.connection.State.{State}
 use Rattle.hall_http.specs.declared.connection.State.TheVariants as state
+use Rattle.hall_http.specs.declared.peer.Moved.{Moved}
 use Rattle.hall_http.specs.declared.peer.Moved.TheVariants as moved
 use Rattle.hall_http.proofs.Histories.{at_the_start, heard, ended, answered, waited, refused, sent}
 use Rattle.hall_http.proofs.Rested.{no_session, rest_session, one_session, resting_then}
@@ -34,19 +35,23 @@ pub over_some : (over : Bool) (count : ℕ) → 0 < count → over_after over (m
 over_some over count some =
     let other : (count == 0) ≡ false = grind (arith, some) in ap (λ (b : Bool). if b then true else over) other
 
--- one that gave none does
-pub over_none : (over : Bool) (count : ℕ) → count ≡ 0 → over_after over (moved.Some count) ≡ true
-over_none over count none = ap (λ n. over_after over (moved.Some n)) none
-
 -- a read that gave bytes is one more that did
 pub reads_some : (reads count : ℕ) → 0 < count → reads_after reads (moved.Some count) ≡ reads + 1
 reads_some reads count some =
     let other : (count == 0) ≡ false = grind (arith, some) in
     ap (λ (b : Bool). if b then reads else reads + 1) other
 
--- one that gave none isn't
-pub reads_none : (reads count : ℕ) → count ≡ 0 → reads_after reads (moved.Some count) ≡ reads
-reads_none reads count none = ap (λ n. reads_after reads (moved.Some n)) none
+-- by such a read no more comes, and it isn't one that gave bytes
+abbrev pub TellsEnd : Moved → Type 0
+TellsEnd t = ((over : Bool) → over_after over t ≡ true) × ((reads : ℕ) → reads_after reads t ≡ reads)
+
+-- as one is that gave none
+pub gave_none : (count : ℕ) → count ≡ 0 → TellsEnd (moved.Some count)
+gave_none count none = (
+  (λ over. ap (λ n. over_after over (moved.Some n)) none),
+  (λ reads. ap (λ n. reads_after reads (moved.Some n))
+      none),
+)
 
 reads_by : (reads count : ℕ) (b : Bool) → (count == 0) ≡ b
     → (more : ℕ) × (reads_after reads (moved.Some count) ≡ reads + more) × (more ≤ count)
@@ -65,16 +70,29 @@ pub over_by : (none over : Bool) → over ≡ true → (if none then true else o
 over_by true over told = refl
 over_by false over told = told
 
--- the same connection later on
-pub later_same : (t : Traffic) → IsLater t t
-later_same t = record {
-  number = refl;
-  came = ([], sym (append-nil t.came));
-  went = ([], sym (append-nil t.went));
-  over = λ told. told;
-  broke = λ told. told;
-  hung_up = λ told. told;
+-- the same connection later on, of which this came in between, and which was sent this
+later_by : (t u : Traffic) (came went : List ℕ) → u.number ≡ t.number → u.came ≡ t.came ++ came
+    → t.reads ≤ u.reads → u.went ≡ t.went ++ went → (t.over ≡ true → u.over ≡ true) → (t.broke ≡ true → u.broke ≡ true)
+    → (t.hung_up ≡ true → u.hung_up ≡ true) → IsLater t u
+later_by t u came went number more_came reads more_went over broke hung_up = record {
+  number = number;
+  came = (came, more_came);
+  reads = reads;
+  went = (went, more_went);
+  over = over;
+  broke = broke;
+  hung_up = hung_up;
 }
+
+-- a text that is the same has none more
+none_more : (xs ys : List ℕ) → ys ≡ xs → ys ≡ xs ++ []
+none_more xs ys same = same ∙ sym (append-nil xs)
+
+-- or the same connection now
+pub later_same : (t : Traffic) → IsLater t t
+later_same t =
+    later_by t t [] [] refl (none_more _ _ refl) (omega arith) (none_more _ _ refl) (λ told. told) (λ told. told)
+    (λ told. told)
 
 pub later_as : (t u : Traffic) → u ≡ t → IsLater t u
 later_as t u same = subst (IsLater t) (sym same) (later_same t)
@@ -88,6 +106,7 @@ pub later_then : (t u v : Traffic) → IsLater t u → IsLater u v → IsLater t
 later_then t u v first second = record {
   number = second.number ∙ first.number;
   came = then_more t.came u.came v.came first.came second.came;
+  reads = omega (arith, first.reads, second.reads);
   went = then_more t.went u.went v.went first.went second.went;
   over = λ told. second.over (first.over told);
   broke = λ told. second.broke (first.broke told);
@@ -95,37 +114,21 @@ later_then t u v first second = record {
 }
 
 -- so it is after a read, a send, and once it was told that no more is sent
-pub later_read : (t u : Traffic) (piece : List ℕ) → u.number ≡ t.number → u.came ≡ t.came ++ piece
+pub later_read : (t u : Traffic) (piece : List ℕ) → u.number ≡ t.number → u.came ≡ t.came ++ piece → t.reads ≤ u.reads
     → u.went ≡ t.went → (t.over ≡ true → u.over ≡ true) → u.broke ≡ t.broke → u.hung_up ≡ t.hung_up → IsLater t u
-later_read t u piece number came went over broke hung_up = record {
-  number = number;
-  came = (piece, came);
-  went = ([], went ∙ sym (append-nil t.went));
-  over = over;
-  broke = λ told. broke ∙ told;
-  hung_up = λ told. hung_up ∙ told;
-}
+later_read t u piece number came reads went over broke hung_up =
+    later_by t u piece [] number came reads (none_more _ _ went) over (λ told. broke ∙ told) (λ told. hung_up ∙ told)
 
-pub later_sent : (t u : Traffic) (piece : List ℕ) → u.number ≡ t.number → u.came ≡ t.came → u.went ≡ t.went ++ piece
-    → u.over ≡ t.over → (t.broke ≡ true → u.broke ≡ true) → u.hung_up ≡ t.hung_up → IsLater t u
-later_sent t u piece number came went over broke hung_up = record {
-  number = number;
-  came = ([], came ∙ sym (append-nil t.came));
-  went = (piece, went);
-  over = λ told. over ∙ told;
-  broke = broke;
-  hung_up = λ told. hung_up ∙ told;
-}
+pub later_sent : (t u : Traffic) (piece : List ℕ) → u.number ≡ t.number → u.came ≡ t.came → u.reads ≡ t.reads
+    → u.went ≡ t.went ++ piece → u.over ≡ t.over → (t.broke ≡ true → u.broke ≡ true) → u.hung_up ≡ t.hung_up
+    → IsLater t u
+later_sent t u piece number came reads went over broke hung_up =
+    later_by t u [] piece number (none_more _ _ came) (omega (arith, reads)) went (λ told. over ∙ told) broke
+    (λ told. hung_up ∙ told)
 
 pub later_hung_up : (t u : Traffic) → u ≡ then_hung_up t → IsLater t u
-later_hung_up t u is = subst (IsLater t) (sym is) (record {
-  number = refl;
-  came = ([], sym (append-nil t.came));
-  went = ([], sym (append-nil t.went));
-  over = λ told. told;
-  broke = λ told. told;
-  hung_up = λ told. refl;
-})
+later_hung_up t u is = subst (IsLater t) (sym is) (later_by t (then_hung_up t) [] [] refl (none_more _ _ refl)
+    (omega arith) (none_more _ _ refl) (λ told. told) (λ told. told) (λ told. refl))
 
 -- who waits for what it is at stands rightly
 pub stands_so : {H : Type 0} (may_wait : H → List ℕ → Type 0) (k : Connection) (h : H) (s : Step) → WaitsRightly s k
@@ -429,7 +432,12 @@ module _ {P : Type 0} (traffic : P → Traffic) where
     pub turned_rests : (h i : H) (c : C) (k : Client P) (step : Step) → HasRested service.rests h i
         → IsOverRightly step (traffic k.peer) → IsTurned service traffic (h, c) k (i, c) k step
     turned_rests h i c k step rested over =
-        record { later = later_same (traffic k.peer); over = over; turned = λ xs kept. client_rests h i c xs k rested kept }
+        record {
+          later = later_same (traffic k.peer);
+          over = over;
+          turned = λ xs kept. client_rests h i c xs k rested
+              kept;
+        }
 
     -- nor did the responder rest
     pub turned_kept : (at : H × C) (k l : Client P) (step : Step) → IsClientKept traffic k l
@@ -441,7 +449,10 @@ module _ {P : Type 0} (traffic : P → Traffic) where
     }
 
     pub turned_start : (at : H × C) (k : Client P) → IsTurned service traffic at k at k step.Again
-    turned_start at k = turned_kept at k k step.Again (record { later = later_same (traffic k.peer); kept = λ xs is. is }) tt
+    turned_start at k = turned_kept at k k step.Again (record {
+      later = later_same (traffic k.peer);
+      kept = λ xs is. is;
+    }) tt
 
     pub turned_then : (before at after : H × C) (k l u : Client P) (first second : Step)
         → IsTurned service traffic before k at l first → IsTurned service traffic at l after u second

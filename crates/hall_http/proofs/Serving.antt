@@ -9,8 +9,8 @@ use Rattle.hall_desk.specs.Sane.{Sane}
 use Rattle.hall_desk.specs.Desk.{SaneThen}
 use Rattle.hall_http.specs.Connection.{Exchange, Session}
 use Rattle.hall_http.specs.Coming.{Nexts, Said, since, stays_open}
-use Rattle.hall_http.specs.Crowd.{AreAtTurns, AreHandled, AreKept, AreKeptAtTurns, AreServed, AreThose, EndUnavailable}
-use Rattle.hall_http.specs.Crowd.{AreGone, AnswersNoMore, AllLeave, AreAsSaid, HaveGone, HaveHeard, IsFor}
+use Rattle.hall_http.specs.Crowd.{AreHandled, AreKept, AreKeptAtTurns, AreServed, AreServedAtTurns, AreThose}
+use Rattle.hall_http.specs.Crowd.{AreGone, AnswersNoMore, AllLeave, AreAsSaid, EndUnavailable, HaveGone, IsFor}
 use Rattle.hall_http.specs.Crowd.{HaveGoneSince, HaveBecome, MayWaitAfter, WaitsForSearchAfter}
 use Rattle.hall_http.specs.Peer.{Traffic}
 use Rattle.hall_http.specs.Resting.{AreRests, RestingSession, after_rests, still}
@@ -217,10 +217,7 @@ module _ {D H C P : Type 0} (kept : D → H) (content : H → Content) (now_give
   )
 
   pub crowd_turned : IsSettled (content (kept h)) → AllLeave traffic s u
-      → (all : AreServed content now_gives traffic why (kept h, c) (kept i, d) u.gone.items)
-      × AreAtTurns traffic u.gone.items (since old new) all.turns
-      × HaveHeard (WaitsForSearchAfter content (kept h) (kept i) all.turns) traffic
-      (HaveGoneSince traffic u.gone.items) (stays_open why) old new all.turns
+      → AreServedAtTurns content now_gives traffic why ((kept h, c), old) ((kept i, d), new) u.gone.items
   unfolding crowd_served
   crowd_turned settled (last, is, all) =
       let grows = grows_by traffic s.gone.items last u.gone.items is in

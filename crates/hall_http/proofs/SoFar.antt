@@ -293,7 +293,8 @@ module _ {P : Type 0} (traffic : P → Traffic) where
         let same : u.gone.items ≡ s.gone.items = ap (λ (gone : Log (Closed P) (Departure × ℕ)). gone.items) gone in
         let grows = grows_same s.gone.items u.gone.items same in
         record {
-          here = λ place l at. here_still grows one place l (has_was s place (traffic l.peer) (still place l at)) (keeps place);
+          here = λ place l at. here_still grows one place l (has_was s place (traffic l.peer) (still place l at))
+              (keeps place);
           gone = subst (All (HasLeft traffic u.gone.items (steps ++ one ∷ []))) (sym same) (left_still grows one);
         }
 
@@ -303,7 +304,8 @@ module _ {P : Type 0} (traffic : P → Traffic) where
     turn_said place still lost =
         let grows = loses_grows departure.Over place s u lost in
         record {
-          here = λ other l at. here_still grows (next.Turn place) other l (has_was s other (traffic l.peer) (still other l at)) tt;
+          here = λ other l at. here_still grows (next.Turn place) other l
+              (has_was s other (traffic l.peer) (still other l at)) tt;
           gone = left_lost grows (next.Turn place) departure.Over place (next_here grows (next.Turn place) place) lost;
         }
 
@@ -313,7 +315,8 @@ module _ {P : Type 0} (traffic : P → Traffic) where
     gone_said place still free lost =
         let grows = loses_grows departure.LetGo place s u lost in
         record {
-          here = λ other l at. here_still grows (next.Gone place) other l (has_was s other (traffic l.peer) (still other l at)) (λ same.
+          here = λ other l at. here_still grows (next.Gone place) other l
+              (has_was s other (traffic l.peer) (still other l at)) (λ same.
               let clash = sym (subst (IsFree u) same free) ∙ at in
               absurd cc);
           gone = left_lost grows (next.Gone place) departure.LetGo place (next_here grows (next.Gone place) place) lost;

@@ -8,7 +8,7 @@ use Rattle.hall_http.specs.Peer.{Traffic, IsLater, IsOver, IsUntouched}
 use Rattle.hall_http.specs.Request.{ReachesStore}
 use Rattle.hall_http.specs.Steps.{StandsRightly}
 use Rattle.hall_http.specs.Turns.{Turn, Service, exchanges_of, goes_on, of, IsConnectionTold, IsClient}
-use Rattle.hall_http.specs.Coming.{Nexts, Said, AreCounted, AreDone, since}
+use Rattle.hall_http.specs.Coming.{Nexts, Said, AreCounted, AreDone, since, stays_open}
 use Rattle.hall_http.specs.declared.server.Next.TheVariants as next
 use Rattle.hall_http.specs.declared.server.Next.{Next}
 use Rattle.hall_http.specs.declared.server.ServeAllEnd.{ServeAllEnd}
@@ -217,11 +217,13 @@ WasStillHere {P} traffic gone number other =
     (front : List (Past P)) × (one : Past P) × (rest : List (Past P)) × (gone ≡ front ++ one ∷ rest)
     × (number_past traffic one ≡ number) × All (λ past. number_past traffic past ≢ other) front
 
--- After these steps the place couldn't be given to the newcomer of this number. It isn't one of those that there are; or another had
--- it, which was handed out for it before, wasn't let go since, and was still here. Or there was no memory.
+-- After these steps the place couldn't be given to the newcomer of this number. It isn't one of those that there are;
+-- or another had it, which was handed out for it before, wasn't let go since, and was still here. Or there was no
+-- memory.
 abbrev pub WasTaken : {P : Type 0} → (P → Traffic) → List (Past P) → Nexts P → ℕ → ℕ → Away → Type 0
 WasTaken traffic gone steps place number away.NoPlace =
-    (most_connections ≤ place) ⊎ ((other : ℕ) × IsFor traffic gone steps place other × WasStillHere traffic gone number other)
+    (most_connections ≤ place)
+    ⊎ ((other : ℕ) × IsFor traffic gone steps place other × WasStillHere traffic gone number other)
 WasTaken traffic gone steps place number (away.NoMemory refusal) = Unit {0}
 
 -- By what the sockets said, the connection of this number that was handed out for the place was to go so, or may have,
@@ -291,11 +293,16 @@ WentLater {P} traffic gone t =
     (front : List (Past P)) × (one : Past P) × (rest : List (Past P)) × (gone ≡ front ++ one ∷ rest)
     × IsLater t (traffic_past traffic one)
 
--- those that had gone are the first of these, and each that was here is one of them, later on
-pub record HaveGoneSince {P : Type 0} (traffic : P → Traffic) (gone : List (Past P)) (s : Clients P) : Type 0 where
+-- those that had gone are the first of these, and this became of each that was here
+pub record HaveGoneOn {P : Type 0} (traffic : P → Traffic) (gone : List (Past P)) (Became : Traffic → Type 0)
+    (s : Clients P) : Type 0 where
   pub rest : List (Past P)
   pub first : gone ≡ s.gone.items ++ rest
-  pub here : (place : ℕ) (k : Client P) → IsAt s place k → WentLater traffic gone (traffic k.peer)
+  pub here : (place : ℕ) (k : Client P) → IsAt s place k → Became (traffic k.peer)
+
+-- those that had gone are the first of these, and each that was here is one of them, later on
+abbrev pub HaveGoneSince : {P : Type 0} → (P → Traffic) → List (Past P) → Clients P → Type 0
+HaveGoneSince traffic gone = HaveGoneOn traffic gone (WentLater traffic gone)
 
 -- one that is here or has gone is the one with this traffic, later on
 abbrev pub IsHereOrGone : {P : Type 0} → (P → Traffic) → Clients P → Traffic → Type 0
@@ -303,10 +310,8 @@ IsHereOrGone {P} traffic u t =
     ((place : ℕ) × (l : Client P) × IsAt u place l × IsLater t (traffic l.peer)) ⊎ WentLater traffic u.gone.items t
 
 -- those that had gone are the first that have gone of these, and each that was here is one of these, later on
-pub record HaveBecome {P : Type 0} (traffic : P → Traffic) (u s : Clients P) : Type 0 where
-  pub rest : List (Past P)
-  pub first : u.gone.items ≡ s.gone.items ++ rest
-  pub here : (place : ℕ) (k : Client P) → IsAt s place k → IsHereOrGone traffic u (traffic k.peer)
+abbrev pub HaveBecome : {P : Type 0} → (P → Traffic) → Clients P → Clients P → Type 0
+HaveBecome traffic u = HaveGoneOn traffic u.gone.items (IsHereOrGone traffic u)
 
 -- The connections that were handed out by these steps are kept after these requests, each of which was answered at a
 -- turn; each is at its place or has gone by what was said; they became what they are known to have become; and so is
@@ -328,7 +333,7 @@ IsNoTurn (next.Turn place) = ⊥
 IsNoTurn _ = Unit {0}
 
 -- While these things were done, and these requests answered, this was heard of the turns: of each of them, in their
--- order, how whoever is at its place stands then.
+-- order, how whoever is at its place stands, by connections as they may be then.
 pub data AreHeard {P : Type 0} (may_wait : List Turn → List ℕ → Type 0) (traffic : P → Traffic) (few : ℕ)
     (became : Clients P → Type 0) : Nexts P → List Turn → List (ℕ × Step) → Type 0 where
   heard_first : AreHeard may_wait traffic few became [] [] []
@@ -361,21 +366,22 @@ AreKeptAtTurns may_wait traffic goes old new turns s =
     AreKept traffic old.count new.count turns s × AreAtTurns traffic s.gone.items (since old new) turns
     × HaveHeard may_wait traffic (HaveBecome traffic s) goes old new turns
 
--- The responder that answered the first of all requests, these, and then answered the rest of them, may keep the
--- request waiting in between.
+-- After the first of all requests, these, were answered so, and before the rest of them were, the request may be kept
+-- waiting.
+abbrev pub MayWaitBetween : {H : Type 0} → (H → List Exchange → H → Type 0) → (H → List ℕ → Type 0) → H → H → List Turn
+    → List Turn → List ℕ → Type 0
+MayWaitBetween {H} Answers may_wait before after all turns request =
+    (h : H) × (rest : List Turn) × (all ≡ turns ++ rest) × Answers before (exchanges_of turns) h
+    × Answers h (exchanges_of rest) after × may_wait h request
+
+-- so it is by a responder
 abbrev pub MayWaitAfter : {H C : Type 0} → Service H C → (H → List ℕ → Type 0) → H → H → List Turn → List Turn → List ℕ
     → Type 0
-MayWaitAfter {H} service may_wait before after all turns request =
-    (h : H) × (rest : List Turn) × (all ≡ turns ++ rest)
-    × RestingSession service.answers service.rests before (exchanges_of turns) h
-    × RestingSession service.answers service.rests h (exchanges_of rest) after × may_wait h request
+MayWaitAfter service = MayWaitBetween (RestingSession service.answers service.rests)
 
--- The store over which the first of all requests, these, were answered, and then the rest of them, is one over which
--- the request may be kept waiting for a search in between.
+-- so it is over a store, for a search
 abbrev pub WaitsForSearchAfter : {H : Type 0} → (H → Content) → H → H → List Turn → List Turn → List ℕ → Type 0
-WaitsForSearchAfter {H} content old new all turns request =
-    (h : H) × (rest : List Turn) × (all ≡ turns ++ rest) × AreAnsweredWhileOpen content old (exchanges_of turns) h
-    × AreAnsweredWhileOpen content h (exchanges_of rest) new × WaitsForSearch content h request
+WaitsForSearchAfter content = MayWaitBetween (AreAnsweredWhileOpen content) (WaitsForSearch content)
 
 -- Each request that was answered is of one of the connections, of which no two have the same number. And of each
 -- connection what came spells its requests among these, and what it was sent is a first part of the replies to them.
@@ -385,7 +391,7 @@ pub record AreConnectionsTold {P : Type 0} (traffic : P → Traffic) (turns : Li
   pub apart : AreApart traffic gone
   pub told : All (IsPast traffic turns) gone
 
--- the last of these requests was put to a store, and the reply to it is 503
+-- the last of these requests is one that is put to a store, and the reply to it is 503
 abbrev pub EndUnavailable : List Exchange → Type 0
 EndUnavailable xs =
     (front : List Exchange) × (last : Exchange) × (xs ≡ front ++ last ∷ []) × IsUnavailable last.reply
@@ -395,7 +401,7 @@ EndUnavailable xs =
 -- the store that the one before it left and that was only read since, by the replies of a run of the hall, and none
 -- after one that a store answered by 503 which serves no more. And of each connection that came, the first bytes
 -- spell its requests among these, and what it was sent is a first part of the replies to them. Where a store that was
--- shut ended it, the last request was put to the store, and its reply is 503.
+-- shut ended it, the last request is one that is put to the store, and its reply is 503.
 pub record AreServed {H C P : Type 0} (content : H → Content) (now_gives : C → Option ℕ → C → Type 0)
     (traffic : P → Traffic) (why : ServeAllEnd) (before after : H × C) (gone : List (Past P)) : Type 0 where
   pub turns : List Turn
@@ -407,6 +413,16 @@ pub record AreServed {H C P : Type 0} (content : H → Content) (now_gives : C �
   pub stops : LeavesRunOver (content before.0) (exchanges_of turns) (content after.0)
   pub shut : why ≡ end.Shut → EndUnavailable (exchanges_of turns)
   pub told : AreConnectionsTold traffic turns gone
+
+-- So they were, each at a turn of its place, by what the sockets said in the meantime, and of the turns they heard how
+-- whoever was there stood.
+abbrev pub AreServedAtTurns : {H C P : Type 0} → (H → Content) → (C → Option ℕ → C → Type 0) → (P → Traffic)
+    → ServeAllEnd → (H × C) × Said P → (H × C) × Said P → List (Past P) → Type 0
+AreServedAtTurns content now_gives traffic why (before, old) (after, new) gone =
+    (all : AreServed content now_gives traffic why before after gone)
+    × AreAtTurns traffic gone (since old new) all.turns
+    × HaveHeard (WaitsForSearchAfter content before.0 after.0 all.turns) traffic (HaveGoneSince traffic gone)
+    (stays_open why) old new all.turns
 
 -- the connections that have gone are those of these numbers
 pub record AreThose {P : Type 0} (traffic : P → Traffic) (few many : ℕ) (gone : List (Past P)) : Type 0 where

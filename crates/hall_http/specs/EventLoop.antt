@@ -20,8 +20,7 @@ said_by sockets = record {
   heard = map (λ one. one.0) sockets.schedule.places.heard.items;
 }
 
--- a newcomer has the place that was given last, which was free, and is ready there and has waited for nothing; and else
--- none was given
+-- a newcomer has the place that was given last, and is ready there and has waited for nothing; and else none was given
 abbrev pub GivesPlace : Places → Next Socket → Places → Type 0
 GivesPlace old (next.Newcomer place peer) new =
     (now : ℕ) × (new.seated.items ≡ old.seated.items ++ (place, now) ∷ [])
@@ -38,8 +37,8 @@ abbrev pub FreesPlace : Places → Next Socket → Places → Type 0
 FreesPlace old (next.Gone place) new = (now : ℕ) × (new.freed.items ≡ old.freed.items ++ (place, now) ∷ [])
 FreesPlace old _ new = new.freed.items ≡ old.freed.items
 
--- a newcomer has a place that was given to it alone, and the number after those before it; whoever goes is let go, and
--- its place is free again; and nothing is heard of a turn
+-- a newcomer has a place, and the number after those before it; whoever goes is let go, and its place is free again;
+-- and nothing is heard of a turn
 pub record HandsOut (old : Places) (said : Next Socket) (new : Places) : Type 0 where
   pub fresh : IsFreshPeer traffic_of (length old.seated.items) said
   pub count : length new.seated.items ≡ length old.seated.items + newcomer said

@@ -1,7 +1,7 @@
 -- What a connection has heard and was told, and what is true of it.
 use Rattle.std.specs.Prelude.{◌≡◌, ◌≢◌, ◌<◌, ◌≤◌, ◌+◌, ◌⊎◌, ℕ, Bool, true, false, if◌then◌else◌, List, [], ◌∷◌, ◌++◌}
 use Rattle.std.specs.Prelude.{length, take, All, Some, None}
-use Rattle.hall_http.specs.Limits.{most_reads, most_requests}
+use Rattle.hall_http.specs.Limits.{most_reads, most_requests, most_waiting}
 use Rattle.hall_http.specs.Outgoing.{outgoing_text}
 use Rattle.hall_http.specs.Connection.{Exchange, requests_of, replies_of, AreOpen}
 use Rattle.hall_http.specs.Head.{IsWholeRequest, IsUnfinished, IsUnfinishedBelow, NeverHas}
@@ -106,7 +106,7 @@ pub record HasHistory (t : ConnectionHistory) (k : Connection) : Type 0 where
   pub few : length t.exchanges ≤ most_requests
   pub reads : k.reads ≡ reads_of t
   pub seldom : reads_of t ≤ most_reads
-  pub bounded : length k.inbox ≤ 81920
+  pub bounded : length k.inbox ≤ most_waiting
   pub below : IsUnfinishedBelow k.least k.inbox
   pub inside : k.sent ≤ length (outgoing_text k.reply)
   pub stands : Stands k.state t k

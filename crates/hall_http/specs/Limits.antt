@@ -9,6 +9,10 @@ most_requests = 1000
 abbrev pub most_reads : ℕ
 most_reads = 100000
 
+-- the bytes of a connection that wait
+abbrev pub most_waiting : ℕ
+most_waiting = 81920
+
 -- the connections that are here at once
 abbrev pub most_connections : ℕ
 most_connections = 500
@@ -16,3 +20,7 @@ most_connections = 500
 -- the milliseconds between two looks at the clock that count against a patience
 abbrev pub most_counted : ℕ
 most_counted = 1000
+
+-- the milliseconds that one has waited before it may make room for a newcomer
+abbrev pub least_stay : ℕ
+least_stay = 1000

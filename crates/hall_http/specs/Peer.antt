@@ -1,5 +1,5 @@
 -- What is known of the other side of a connection.
-use Rattle.std.specs.Prelude.{◌≡◌, ◌==◌, ◌+◌, ◌⊎◌, ◌++◌, if◌then◌else◌, ℕ, Bool, true, false, List, []}
+use Rattle.std.specs.Prelude.{◌≡◌, ◌≤◌, ◌==◌, ◌+◌, ◌⊎◌, ◌++◌, if◌then◌else◌, ℕ, Bool, true, false, List, []}
 use Rattle.hall_http.specs.declared.peer.Moved.{Moved}
 use Rattle.hall_http.specs.declared.peer.Moved.TheVariants.{Some, Wait, None}
 
@@ -44,10 +44,11 @@ abbrev pub then_hung_up : Traffic → Traffic
 then_hung_up t = record t { hung_up = true }
 
 -- So it is later on, the same connection: what came of it and what it was sent by then are first parts of what came and
--- was sent in all, and what was told once is told.
+-- was sent in all, no read is taken back, and what was told once is told.
 pub record IsLater (t u : Traffic) : Type 0 where
   pub number : u.number ≡ t.number
   pub came : (more : List ℕ) × (u.came ≡ t.came ++ more)
+  pub reads : t.reads ≤ u.reads
   pub went : (more : List ℕ) × (u.went ≡ t.went ++ more)
   pub over : t.over ≡ true → u.over ≡ true
   pub broke : t.broke ≡ true → u.broke ≡ true

@@ -1,5 +1,6 @@
 -- How many places are taken, and what is known of those who are there.
 use Rattle.std.specs.Prelude.{◌≡◌, ◌≤◌, ◌+◌, ◌⊎◌, ℕ, true, List, Option, Some, None, sum_by}
+use Rattle.hall_http.specs.Limits.{least_stay}
 use Rattle.hall_http.specs.declared.client.Wish.{Wish}
 use Rattle.hall_http.specs.declared.client.Wish.TheVariants as wish
 use Rattle.hall_http.specs.declared.places.LetGo.{LetGo}
@@ -37,8 +38,9 @@ HasExpired (Searching wait) now = ⊥
 -- it may make room for a newcomer: it has waited for a second for its next request, or its request for a search; or it
 -- has ended
 abbrev pub MayMakeRoom : Visit → ℕ → Type 0
-MayMakeRoom (Waiting wait) now = ((wait.wish ≡ wish.Idle) × (wait.since + 1000 ≤ now)) ⊎ (wait.wish ≡ wish.Leaving)
-MayMakeRoom (Searching wait) now = wait.since + 1000 ≤ now
+MayMakeRoom (Waiting wait) now =
+    ((wait.wish ≡ wish.Idle) × (wait.since + least_stay ≤ now)) ⊎ (wait.wish ≡ wish.Leaving)
+MayMakeRoom (Searching wait) now = wait.since + least_stay ≤ now
 MayMakeRoom (Ready last) now = ⊥
 
 -- a connection that was let go at the millisecond had expired; or it made room, where all places were taken

@@ -4,6 +4,7 @@ use Rattle.std.specs.Prelude.{Result, Ok, Err}
 use Rattle.std.specs.Io.KnownBytes.{Appends, Consumes, IsAtEnd}
 use Rattle.hall_grid.specs.Device.{MadeCalls}
 use Rattle.hall_store.specs.Store.{Content, IsSettled, Leads}
+use Rattle.hall_http.specs.Limits.{most_waiting}
 use Rattle.hall_http.specs.declared.fault.ReplayFault.{ReplayFault}
 use Rattle.hall_http.specs.declared.fault.ReplayFault.TheVariants as fault
 use Rattle.hall_http.specs.Device.{WritesPart, NoneFailed, ReadFailed, WriteFailed}
@@ -91,5 +92,5 @@ pub record IsReplayed {H U : Type 0} (content : H → Content) (stream after wro
   pub made : MadeCalls reads asked asks
   pub reading : HaveReadRecords records pieces unread
   pub consumed : Consumes stream after (records_of records ++ unread)
-  pub bounded : length unread ≤ 81920
+  pub bounded : length unread ≤ most_waiting
   pub ended : ReplayEnded end after wrote written records unread pieces reads failed fails broke breaks

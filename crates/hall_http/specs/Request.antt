@@ -179,6 +179,7 @@ abbrev pub AsksNothing : List ℕ → Type 0
 AsksNothing bytes =
     ¬ (AsksRequest bytes) ⊎ ((request : Request) × RequestOf bytes (Ok request) × IsNobodys request)
 
--- the request is put to the store: the clock told a moment for it, and it is one of the hall that somebody may make
+-- the request is one that is put to the store: the clock told a moment for it, and it is one of the hall that somebody
+-- may make
 abbrev pub ReachesStore : Option ℕ → List ℕ → Type 0
 ReachesStore moment bytes = (moment ≢ None) × ¬ (AsksNothing bytes)

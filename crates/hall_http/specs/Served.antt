@@ -4,7 +4,7 @@ use Rattle.std.specs.Io.KnownBytes.{Appends, Consumes, IsAtEnd}
 use Rattle.serde_json.specs.Written.{compact_text}
 use Rattle.hall_grid.specs.Device.{MadeCalls, Tally}
 use Rattle.hall_store.specs.Store.{Content, IsSettled, Leads}
-use Rattle.hall_http.specs.Limits.{most_reads, most_requests}
+use Rattle.hall_http.specs.Limits.{most_reads, most_requests, most_waiting}
 use Rattle.hall_http.specs.Head.{IsWholeRequest, IsUnfinished, NeverHas}
 use Rattle.hall_http.specs.Reading.{Reading, IsLastRead}
 use Rattle.hall_http.specs.Device.{WritesPart, NoneFailed, ReadFailed, WriteFailed}
@@ -133,7 +133,7 @@ pub record IsHandled {H C : Type 0} (answers : H → Option ℕ → List ℕ →
   pub made : MadeCalls reads old.reads new.reads
   pub reading : HaveRead exchanges pieces unread
   pub consumed : Consumes old.left new.left (requests_of exchanges ++ unread)
-  pub bounded : length unread ≤ 81920
+  pub bounded : length unread ≤ most_waiting
   pub ended : ConnectionEnded end old new exchanges unread pieces reads
 
 -- The stream was read, in at most 100,000 reads, as at most 1,000 requests and then this rest, the requests were
@@ -157,5 +157,5 @@ pub record IsServed {H C : Type 0} (content : H → Content) (now_gives : C → 
   pub made : MadeCalls reads old.reads new.reads
   pub reading : HaveRead exchanges pieces unread
   pub consumed : Consumes old.left new.left (requests_of exchanges ++ unread)
-  pub bounded : length unread ≤ 81920
+  pub bounded : length unread ≤ most_waiting
   pub ended : ConnectionEnded end old new exchanges unread pieces reads

@@ -1,6 +1,7 @@
 -- The steps of a connection.
 use Rattle.std.specs.Prelude.{◌≡◌, ◌≢◌, ◌<◌, ◌+◌, ◌==◌, ◌⊎◌, ℕ, Bool, true, false, if◌then◌else◌, List, [], ◌∷◌, ◌++◌}
 use Rattle.std.specs.Prelude.{length, take, drop, Option, Some, None}
+use Rattle.hall_http.specs.Limits.{most_reads, most_requests}
 use Rattle.hall_http.specs.Answered.{IsUnavailable}
 use Rattle.hall_http.specs.Outgoing.{outgoing_text}
 use Rattle.hall_http.specs.Request.{ReachesStore}
@@ -52,17 +53,17 @@ IsAfterSending k count l =
 -- what comes after the reply to a request that closes the connection or doesn't, the so many-th
 abbrev pub then_of : Bool → ℕ → Option ServeEnd
 then_of true requests = Some end.Closed
-then_of false requests = if requests == 1000 then Some end.Limit else None
+then_of false requests = if requests == most_requests then Some end.Limit else None
 
 -- after a request the connection ends where it closes it, or where it was the last that may come
 abbrev pub EndsAfter : List ℕ → ℕ → Option ServeEnd → Type 0
 EndsAfter request requests (Some end.Closed) = IsClosing request
-EndsAfter request requests (Some end.Limit) = LeavesOpen request × (requests ≡ 1000)
-EndsAfter request requests None = LeavesOpen request × (requests ≢ 1000)
+EndsAfter request requests (Some end.Limit) = LeavesOpen request × (requests ≡ most_requests)
+EndsAfter request requests None = LeavesOpen request × (requests ≢ most_requests)
 EndsAfter request requests (Some _) = ⊥
 
 -- A responder that goes on answers a request. Where it still goes on then, it can; and where it doesn't, the reply is
--- 503, to a request that was put to the store at a moment.
+-- 503, to a request that is put to the store at a moment.
 abbrev pub gated : {H : Type 0} → (H → Option ℕ → List ℕ → List ℕ → H → Type 0) → (H → List ℕ → H → Type 0)
     → H × Bool → Option ℕ → List ℕ → List ℕ → H × Bool → Type 0
 gated answers goes_on h moment request reply i =
@@ -95,7 +96,7 @@ pub record Waits (k l : Connection) : Type 0 where
   pub below : IsUnfinishedBelow l.least k.inbox
   pub left : l ≡ record k {
     least = l.least;
-    state = if k.reads == 100000 then state.Ended end.Limit else state.Reading;
+    state = if k.reads == most_reads then state.Ended end.Limit else state.Reading;
   }
 
 -- no bytes can make a request of what waits: it is refused

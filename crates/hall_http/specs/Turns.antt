@@ -1,6 +1,7 @@
 -- Many connections, and what each was told.
 use Rattle.std.specs.Prelude.{◌≡◌, ◌≢◌, ◌≤◌, ◌==◌, ◌+◌, ◌⊎◌, ℕ, List, [], ◌∷◌, ◌++◌, length, map, filter, All}
 use Rattle.std.specs.Prelude.{Option, Some, None, Bool, true, false}
+use Rattle.hall_http.specs.Limits.{most_reads, most_requests, most_waiting}
 use Rattle.hall_http.specs.Served.{HaveRead, MayGoOn, refusal}
 use Rattle.hall_http.specs.Connection.{Exchange, AreMoments, AreOpen, requests_of, replies_of}
 use Rattle.hall_http.specs.Resting.{RestingSession, still}
@@ -66,17 +67,17 @@ pub record IsConnectionTold (xs : List Exchange) (t : Traffic) : Type 0 where
   pub spelled : t.came ≡ requests_of xs ++ rest
   pub whole : All (λ x. IsWholeRequest x.request) xs
   pub opened : AreOpenButLast xs
-  pub few : length xs ≤ 1000
+  pub few : length xs ≤ most_requests
   pub pieces : ℕ
   pub unread : List ℕ
   pub off : List ℕ
   pub read_off : ℕ
   pub told : AreSent xs t.went ⊎ (IsRefusedAfter xs t.went × IsRefusedRightly xs unread t.over × HasNoWholeRequest rest)
-  pub seldom : pieces ≤ 100000
+  pub seldom : pieces ≤ most_reads
   pub counted : t.reads ≡ pieces + read_off
   pub some_off : read_off ≤ length off
   pub reading : HaveRead xs pieces unread
-  pub bounded : length unread ≤ 81920
+  pub bounded : length unread ≤ most_waiting
   pub parts : rest ≡ unread ++ off
   pub quiet : (off ≡ []) ⊎ HasEnded xs pieces false unread t.went
   pub closes : t.hung_up ≡ true

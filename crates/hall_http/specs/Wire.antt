@@ -1,5 +1,5 @@
 -- What the bytes on some connections tell to one key.
-use Rattle.std.specs.Prelude.{◌≡◌, ◌&&◌, ◌⊎◌, ℕ, Bool, true, List, [], ◌∷◌, map, filter, Some, All}
+use Rattle.std.specs.Prelude.{◌≡◌, ◌==◌, ◌&&◌, ◌⊎◌, ◌++◌, ℕ, Bool, true, List, [], ◌∷◌, map, filter, Some, All}
 use Rattle.std.specs.Prelude.{IsTrue, if◌then◌else◌}
 use Rattle.std.specs.FinMap.{get}
 use Rattle.hall_policy.specs.World.{World}
@@ -15,7 +15,8 @@ use Rattle.hall_desk.specs.declared.reply.Reply.{Reply}
 use Rattle.hall_http.specs.Serving.{IsRunOver}
 use Rattle.hall_http.specs.Told.{AsksFor, AsksForOther, AreRepliesTold, AllServed, ComesAgain, is_others, AreWithout}
 use Rattle.hall_http.specs.Told.{ComesExchanged, AreExchanged, AreBytesExchanged}
-use Rattle.hall_http.specs.Turns.{Turn, exchanges_of}
+use Rattle.hall_http.specs.Peer.{Traffic}
+use Rattle.hall_http.specs.Turns.{Turn, IsConnectionTold, exchanges_of, of}
 
 -- whether a request has the key
 abbrev pub shows : List ℕ → Request → Bool
@@ -90,6 +91,24 @@ WireHidesOthersOn =
     replies_where (λ asked. stays last e asked && certifies asked) whole.requests whole.replies
     ≡ replies_where certifies left.requests left.replies →
     ShowNoOther e.key mine turns → replies_on mine turns ≡ replies_on yours others
+
+-- the bytes are a first part of these
+abbrev pub IsFirstPart : List ℕ → List ℕ → Type 0
+IsFirstPart part all = (rest : List ℕ) × (all ≡ part ++ rest)
+
+-- What a connection was sent that shows e's key and no other, and what it was sent where the requests of others who
+-- hold the role entrant alone didn't come, are first parts of the same bytes. How far they go isn't said.
+abbrev pub SentHidesOthers : Type 0
+SentHidesOthers =
+    (world last end : World) (e : Person) (turns others : List Turn) (m n : ℕ) (t u : Traffic) →
+    (whole : IsRunOver world (exchanges_of turns) last) (left : IsRunOver world (exchanges_of others) end) →
+    Sane world → get last.people e.name ≡ Some e → IsTrue (is_entrant_alone e) →
+    AreWithoutOn last e (λ k. k == m) (λ k. k == n) turns others → AllServed (exchanges_of turns) →
+    AllServed (exchanges_of others) → All GrantsNoPublication whole.replies → All GrantsNoPublication left.replies →
+    replies_where (λ asked. stays last e asked && certifies asked) whole.requests whole.replies
+    ≡ replies_where certifies left.requests left.replies →
+    ShowNoOther e.key (λ k. k == m) turns → IsConnectionTold (of m turns) t → IsConnectionTold (of n others) u →
+    (all : List ℕ) × IsFirstPart t.went all × IsFirstPart u.went all
 
 -- each of the first list comes exchanged in the second, in their order; and what came on these connections, and
 -- nothing else, comes on those

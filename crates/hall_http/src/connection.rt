@@ -2,7 +2,7 @@
 //! be told is handed out.
 ghost use Rattle.std.specs.Prelude.{◌≡◌, ◌≤◌, ◌<◌, ◌+◌, ℕ, Option, length, true, false};
 ghost use Rattle.hall_http.specs.Head.{IsUnfinishedBelow};
-ghost use Rattle.hall_http.specs.Limits.{most_reads, most_requests};
+ghost use Rattle.hall_http.specs.Limits.{most_reads, most_requests, most_waiting};
 ghost use Rattle.hall_http.specs.Outgoing.{outgoing_text};
 ghost use Rattle.hall_http.specs.Resting.{HasRested};
 ghost use Rattle.hall_http.specs.Steps.{pending, fresh, IsAfterHearing, IsAfterSending, IsAfterEnd, Looks, gated};
@@ -123,7 +123,7 @@ impl Connection {
 
     /// Hears some more bytes, which one read gave.
     pub(crate) fn hear(&mut self, piece: &[u8])
-        requires room { length self.old.inbox + length piece.now ≤ 81920 }
+        requires room { length self.old.inbox + length piece.now ≤ most_waiting }
         requires few { self.old.reads ≤ most_reads }
         ensures { IsAfterHearing self.old piece.now self.new }
     {

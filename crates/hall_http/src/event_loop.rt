@@ -128,6 +128,7 @@ impl<'r, N, E> EventLoop<'r, N, E> {
 }
 
 impl<'r, N: time::Clock, E: Write> Sockets for EventLoop<'r, N, E> {
+    ghost use Rattle.hall_http.specs.Coming.{Hears};
     ghost use Rattle.hall_http.specs.EventLoop.{said_by};
 
     type Peer = Socket;
@@ -142,11 +143,17 @@ impl<'r, N: time::Clock, E: Write> Sockets for EventLoop<'r, N, E> {
         next
     }
 
-    fn stands(&mut self, place: usize, step: Step) {
+    fn stands(&mut self, place: usize, step: Step)
+        ensures heard { Hears (place, step) (said_by self.old) (said_by self.new) }
+        ensures elapsed { self.new.schedule.places.elapsed ≡ self.old.schedule.places.elapsed }
+    {
         self.schedule.stands(place, step);
     }
 
-    fn hear_of_writes(&mut self, refuses_writes: bool) {
+    fn hear_of_writes(&mut self, refuses_writes: bool)
+        ensures said { said_by self.new ≡ said_by self.old }
+        ensures places { self.new.schedule.places ≡ self.old.schedule.places }
+    {
         if refuses_writes == self.refuses_writes {
             return;
         }
@@ -221,8 +228,22 @@ impl<'r, N> Schedule<'r, N> {
         ensures { MayHandOut self.old.places result self.new.places }
     {
         self.places.let_go(place);
+        self.forget_search(place);
         self.try_again();
         Some(Next::Gone(place))
+    }
+
+    /// Whoever gets the place next has asked for no more work yet.
+    fn forget_search(&mut self, place: usize)
+        ensures { self.new.places ≡ self.old.places }
+    {
+        for _one in 0..self.searching.len() {
+            if let Some(queued) = self.searching.pop_front()
+                && queued != place
+            {
+                let _queued = self.searching.push_back(queued);
+            }
+        }
     }
 
     /// Newcomers for whom there was no place may get one.
@@ -406,7 +427,7 @@ impl<'r, N> Schedule<'r, N> {
                 .register(&mut stream, Token(place), interests)
         });
         if set.is_err() {
-            self.places.lose(&stream);
+            self.places.lose(stream);
             return None;
         }
         let before = self.places.seat(place);

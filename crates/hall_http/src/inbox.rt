@@ -2,6 +2,7 @@
 ghost use Rattle.std.specs.Prelude.{◌≡◌, ◌≤◌, ◌<◌, ◌+◌, ◌++◌, [], drop, length};
 ghost use Rattle.std.specs.Prelude.{IfOk, OnOk, OnErr, vec_len, vec_capacity};
 ghost use Rattle.hall_grid.specs.Device.{Rises};
+ghost use Rattle.hall_http.specs.Limits.{most_waiting};
 ghost use Rattle.hall_http.specs.Inbox.{ReadsMore};
 
 use hall_grid::Counted;
@@ -39,12 +40,13 @@ pub struct NoInbox {
 
 impl Model for Inbox {
     ghost use Rattle.std.specs.Prelude.{◌≤◌, List, ℕ, drop, vec_len, vec_capacity};
+    ghost use Rattle.hall_http.specs.Limits.{most_waiting};
 
     ghost Value = { List ℕ };
 
     ghost view = { λ inbox. drop inbox.passed inbox.bytes.items };
 
-    ghost invariant = { λ inbox. (inbox.passed ≤ vec_len inbox.bytes) × (81920 ≤ vec_capacity inbox.bytes) };
+    ghost invariant = { λ inbox. (inbox.passed ≤ vec_len inbox.bytes) × (most_waiting ≤ vec_capacity inbox.bytes) };
 }
 
 impl Inbox {
@@ -112,7 +114,7 @@ impl Inbox {
     /// Puts some more bytes behind those that are left.
     pub(crate) fn add(&mut self, piece: &[u8]) -> Result<(), AllocError>
         ensures all { OnOk result (self.new ≡ self.old ++ piece.now) }
-        ensures full { OnErr result (81920 < length self.old + length piece.now) }
+        ensures full { OnErr result (most_waiting < length self.old + length piece.now) }
     {
         take_front(&mut self.bytes, self.passed);
         self.passed = 0;

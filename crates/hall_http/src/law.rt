@@ -4,7 +4,8 @@ ghost use Rattle.hall_http.specs.Laws.{AreOneListOfRequests, AreOneListOfRecords
 ghost use Rattle.hall_http.specs.Lives.{RunsOverAreLives, BytesOfLivesHideOthers, BytesOfLivesHideAnswers};
 ghost use Rattle.hall_http.specs.Serving.{AreAnswered, AreAnsweredWhileOpen};
 ghost use Rattle.hall_http.specs.Told.{HasOneSpelling, RefusalsTellNothing, BytesHideOthers, BytesHideAnswers};
-ghost use Rattle.hall_http.specs.Wire.{WireHidesOthers, WireHidesAnswers, WireHidesOthersOn, WireHidesAnswersOn};
+ghost use Rattle.hall_http.specs.Wire.{SentHidesOthers, WireHidesOthers, WireHidesAnswers, WireHidesOthersOn};
+ghost use Rattle.hall_http.specs.Wire.{WireHidesAnswersOn};
 
 use hall_store::ReadStore;
 
@@ -72,10 +73,12 @@ pub fn law_lives()
 /// in the other. So each connection of an entrant by itself has the same replies.
 ///
 /// What was sent on a connection is a first part of its replies, or all of them and then the reply to bytes that are
-/// no request. Nothing is said of time, nor of the order of what is sent on different connections.
+/// no request. So `sent` says that what a connection of an entrant was sent in the two runs are first parts of the same
+/// bytes. Nothing is said of time, nor of the order of what is sent on different connections.
 pub fn law_wire()
     ensures others { WireHidesOthers }
     ensures answers { WireHidesAnswers }
     ensures others_on { WireHidesOthersOn }
     ensures answers_on { WireHidesAnswersOn }
+    ensures sent { SentHidesOthers }
 {}

@@ -288,15 +288,15 @@ impl Places {
         mem::replace(&mut self.seated, seated)
     }
 
-    /// A newcomer can't be set up.
-    pub(crate) fn lose(&mut self, stream: &TcpStream)
+    /// A newcomer can't be set up, and is let go of here, so that it gets no place any more.
+    pub(crate) fn lose(&mut self, stream: TcpStream)
         requires { self.old.here < self.old.left }
         ensures still { AreStill self.old self.new }
-        ensures lost { LosesOne self.old stream.now self.new }
+        ensures lost { LosesOne self.old stream self.new }
         ensures elapsed { self.new.elapsed ≡ self.old.elapsed }
     {
         self.left -= 1;
-        self.lost = self.lost.and(stream, &self.elapsed);
+        self.lost = self.lost.and(&stream, &self.elapsed);
     }
 
     /// The connection at the place is let go.

@@ -7,9 +7,9 @@ ghost use Rattle.hall_http.specs.declared.server.Next.TheVariants as Next;
 ghost use Rattle.hall_desk.specs.Desk.{kept_by, SaneThen};
 ghost use Rattle.hall_desk.specs.Sane.{Sane};
 ghost use Rattle.hall_desk.specs.Promises.{HasUniqueSolutions, RightAnswersAreSolutions};
-ghost use Rattle.hall_http.specs.Crowd.{Admits, AreAsSaid, AreAtTurns, AreHandled, AreKept, AreKeptAtTurns};
-ghost use Rattle.hall_http.specs.Crowd.{AreServed, AreSomeKept, EndsServing, HaveGoneSince, HaveHeard, IsAt, IsFree, MayLose};
-ghost use Rattle.hall_http.specs.Crowd.{MayWaitAfter, Receives, Serves, WaitsForSearchAfter};
+ghost use Rattle.hall_http.specs.Crowd.{Admits, AreAsSaid, AreHandled, AreKept, AreKeptAtTurns, AreServedAtTurns};
+ghost use Rattle.hall_http.specs.Crowd.{AreSomeKept, EndsServing, IsAt, IsFree, MayLose, MayWaitAfter, Receives};
+ghost use Rattle.hall_http.specs.Crowd.{Serves};
 ghost use Rattle.hall_http.specs.Peer.{IsUntouched};
 ghost use Rattle.hall_http.specs.declared.clients.Departure.TheVariants as Departure;
 ghost use Rattle.hall_http.specs.Coming.{AreAllHeard, AreDone, Hears, IsFreshPeer, Said, newcomer, since, stays_open};
@@ -94,11 +94,9 @@ pub fn serve_all<S: Store, N: Sockets, C: Clock>(
     clock: &mut C,
 ) -> Result<(ServeAllEnd, Gone<N::Peer>), AllocError>
     requires { AreAllHeard (N.said sockets.old) }
-    ensures served { IfOk result (λ served. (all : AreServed S.content C.now_gives N.Peer.traffic served.0
-        (kept_by desk.old, clock.old) (kept_by desk.new, clock.new) served.1.items)
-        × AreAtTurns N.Peer.traffic served.1.items (since (N.said sockets.old) (N.said sockets.new)) all.turns
-        × HaveHeard (WaitsForSearchAfter S.content (kept_by desk.old) (kept_by desk.new) all.turns) N.Peer.traffic
-        (HaveGoneSince N.Peer.traffic served.1.items) (stays_open served.0) (N.said sockets.old) (N.said sockets.new) all.turns) }
+    ensures served { IfOk result (λ served. AreServedAtTurns S.content C.now_gives N.Peer.traffic served.0
+        ((kept_by desk.old, clock.old), N.said sockets.old) ((kept_by desk.new, clock.new), N.said sockets.new)
+        served.1.items) }
     ensures ended { IfOk result (λ served. EndsServing N.is_over N.said N.Peer.traffic served.0
         sockets.old sockets.new served.1.items) }
     ensures memory { OnErr result ((desk.new ≡ desk.old) × (sockets.new ≡ sockets.old) × (clock.new ≡ clock.old)) }
@@ -124,11 +122,9 @@ fn serve_clients<S: Store, N: Sockets, C: Clock>(
     requires heard { AreAllHeard (N.said sockets.old) }
     requires none { AreKept N.Peer.traffic (N.said sockets.old).count (N.said sockets.old).count [] clients.old }
     requires long { length clients.old.places.items ≡ most_connections }
-    ensures served { (all : AreServed S.content C.now_gives N.Peer.traffic result
-        (kept_by desk.old, clock.old) (kept_by desk.new, clock.new) clients.new.gone.items)
-        × AreAtTurns N.Peer.traffic clients.new.gone.items (since (N.said sockets.old) (N.said sockets.new)) all.turns
-        × HaveHeard (WaitsForSearchAfter S.content (kept_by desk.old) (kept_by desk.new) all.turns) N.Peer.traffic
-        (HaveGoneSince N.Peer.traffic clients.new.gone.items) (stays_open result) (N.said sockets.old) (N.said sockets.new) all.turns }
+    ensures served { AreServedAtTurns S.content C.now_gives N.Peer.traffic result
+        ((kept_by desk.old, clock.old), N.said sockets.old) ((kept_by desk.new, clock.new), N.said sockets.new)
+        clients.new.gone.items }
     ensures ended { EndsServing N.is_over N.said N.Peer.traffic result
         sockets.old sockets.new clients.new.gone.items }
     ensures sane { SaneThen Sane (S.content (kept_by desk.old)) (S.content (kept_by desk.new)) }

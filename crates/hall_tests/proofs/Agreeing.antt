@@ -1,14 +1,11 @@
 -- Sockets that hand on what others say agree with them in their turns.
 use Rattle.std.proofs.Common.{◌≡◌, ◌⊎◌, inl, inr, ap, arith, ℕ, ◌+◌, List, [], ◌∷◌, ◌++◌, length, length-append}
-use Rattle.hall_http.specs.Coming.{Nexts, Said, AreAllHeard, Hears, turn, turns_in}
+use Rattle.hall_http.specs.Coming.{Nexts, Said, AreAllHeard, Hears, turns_in}
 use Rattle.hall_http.specs.declared.client.Step.{Step}
 use Rattle.hall_http.specs.declared.server.Next.{Next}
 use Rattle.hall_http.specs.declared.server.Next.TheVariants as next
+use Rattle.hall_http.proofs.Comings.{turns_more}
 use Rattle.hall_tests.specs.Brief.{AgreeInTurns}
-
-turns_more : {P : Type 0} (xs : Nexts P) (x : Next P) → turns_in (xs ++ x ∷ []) ≡ turns_in xs + turn x
-turns_more [] x = omega arith
-turns_more (y ∷ xs) x = omega (arith, turns_more xs x)
 
 module _ {P : Type 0} (nexts : Nexts P) (heard : List (ℕ × Step)) (old : Said P) (agree : AgreeInTurns nexts heard old)
   where

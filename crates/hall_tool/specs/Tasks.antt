@@ -5,9 +5,7 @@ use Rattle.hall_grid.specs.Device.{Tally}
 use Rattle.hall_store.specs.Store.{Content, Kept}
 use Rattle.hall_desk.specs.Census.{census_of}
 use Rattle.hall_desk.specs.declared.census.Census.{Census}
-use Rattle.hall_http.specs.Coming.{since, stays_open}
-use Rattle.hall_http.specs.Crowd.{AreAtTurns, AreServed, EndsServing, HaveGoneSince, HaveHeard, Past}
-use Rattle.hall_http.specs.Crowd.{WaitsForSearchAfter}
+use Rattle.hall_http.specs.Crowd.{AreServedAtTurns, EndsServing, Past}
 use Rattle.hall_http.specs.declared.server.ServeAllEnd.{ServeAllEnd}
 use Rattle.hall_http.specs.declared.server.ServeAllEnd.TheVariants as end
 use Rattle.hall_tool.specs.InitText.{IsInitRun}
@@ -85,10 +83,8 @@ DoesServe {N} {L} {C} {P} {S} h content offered before after result =
     × IsCensusTaken (content before.stand.kept) (content later) census
     × h.host.tells listening offered.port offered.path census told × h.host.shows told clock
     × (((left : L) × (late : C) × (gone : List (Past P)) × (e : ServeAllEnd)
-    × ((all : AreServed content h.clock.now_gives h.peer.traffic e (later, clock) (after.stand.kept, late) gone)
-    × AreAtTurns h.peer.traffic gone (since (h.sockets.said sockets) (h.sockets.said left)) all.turns
-    × HaveHeard (WaitsForSearchAfter content later after.stand.kept all.turns) h.peer.traffic
-    (HaveGoneSince h.peer.traffic gone) (stays_open e) (h.sockets.said sockets) (h.sockets.said left) all.turns)
+    × AreServedAtTurns content h.clock.now_gives h.peer.traffic e ((later, clock), h.sockets.said sockets)
+    ((after.stand.kept, late), h.sockets.said left) gone
     × EndsServing h.sockets.is_over h.sockets.said h.peer.traffic e sockets left gone
     × h.host.ends told left gone after.host × (result ≡ serve_end e))
     ⊎ (h.host.ends told sockets [] after.host × (after.stand.kept ≡ later) × (result ≡ Err (Tool Memory)))))

@@ -51,7 +51,8 @@ loop-step-preserved g c =
             so_far = handled_admits _ g.S.Peer.Peer.traffic (λ h. g.H.Responder.may_wait h.0) old now _ _ _ so_far then
                 clients
                 (receives_passes g.S.Peer.Peer.traffic now.count place w.in-Newcomer.peer c.loop-step.clients clients
-                w.in-Newcomer.ensures.fresh.0 w.let_in.ensures.admits.0 w.let_in.ensures.receives) one more place w.in-Newcomer.peer w.in-Newcomer.ensures.fresh.0
+                w.in-Newcomer.ensures.fresh.0 w.let_in.ensures.admits.0 w.let_in.ensures.receives) one more place
+                w.in-Newcomer.peer w.in-Newcomer.ensures.fresh.0
                 w.in-Newcomer.ensures.count w.in-Newcomer.ensures.heard tt w.let_in.ensures.admits;
             said = said_comes g.S.Peer.Peer.traffic old now c.loop-step.clients then one more said clients
                 c.loop-step.invariant.long place w.in-Newcomer.peer (so_far.holds.0.numbered.left place) refl
@@ -107,7 +108,8 @@ loop-step-preserved g c =
             so_far = handled_keeps _ g.S.Peer.Peer.traffic (λ h. g.H.Responder.may_wait h.0) old now _ _ _ so_far then
                 clients
                 (loses_passes g.S.Peer.Peer.traffic now.count departure.LetGo place c.loop-step.clients clients
-                w.forget.ensures.kept.0 w.forget.ensures.lost) one more (w.in-Gone.ensures.count ∙ same_count _) w.in-Gone.ensures.heard tt
+                w.forget.ensures.kept.0 w.forget.ensures.lost) one more (w.in-Gone.ensures.count ∙ same_count _)
+                w.in-Gone.ensures.heard tt
                 w.forget.ensures.kept;
             said = said_gone g.S.Peer.Peer.traffic old now c.loop-step.clients then one more said clients place refl
                 w.forget.ensures.kept.0 w.forget.ensures.none w.forget.ensures.lost;

@@ -9,15 +9,17 @@ returns-in-Some g c =
     let whole : length bytes ≡ c.in-Some.field-0 =
     length-take-le c.in-Some.field-0 c.receive.new.chunk
     (omega (arith, c.receive.array_long, c.in-Some.ensures.bound)) in
-    let (some, rise, few) = reads_more (g.P.Peer.traffic c.args.self.now.peer).reads c.in-Some.field-0 in (
+    let (some, rise, few) = reads_more (g.P.Peer.traffic c.args.self.now.peer).reads c.in-Some.field-0 in
+    let reads = c.in-Some.ensures.reads ∙ rise in (
       refl,
       record {
-        later = later_read _ _ _ c.in-Some.ensures.number c.in-Some.ensures.came c.in-Some.ensures.went
-            (λ told. c.in-Some.ensures.over ∙ over_by _ _ told) c.in-Some.ensures.broke c.in-Some.ensures.hung_up;
+        later = later_read _ _ _ c.in-Some.ensures.number c.in-Some.ensures.came (omega (arith, reads))
+            c.in-Some.ensures.went (λ told. c.in-Some.ensures.over ∙ over_by _ _ told) c.in-Some.ensures.broke
+            c.in-Some.ensures.hung_up;
         kept = λ xs is.
             client_left g.P.Peer.traffic _ _ _ _ xs is c.args.self.now.connection _ c.requires.at.0 _ _ c.requires.at.1
             c.requires.unended c.in-Some.ensures.came
-            (some, c.in-Some.ensures.reads ∙ rise, omega (arith, whole, few)) c.in-Some.ensures.went
+            (some, reads, omega (arith, whole, few)) c.in-Some.ensures.went
             (λ over. let clash = sym c.requires.unended ∙ over in absurd cc) c.in-Some.ensures.hung_up;
       },
       tt,
@@ -28,8 +30,8 @@ pub returns-in-None : goal.returns-in-None
 returns-in-None g c = (
   refl,
   record {
-    later = later_read _ _ _ c.in-None.ensures.number c.in-None.ensures.came c.in-None.ensures.went
-        (λ told. c.in-None.ensures.over) c.in-None.ensures.broke c.in-None.ensures.hung_up;
+    later = later_read _ _ _ c.in-None.ensures.number c.in-None.ensures.came (omega (arith, c.in-None.ensures.reads))
+        c.in-None.ensures.went (λ told. c.in-None.ensures.over) c.in-None.ensures.broke c.in-None.ensures.hung_up;
     kept = λ xs is.
         client_left g.P.Peer.traffic _ _ _ _ xs is c.args.self.now.connection _ c.requires.at.0 _ _ c.requires.at.1
         c.requires.unended c.in-None.ensures.came (0, c.in-None.ensures.reads ∙ omega arith, omega arith)

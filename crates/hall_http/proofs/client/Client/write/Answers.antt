@@ -34,8 +34,8 @@ pub returns-in-None : goal.returns-in-None
 returns-in-None g c = (
   refl,
   record {
-    later = later_sent _ _ _ c.in-None.ensures.number c.in-None.ensures.came c.in-None.ensures.went
-        c.in-None.ensures.over (λ told. c.in-None.ensures.broke) c.in-None.ensures.hung_up;
+    later = later_sent _ _ _ c.in-None.ensures.number c.in-None.ensures.came c.in-None.ensures.reads
+        c.in-None.ensures.went c.in-None.ensures.over (λ told. c.in-None.ensures.broke) c.in-None.ensures.hung_up;
     kept = λ xs is.
         client_waits g.P.Peer.traffic _ _ _ _ xs is c.args.self.now.connection _ c.in-None.ensures.came
         c.in-None.ensures.reads (c.in-None.ensures.went ∙ append-nil _) c.in-None.ensures.over
@@ -49,8 +49,9 @@ pub returns : goal.returns
 returns g c = (
   refl,
   record {
-    later = later_sent _ _ _ c.in-Some.ensures.number c.in-Some.ensures.came c.in-Some.ensures.went
-        c.in-Some.ensures.over (λ told. c.in-Some.ensures.broke ∙ told) c.in-Some.ensures.hung_up;
+    later = later_sent _ _ _ c.in-Some.ensures.number c.in-Some.ensures.came c.in-Some.ensures.reads
+        c.in-Some.ensures.went c.in-Some.ensures.over (λ told. c.in-Some.ensures.broke ∙ told)
+        c.in-Some.ensures.hung_up;
     kept = λ xs is.
         client_sent g.P.Peer.traffic _ _ _ _ xs is _ _ c.requires.at.0 _ c.requires.at.1 c.sent-in-Some.ensures
         c.in-Some.ensures.came c.in-Some.ensures.reads c.in-Some.ensures.went c.in-Some.ensures.over

@@ -10,7 +10,8 @@ pub invariant_of-self : goal.invariant_of-self
 invariant_of-self c =
     let old = c.args.self.now in
     let more : logged c.and-self.result ≡ logged old.nexts ++ c.if-self.next ∷ [] =
-    ap (map (λ one. one.0)) c.and-self.ensures ∙ map-append (λ one. one.0) old.nexts.items ((c.if-self.next, c.if-self-2.self) ∷ []) in
+    ap (map (λ one. one.0)) c.and-self.ensures ∙ map-append (λ one. one.0) old.nexts.items
+    ((c.if-self.next, c.if-self-2.self) ∷ []) in
     record {
       same = agree_then (logged old.nexts) (logged c.and-self.result) (map (λ one. one.0) old.heard.items)
           (said_by old.inner) (said_by c.if-self.self.1.0) c.if-self.next old.same more
