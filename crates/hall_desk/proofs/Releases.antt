@@ -51,7 +51,8 @@ pub takes_part : (world : World) (caller : Option Person) (asked : Action) (pers
     → ¬ (LacksRole caller asked) → ¬ (ReadsAsTester world caller asked) → ¬ (IsOwnPuzzle world caller asked) →
     MayTakePart world person.name id
 takes_part world caller asked person id is there entrants named released may_ask not_reading not_own =
-    let entrant : person.roles.entrant ≡ true = elim person.roles.entrant as (λ b. person.roles.entrant ≡ b → b ≡ true) [
+    let role = person.roles.entrant in
+    let entrant : role ≡ true = elim role as (λ b. role ≡ b → b ≡ true) [
       | true ↦ λ e. refl
       | false ↦ λ e. absurd (may_ask (person, is, entrants ∙ e))
     ] refl in (

@@ -92,7 +92,7 @@ accepted world kept t key id number token answer n told (inr
       text = refl;
       told = says;
       since = inr (record {
-        fresh = elim (get world.answers row.key) as (λ (o : Option AnswerRow). get world.answers row.key ≡ o → o ≡ None) [
+        fresh = elim (get world.answers row.key) as (λ o. get world.answers row.key ≡ o → o ≡ None) [
           | None ↦ λ e. refl
           | Some old ↦ λ e. absurd (token_decides world (caller_of world key) t person id number token answer old is e
               (suc last_rule) none (lit< tt))

@@ -74,8 +74,10 @@ module _ {K X Y : Type 0} {R : K → K → Ordering} (o : IsTotalOrder R) (same 
       → option_map view (get m k) ≡ option_map late (get n k)) → passing view m ≡ passing late n
   same_passing view late m n alike = same_entries R o same (passing view m) (passing late n) (passing_sorted view m)
       (passing_sorted late n) (λ k.
+      let here = option_map view (get m k) in
+      let there = option_map late (get n k) in
       passing_at view m k
-      ∙ elim (q k) as (λ b. q k ≡ b → cond b (option_map view (get m k)) None ≡ cond b (option_map late (get n k)) None) [
+      ∙ elim (q k) as (λ b. q k ≡ b → cond b here None ≡ cond b there None) [
         | true ↦ λ e. alike k e
         | false ↦ λ e. refl
       ] refl
