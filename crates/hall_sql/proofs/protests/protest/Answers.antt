@@ -43,27 +43,18 @@ find-requires-clause-one g c =
 
 pub returns-clause-reads : goal.returns-clause-reads
 returns-clause-reads g c =
-    finds_row protest_in PROTEST.now
-    (Text c.args.key.now.entrant ∷ Text c.args.key.now.round ∷ Text c.args.key.now.token ∷ []) c.find.result _
-    c.requires.hall c.find.ensures.rested
-    (protest_unread c.args.key.now.entrant c.args.key.now.round c.args.key.now.token)
-    (rw (
+    let key = c.args.key.now in
+    let told = rw (
       c.params-to_sql.ensures,
       c.params-to_sql-2.ensures,
       c.params-to_sql-3.ensures,
       c.as_str.ensures.text,
       c.as_str-2.ensures.text,
       c.as_str-3.ensures.text,
-    ) at c.find.ensures.found)
-    (rw (
-      c.params-to_sql.ensures,
-      c.params-to_sql-2.ensures,
-      c.params-to_sql-3.ensures,
-      c.as_str.ensures.text,
-      c.as_str-2.ensures.text,
-      c.as_str-3.ensures.text,
-    ) at c.find.ensures.cause)
-    (λ found it opened has keyed. it.is ∙ protest_found c.args.key.now _ (state g.S.Store c.find.new.conn)
+    ) at c.find.ensures in
+    finds_row protest_in PROTEST.now (Text key.entrant ∷ Text key.round ∷ Text key.token ∷ []) c.find.result _
+    c.requires.hall told.rested (protest_unread key.entrant key.round key.token) told.found told.cause
+    (λ found it opened has keyed. it.is ∙ protest_found key _ (state g.S.Store c.find.new.conn)
     it.are.1.rows it.records has it.are.1.shown it.are.1.reads it.few)
 
 pub returns-clause-alone : goal.returns-clause-alone

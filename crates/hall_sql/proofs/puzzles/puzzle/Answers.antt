@@ -22,14 +22,9 @@ find-requires-clause-one g c =
 
 pub returns : goal.returns
 returns g c =
+    let told = rw (c.params-to_sql.ensures, c.params-to_sql-2.ensures, c.as_str.ensures.text, c.as_str-2.ensures.text)
+    at c.find.ensures in
     finds_row puzzle_row_in PUZZLE.now (Text c.args.key.now.author ∷ Text c.args.key.now.label ∷ []) c.find.result _
-    c.requires.hall c.find.ensures.rested (puzzle_unread c.args.key.now.author c.args.key.now.label)
-    (rw (c.params-to_sql.ensures, c.params-to_sql-2.ensures, c.as_str.ensures.text, c.as_str-2.ensures.text)
-    at c.find.ensures.found) (rw (
-      c.params-to_sql.ensures,
-      c.params-to_sql-2.ensures,
-      c.as_str.ensures.text,
-      c.as_str-2.ensures.text,
-    ) at c.find.ensures.cause)
+    c.requires.hall told.rested (puzzle_unread c.args.key.now.author c.args.key.now.label) told.found told.cause
     (λ found it opened has keyed. it.is ∙ puzzle_found c.args.key.now _ (state g.S.Store c.find.new.conn) it.are.1.rows
     it.records has it.are.1.shown it.are.1.reads it.few)

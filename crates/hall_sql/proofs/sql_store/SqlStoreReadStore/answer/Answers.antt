@@ -41,30 +41,20 @@ find-requires-clause-one g c =
 
 pub returns : goal.returns
 returns g c =
+    let key = c.args.key.now in
+    let told = rw (
+      c.params-to_sql.ensures,
+      c.params-to_sql-2.ensures,
+      c.params-to_sql-3.ensures,
+      c.params-to_sql-4.ensures,
+      c.as_str.ensures.text,
+      c.as_str-2.ensures.text,
+      c.as_str-3.ensures.text,
+      c.get.ensures.value,
+    ) at c.find.ensures in
     rw (← c.self.view_is)
     (finds_row answer_in ANSWER.now
-    (Text c.args.key.now.entrant ∷ Text c.args.key.now.round ∷ Int (pos c.args.key.now.number) ∷ Text
-    c.args.key.now.token ∷ []) c.find.result _ c.self.invariant c.find.ensures.rested
-    (answer_unread c.args.key.now.entrant c.args.key.now.round c.args.key.now.number c.args.key.now.token)
-    (rw (
-      c.params-to_sql.ensures,
-      c.params-to_sql-2.ensures,
-      c.params-to_sql-3.ensures,
-      c.params-to_sql-4.ensures,
-      c.as_str.ensures.text,
-      c.as_str-2.ensures.text,
-      c.as_str-3.ensures.text,
-      c.get.ensures.value,
-    )
-    at c.find.ensures.found) (rw (
-      c.params-to_sql.ensures,
-      c.params-to_sql-2.ensures,
-      c.params-to_sql-3.ensures,
-      c.params-to_sql-4.ensures,
-      c.as_str.ensures.text,
-      c.as_str-2.ensures.text,
-      c.as_str-3.ensures.text,
-      c.get.ensures.value,
-    ) at c.find.ensures.cause)
-    (λ found it opened has keyed. it.is ∙ answer_found c.args.key.now _ (state g.S.Store c.find.new.conn) it.are.1.rows
+    (Text key.entrant ∷ Text key.round ∷ Int (pos key.number) ∷ Text key.token ∷ []) c.find.result _ c.self.invariant
+    told.rested (answer_unread key.entrant key.round key.number key.token) told.found told.cause
+    (λ found it opened has keyed. it.is ∙ answer_found key _ (state g.S.Store c.find.new.conn) it.are.1.rows
     it.records has it.are.1.shown it.are.1.reads it.few))
