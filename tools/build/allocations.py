@@ -70,7 +70,7 @@ PLACES = {
     ],
     # The kit's fault of a file becomes one of its databases.
     "hall_sql/src/copied_files.rt": [
-        "ErrorKind::OutOfMemory => Err(Error::SqliteFailure(ErrorCode::OutOfMemory)),",
+        "ErrorKind::OutOfMemory => ErrorCode::OutOfMemory,",
     ],
     "hall_http/src/request.rt": [
         "match puzzle_fault(fault) { Some(found) => Err(RequestFault::Form(FormFault::Puzzle(found))),"

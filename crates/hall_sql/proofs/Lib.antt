@@ -99,3 +99,4 @@ pub mod OpenedRead
 pub mod UnreadRows
 pub mod FailLemmas
 pub mod ReadLemmas
+pub mod PathReads

@@ -22,11 +22,13 @@ pub struct Copied<B: Start> {
 }
 
 impl<B: Start> Copied<B> {
-    ghost use Rattle.hall_sql.specs.Copied.{IsCopy, copy_is_usable};
+    ghost use Rattle.hall_sql.specs.Copied.{IsCopy, copy_faults, copy_is_usable};
 
-    /// A copy of a file with these bytes.
+    /// A copy of a file with these bytes, of which no call has failed.
     pub(crate) fn new(alloc: Global, bytes: Vec<u8>, is_log: bool) -> io::Result<Copied<B>>
         ensures copy { IfOk result (IsCopy is_log) }
+        ensures first { IfOk result (λ copy. copy.first.items ≡ bytes.items) }
+        ensures counted { IfOk result (λ copy. (copy_faults copy ≡ 0) × (copy.caught ≡ 0)) }
         ensures usable { IfOk result (λ copy. IsTrue (copy_is_usable copy)) }
     {
         let mut disk = Memory::new(alloc);

@@ -1,18 +1,15 @@
 //! The files of this machine, of which one database is read into memory and opened there: no byte of them is changed.
-ghost use Rattle.std.specs.Prelude.{◌≡◌, [], IfOk, IfErr, IsTrue};
-ghost use Rattle.sqlite.specs.Opening.{is_open_error};
+ghost use Rattle.std.specs.Prelude.{◌≡◌, [], Some, Ok, IfOk, IfErr};
 ghost use Rattle.sqlite.specs.WalFiles.{image_at};
-ghost use Rattle.sqlite.specs.Held.{state};
 ghost use Rattle.sqlite.specs.Files.{file_state};
 ghost use Rattle.hall_sql.specs.Copied.{AreCopies};
 ghost use Rattle.hall_sql.specs.Opened.{IsImageFound};
-ghost use Rattle.hall_sql.specs.PathCalls.{named, noted};
+ghost use Rattle.hall_sql.specs.PathCalls.{IsUnopened, named};
 
 use crate::copied::Copied;
 use crate::given_back::GivenBack;
 use crate::open::PathFiles;
-use crate::path_calls::{Noted, PathCall, PathCalls, ask_bytes, ask_missing, note};
-use http_server::Log;
+use crate::path_calls::{PathCalls, Unopened};
 use os::RangeLock;
 use sqlite::{Connection, Error, ErrorCode, FileStore, Files, Options, Start};
 use std::fs::{File, OpenOptions};
@@ -27,50 +24,49 @@ const LOCKS: (u64, u64) = (1 << 30, 512);
 /// The number of standard error, the last of the streams.
 const LAST_STREAM: i32 = 2;
 
-const CANNOT_OPEN: Error = Error::SqliteFailure(ErrorCode::CannotOpen);
-
 /// A database in copies of files of this machine, which held what `B` stands for.
-type CopiedConnection<B> = Connection<FileStore<Copied<B>>>;
+pub(crate) type CopiedConnection<B> = Connection<FileStore<Copied<B>>>;
 
 /// The files of this machine, of which one database is read into memory, with its log, and opened there: what it held,
 /// `B` stands for. Until it is given back, no other program has the database open.
 ///
-/// As of `SystemFiles`, no clause ties a path to what the machine has there: `ask_copy`, which names the path that it
-/// is given, asks the system of that path. The history that is kept here tells which path was asked for by which call.
+/// As of `SystemFiles`, no clause ties a path to what the machine has there; the history of `PathCalls` tells which
+/// path was asked for by which call, and what it told.
 #[derive(Drop)]
 pub struct CopiedFiles<'r, B: Start> {
-    rt: &'r HostRuntime,
     start: Option<B>,
     lock: Option<File>,
-    calls: PathCalls,
+    calls: PathCalls<'r>,
 }
 
 impl<'r, B: Start> CopiedFiles<'r, B> {
     /// The files that the runtime has, of which nobody has asked anything yet.
     pub fn new(rt: &'r HostRuntime, start: B) -> CopiedFiles<'r, B>
-        ensures { named result.calls ≡ [] }
+        ensures { (named result.calls.log ≡ []) × (result.start ≡ Some start) }
     {
         CopiedFiles {
-            rt,
             start: Some(start),
             lock: None,
-            calls: Log::new(),
+            calls: PathCalls::none(rt),
         }
     }
 }
 
-/// What was had of the files, or why it can't be, as a database tells it.
-fn had<T>(found: io::Result<T>) -> Result<T, Error>
+/// What was had of the files, or why it can't be, as a database tells it: none was opened.
+fn had<T, B: Start>(found: io::Result<T>) -> Result<T, Unopened<Copied<B>>>
     ensures found { IfOk result (λ it. found ≡ Ok it) }
-    ensures named { IfErr result (λ e. IsTrue (is_open_error e)) }
+    ensures refused { IfErr result (λ unopened. IsUnopened AreCopies unopened.1 unopened.0) }
 {
     match found {
         Ok(it) => Ok(it),
-        Err(error) => match error.kind() {
-            ErrorKind::OutOfMemory => Err(Error::SqliteFailure(ErrorCode::OutOfMemory)),
-            ErrorKind::WouldBlock => Err(Error::SqliteFailure(ErrorCode::DatabaseBusy)),
-            _ => Err(CANNOT_OPEN),
-        },
+        Err(error) => {
+            let code = match error.kind() {
+                ErrorKind::OutOfMemory => ErrorCode::OutOfMemory,
+                ErrorKind::WouldBlock => ErrorCode::DatabaseBusy,
+                _ => ErrorCode::CannotOpen,
+            };
+            Err((Error::SqliteFailure(code), None))
+        }
     }
 }
 
@@ -152,96 +148,80 @@ fn read_files<B: Start>(rt: &HostRuntime, path: &str) -> io::Result<(File, Files
 fn open_copies<B: Start>(
     rt: &HostRuntime,
     files: Files<Copied<B>>,
-) -> Result<CopiedConnection<B>, Error>
+) -> Result<CopiedConnection<B>, Unopened<Copied<B>>>
     requires { AreCopies files }
     ensures found { IfOk result (λ conn. IsImageFound (image_at B.Start) (file_state conn)) }
-    ensures named { IfErr result (λ e. IsTrue (is_open_error e)) }
+    ensures refused { IfErr result (λ unopened. IsUnopened AreCopies unopened.1 unopened.0) }
 {
-    let seed = had(RandomState::new(rt))?.hash_one(&0u8);
+    let seed = had::<RandomState, B>(RandomState::new(rt))?.hash_one(&0u8);
     match Connection::open_files(rt.alloc(), files, Options::new(seed)) {
         Ok(conn) => Ok(conn),
-        Err((error, _left)) => Err(error),
+        Err((error, left)) => Err((error, Some(left))),
     }
 }
 
 /// The database at the path, in copies, and its file, which is locked.
-fn read_database<B: Start>(
+pub(crate) fn read_database<B: Start>(
     rt: &HostRuntime,
     path: &str,
-) -> Result<(File, CopiedConnection<B>), Error>
+) -> Result<(File, CopiedConnection<B>), Unopened<Copied<B>>>
     ensures found { IfOk result (λ it. IsImageFound (image_at B.Start) (file_state it.1)) }
-    ensures named { IfErr result (λ e. IsTrue (is_open_error e)) }
+    ensures refused { IfErr result (λ unopened. IsUnopened AreCopies unopened.1 unopened.0) }
 {
-    let (file, files) = had(read_files(rt, path))?;
+    let (file, files) = had::<_, B>(read_files(rt, path))?;
     let conn = open_copies(rt, files)?;
     Ok((file, conn))
 }
 
-/// Asks the system for the files at the path, which is named beside the database in their copies.
-fn ask_copy<B: Start>(
-    rt: &HostRuntime,
-    path: &str,
-) -> (Noted, Result<(File, CopiedConnection<B>), Error>)
-    ensures path { noted result.0 ≡ path.now }
-    ensures found { IfOk result.1 (λ it. IsImageFound (image_at B.Start) (file_state it.1)) }
-    ensures refused { IfErr result.1 (λ error. IsTrue (is_open_error error)) }
-{
-    (note(path), read_database(rt, path))
-}
-
 impl<B: Start> PathFiles<FileStore<Copied<B>>> for CopiedFiles<'_, B> {
-    ghost use Rattle.std.specs.Prelude.{◌≡◌, [], IsTrue};
+    ghost use Rattle.std.specs.Prelude.{◌≡◌, ◌⊎◌, [], None, IsSome, Ok, Err};
     ghost use Rattle.sqlite.specs.WalFiles.{image_at};
-    ghost use Rattle.sqlite.specs.Opening.{is_open_error};
-    ghost use Rattle.hall_sql.specs.PathCalls.{WasCalled};
+    ghost use Rattle.hall_sql.specs.PathCalls.{WasCalled, cannot_open};
     ghost use Rattle.hall_sql.specs.declared.path_calls.PathCall.TheVariants as PathCall;
 
     ghost image_at = { λ path. image_at B.Start };
 
-    ghost tells = { λ old path missing new. WasCalled PathCall.IsMissing old.calls path new.calls };
+    ghost tells = { λ old path missing new. (new.start ≡ old.start)
+        × WasCalled (PathCall.IsMissing missing) old.calls path new.calls };
 
-    ghost gives = { λ old path bytes new. WasCalled PathCall.Read old.calls path new.calls };
+    ghost gives = { λ old path bytes new. (new.start ≡ old.start)
+        × ((read : _) × (read.items ≡ bytes) × WasCalled (PathCall.Read (Ok read)) old.calls path new.calls) };
 
-    ghost withholds = { λ old path error new. WasCalled PathCall.Read old.calls path new.calls };
+    ghost withholds = { λ old path error new. (new.start ≡ old.start)
+        × WasCalled (PathCall.Read (Err error)) old.calls path new.calls };
 
-    ghost opens = { λ old path conn new. WasCalled PathCall.Open old.calls path new.calls };
+    ghost opens = { λ old path conn new. IsSome old.start × (new.start ≡ None)
+        × WasCalled (PathCall.Open (Ok tt)) old.calls path new.calls };
 
-    ghost refuses = { λ old path error new. IsTrue (is_open_error error)
-        × WasCalled PathCall.Open old.calls path new.calls };
+    // One database is handed out, and no other is asked for.
+    ghost refuses = { λ old path error new. ((old.start ≡ None) × (new.calls ≡ old.calls) × (error ≡ cannot_open))
+        ⊎ WasCalled (PathCall.Open (Err error)) old.calls path new.calls };
 
     ghost closes = { λ old conn new. WasCalled PathCall.Close old.calls [] new.calls };
 
     fn is_missing(&mut self, path: &str) -> bool {
-        let (noted, missing) = ask_missing(self.rt, path);
-        self.calls = self.calls.and(&noted, &PathCall::IsMissing);
-        missing
+        self.calls.is_missing(path)
     }
 
     fn read(&mut self, path: &str) -> io::Result<Vec<u8>> {
-        let (noted, read) = ask_bytes(self.rt, path);
-        self.calls = self.calls.and(&noted, &PathCall::Read);
-        read
+        self.calls.read(path)
     }
 
     fn open(&mut self, path: &str) -> Result<CopiedConnection<B>, Error> {
-        let Some(_start) = self.start.take() else {
-            self.calls = self.calls.and(&note(path), &PathCall::Open);
-            return Err(CANNOT_OPEN);
-        };
-        let (noted, opened) = ask_copy(self.rt, path);
-        self.calls = self.calls.and(&noted, &PathCall::Open);
-        match opened {
+        if self.start.take().is_none() {
+            return Err(Error::SqliteFailure(ErrorCode::CannotOpen));
+        }
+        match self.calls.open_copies(path) {
             Ok((file, conn)) => {
                 self.lock = Some(file);
                 Ok(conn)
             }
-            Err(error) => Err(error),
+            Err((error, _left)) => Err(error),
         }
     }
 
     fn close(&mut self, left: &mut Option<GivenBack<CopiedConnection<B>>>) {
-        *left = None;
+        self.calls.close(left);
         self.lock = None;
-        self.calls = self.calls.and(&Log::new(), &PathCall::Close);
     }
 }

@@ -46,7 +46,7 @@ pub use open::{
     OpenFault, PathFiles, give_back, law_opened, open_at, open_in_memory, open_old, open_there,
 };
 pub use open_read::{FoundHall, open_to_read};
-pub use path_calls::PathCall;
+pub use path_calls::{PathCall, PathCalls};
 pub use sql_store::{Declined, SqlStore};
 pub use system_files::SystemFiles;
 pub use tables::HallTable;

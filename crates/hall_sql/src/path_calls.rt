@@ -1,32 +1,48 @@
-//! Which paths of this machine were asked for, and by which call: a history that only proofs read.
-ghost use Rattle.std.specs.Prelude.{◌≡◌};
-ghost use Rattle.hall_sql.specs.PathCalls.{noted};
+//! What this machine was asked of its paths, and what it told: a history that only proofs read.
+ghost use Rattle.std.specs.Prelude.{◌≡◌, [], None, IfErr, IfOk};
+ghost use Rattle.sqlite.specs.Files.{file_state};
+ghost use Rattle.sqlite.specs.WalFiles.{image_at};
+ghost use Rattle.hall_sql.specs.Copied.{AreCopies};
+ghost use Rattle.hall_sql.specs.Opened.{IsImageFound};
+ghost use Rattle.hall_sql.specs.PathCalls.{AreFresh, IsUnopened, WasCalled, WasOpened, named, noted};
 
+use crate::copied::Copied;
+use crate::copied_files::{CopiedConnection, read_database};
+use crate::given_back::GivenBack;
 use http_server::Log;
+use sqlite::{Connection, Error, FileFrom, FileStore, Leftover, Start};
+use std::fs::File;
 use std::io::ErrorKind;
 use std::{fs, io};
 
 /// The bytes of a path.
 pub(crate) type Noted = Log<u8, ()>;
 
-/// Which call was made of files.
-#[derive(Clone, Copy)]
+/// Why no database was handed out, and what is left of the files once they were opened.
+pub(crate) type Unopened<D> = (Error, Option<Leftover<D>>);
+
+/// A call that was made of files, with what it told.
+#[derive(Drop)]
 pub enum PathCall {
     /// Whether there is no file.
-    IsMissing,
-    /// For the bytes of one.
-    Read,
-    /// For a database.
-    Open,
+    IsMissing(bool),
+    /// The bytes of one.
+    Read(io::Result<Vec<u8>>),
+    /// A database: it was handed out, or refused.
+    Open(Result<(), Error>),
     /// One was given back. It stands beside no path.
     Close,
 }
 
-/// The calls, each beside the path that it named, in order.
-pub(crate) type PathCalls = Log<Noted, PathCall>;
+/// The calls, each beside the path that it named, in order. Who asks the system writes them, and nobody else can.
+#[derive(Drop)]
+pub struct PathCalls<'r> {
+    rt: &'r HostRuntime,
+    log: Log<Noted, PathCall>,
+}
 
 /// The path, for a history.
-pub(crate) fn note(path: &str) -> Noted
+fn note(path: &str) -> Noted
     ensures { noted result ≡ path.now }
 {
     let mut bytes = Log::new();
@@ -36,17 +52,93 @@ pub(crate) fn note(path: &str) -> Noted
     bytes
 }
 
-/// Asks the system whether there is no file at the path, which is named beside what it told.
-pub(crate) fn ask_missing(rt: &HostRuntime, path: &str) -> (Noted, bool)
-    ensures { noted result.0 ≡ path.now }
-{
-    let missing = matches!(fs::open(rt, path), Err(error) if error.kind() == ErrorKind::NotFound);
-    (note(path), missing)
-}
+impl<'r> PathCalls<'r> {
+    /// No call yet, of the files that the runtime has.
+    pub(crate) fn none(rt: &'r HostRuntime) -> PathCalls<'r>
+        ensures { named result.log ≡ [] }
+    {
+        PathCalls {
+            rt,
+            log: Log::new(),
+        }
+    }
 
-/// Asks the system for the bytes of the file at the path, which is named beside what it gave.
-pub(crate) fn ask_bytes(rt: &HostRuntime, path: &str) -> (Noted, io::Result<Vec<u8>>)
-    ensures { noted result.0 ≡ path.now }
-{
-    (note(path), fs::read(rt, path))
+    /// Adds this call, which named the path.
+    fn add(&mut self, path: &str, call: &PathCall)
+        ensures { WasCalled call.now self.old path.now self.new }
+    {
+        self.log = self.log.and(&note(path), call);
+    }
+
+    /// Asks the system whether there is no file at the path.
+    pub(crate) fn is_missing(&mut self, path: &str) -> bool
+        ensures { WasCalled (PathCall.IsMissing result) self.old path.now self.new }
+    {
+        let missing =
+            matches!(fs::open(self.rt, path), Err(error) if error.kind() == ErrorKind::NotFound);
+        self.add(path, &PathCall::IsMissing(missing));
+        missing
+    }
+
+    /// Asks the system for the bytes of the file at the path.
+    pub(crate) fn read(&mut self, path: &str) -> io::Result<Vec<u8>>
+        ensures { WasCalled (PathCall.Read result) self.old path.now self.new }
+    {
+        let call = PathCall::Read(fs::read(self.rt, path));
+        self.add(path, &call);
+        match call {
+            PathCall::Read(told) => told,
+            _ => unreachable!(),
+        }
+    }
+
+    /// Adds that the path was asked for a database, and what was told.
+    fn add_opened<T, L>(&mut self, path: &str, opened: &Result<T, (Error, L)>)
+        ensures { WasOpened self.old path.now opened.now self.new }
+    {
+        let told = match opened {
+            Ok(_) => Ok(()),
+            Err((error, _)) => Err(*error),
+        };
+        self.add(path, &PathCall::Open(told));
+    }
+
+    /// Asks the system for the database at the path, whose files hold what `B` stands for.
+    pub(crate) fn open<B: Start>(
+        &mut self,
+        path: &str,
+        start: B,
+    ) -> Result<Connection<FileStore<FileFrom<B>>>, Unopened<FileFrom<B>>>
+        ensures called { WasOpened self.old path.now result self.new }
+        ensures found { IfOk result (λ conn. IsImageFound (image_at B.Start) (file_state conn)) }
+        ensures refused { IfErr result (λ unopened. IsUnopened AreFresh unopened.1 unopened.0) }
+    {
+        let opened = Connection::open_from(self.rt, path, false, start);
+        self.add_opened(path, &opened);
+        opened
+    }
+
+    /// Asks the system for the database at the path, in copies of its files, which hold what `B` stands for, and for
+    /// its file, which is locked.
+    pub(crate) fn open_copies<B: Start>(
+        &mut self,
+        path: &str,
+    ) -> Result<(File, CopiedConnection<B>), Unopened<Copied<B>>>
+        ensures called { WasOpened self.old path.now result self.new }
+        ensures found { IfOk result (λ it. IsImageFound (image_at B.Start) (file_state it.1)) }
+        ensures refused { IfErr result (λ unopened. IsUnopened AreCopies unopened.1 unopened.0) }
+    {
+        let opened = read_database(self.rt, path);
+        self.add_opened(path, &opened);
+        opened
+    }
+
+    /// Takes a database back. Nobody can reach what it is given.
+    pub(crate) fn close<C: Drop>(&mut self, left: &mut Option<GivenBack<C>>)
+        ensures called { WasCalled PathCall.Close self.old [] self.new }
+        ensures taken { left.new ≡ None }
+    {
+        *left = None;
+        self.add("", &PathCall::Close);
+    }
 }

@@ -19,3 +19,9 @@ returns-in-Ok-clause-found g c = record {
       subst (λ i. FindsIn i (file_state c.in-Ok.conn)) (ap₂ image log db)
       (record { holds = it.holds; reads = it.reads });
 }
+
+pub returns-in-Err-clause-refused : goal.returns-in-Err-clause-refused
+returns-in-Err-clause-refused g c = (
+  c.in-Err.ensures.named,
+  (c.args.files, c.requires, λ clean. (c.in-Err.ensures.cause clean, c.in-Err.ensures.unharmed clean)),
+)
