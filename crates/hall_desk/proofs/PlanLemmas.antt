@@ -27,7 +27,7 @@ use Rattle.hall_store.specs.Change.{changed, CanMake, with_flag}
 use Rattle.hall_desk.specs.Step.{Decided}
 use Rattle.hall_store.specs.Store.{Content, Kept, Told, Served, Asks, IsListing}
 use Rattle.hall_policy.specs.declared.record.AnswerRow.{AnswerRow}
-use Rattle.hall_desk.specs.Plans.{IsPlanFor, IsAllowedPlan, IsMadePlan, HasNothingToWrite, HasSearched, Planned}
+use Rattle.hall_desk.specs.Plans.{IsPlanFor, IsAllowedPlan, IsMadePlan, HasNothingToWrite, IsMadeBy, Planned}
 use Rattle.hall_desk.specs.declared.plan.Plan.{Plan}
 use Rattle.hall_solve.specs.declared.searched.Visits.{Visits}
 use Rattle.hall_desk.specs.declared.reply.Reply.{Reply}
@@ -49,9 +49,9 @@ pub planned : (facts : Facts) (world : World) (t : ℕ) (request : Request) (dec
     (outcome : PuzzleState) → Decided decision world facts.caller request.action t outcome given (changed change world)
     → CanMake change world →
     ((decision ≢ Allow) ⊎ HasNothingToWrite world request.action → change ≡ Nothing) →
-    (decision ≡ Allow → HasSearched world request.action (record { reply = given; change = change; visits = visits }))
+    (decision ≡ Allow → IsMadeBy world request.action (record { reply = given; change = change; visits = visits }))
     → IsPlanFor world t request (record { reply = given; change = change; visits = visits })
-planned facts world t request decision given change visits caller is outcome decided can quiet searched =
+planned facts world t request decision given change visits caller is outcome decided can quiet made =
     let same : facts.caller ≡ caller_of world request.key = caller.found in
     record {
       answered = (
@@ -65,7 +65,7 @@ planned facts world t request decision given change visits caller is outcome dec
       );
       can = can;
       quiet = quiet;
-      searched = searched;
+      made = made;
     }
 
 -- the plan of a puzzle that is new, or differs from the one that stands
@@ -102,7 +102,7 @@ put_new world facts t key copied_key puzzle copied text same_key same_puzzle can
       allowed = λ found. (text, canonical, inr ((λ row kept. differ row (all.1.1.1.1.1.0.0 ∙ kept)), refl, refl));
       can = let author = all.1.1.1.0.0 there in (author.0, author.1);
       quiet = λ stands. absurd (differ stands.0 (all.1.1.1.1.1.0.0 ∙ stands.1) stands.2);
-      searched = tt;
+      made = (refl, tt);
     })) told
 
 -- a plan that is right whatever a search would find
@@ -114,7 +114,7 @@ made_anyhow world caller asked t plan made = record {
   can =
       made.can;
   quiet = made.quiet;
-  searched = made.searched;
+  made = made.made;
 }
 
 -- the plan that is made for an action, told of what was asked, which is that action
@@ -187,7 +187,7 @@ released world facts t id shown kept row same_shown same_kept told seen =
       allowed = λ found. (row.round, at.head, refl, ap (with_flag world id flag.Released) at.head);
       can = (row.round, at.head);
       quiet = λ nothing. absurd nothing;
-      searched = tt;
+      made = ((refl, refl), tt);
     })
 
 -- the plan of a round that is published
@@ -202,7 +202,7 @@ published world facts t id shown kept row same_shown same_kept told seen =
       allowed = λ found. (row.round, at.head, refl, ap (with_flag world id flag.Published) at.head);
       can = (row.round, at.head);
       quiet = λ nothing. absurd nothing;
-      searched = tt;
+      made = ((refl, refl), tt);
     })
 
 -- ---- the answers that a caller sees
@@ -246,5 +246,5 @@ listing_plan world facts id t person row all shows lines plan told caller found 
       );
       can = tt;
       quiet = λ _. refl;
-      searched = tt;
+      made = (tt, tt);
     })

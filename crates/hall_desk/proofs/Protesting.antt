@@ -1,5 +1,5 @@
 -- A protest that is stored.
-use Rattle.std.proofs.Common.{◌≡◌, ℕ, List, Option, Some, None, sym, ap, ◌∙◌, subst}
+use Rattle.std.proofs.Common.{◌≡◌, ℕ, List, Option, Some, None, refl, sym, ap, ◌∙◌, subst}
 use Rattle.hall_policy.specs.World.{World, IsRoundAt}
 use Rattle.hall_policy.specs.Facts.{AreTrue, IsRoundFound}
 use Rattle.hall_policy.specs.Implies.{PlaceIsThere}
@@ -12,7 +12,7 @@ use Rattle.hall_store.specs.declared.change.Change.{Change}
 use Rattle.hall_store.specs.declared.change.Change.TheVariants.{AddProtest}
 use Rattle.hall_desk.specs.Lookups.{IsThere}
 use Rattle.hall_desk.specs.Handler.{protest_action, protest_row}
-use Rattle.hall_desk.specs.Plans.{IsMadePlan}
+use Rattle.hall_desk.specs.Plans.{IsChangeOf, IsMadePlan}
 use Rattle.hall_desk.specs.declared.plan.Plan.{Plan}
 use Rattle.hall_desk.specs.declared.protest.Protest.{Protest}
 use Rattle.hall_desk.specs.declared.reply.Reply.TheVariants as reply
@@ -39,5 +39,5 @@ protested world facts asked person t plan caller fresh place told there replied 
       allowed = (person, caller, (replied, ap (λ (change : Change). changed change world) changes));
       can = subst (λ (change : Change). CanMake change world) (sym changes) given;
       quiet = λ nothing. absurd nothing;
-      searched = tt;
+      made = (subst (λ (change : Change). IsChangeOf change (protest_action asked)) (sym changes) refl, tt);
     }

@@ -13,7 +13,7 @@ use Rattle.hall_store.specs.declared.change.Change.TheVariants.{Nothing}
 use Rattle.hall_store.proofs.Knowing.{carried}
 use Rattle.hall_desk.specs.Lookups.{IsCaller}
 use Rattle.hall_desk.specs.Step.{Allowed}
-use Rattle.hall_desk.specs.Plans.{IsPlanFor, HasSearched}
+use Rattle.hall_desk.specs.Plans.{IsPlanFor, IsMadeBy}
 use Rattle.hall_desk.specs.declared.plan.Plan.{Plan}
 use Rattle.hall_desk.specs.declared.reply.Reply.{Reply}
 use Rattle.hall_desk.specs.declared.reply.Reply.TheVariants as reply
@@ -46,7 +46,7 @@ module _ (old mid : Content) (facts : Facts) (t : ℕ) (request : Request)
   -- it is answered
   pub read_plan : (new : Content) (given : Reply) (plan : Plan) → decision ≡ Allow → Kept mid new →
       (new.honest → new.serves × (Allowed new.world facts.caller request.action t state.GaveUp given new.world
-      × HasSearched new.world request.action (answering given))) →
+      × IsMadeBy new.world request.action (answering given))) →
       plan ≡ answering given → new.honest → new.serves × IsPlanFor new.world t request plan
   read_plan new given plan allowed left served made h =
       let s : new.serves = (served h).0 in (

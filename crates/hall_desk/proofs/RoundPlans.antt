@@ -16,7 +16,7 @@ use Rattle.hall_store.specs.Store.{Content, Kept, Asks, IsRoundKept}
 use Rattle.hall_desk.specs.Lookups.{IsCaller}
 use Rattle.hall_desk.specs.RoundCopy.{IsShownAt}
 use Rattle.hall_desk.specs.Step.{Allowed}
-use Rattle.hall_desk.specs.Plans.{IsPlanFor, HasSearched}
+use Rattle.hall_desk.specs.Plans.{IsPlanFor, IsMadeBy}
 use Rattle.hall_desk.specs.declared.plan.Plan.{Plan}
 use Rattle.hall_desk.specs.declared.reply.Reply.TheVariants as reply
 use Rattle.hall_desk.specs.declared.reply.ShownRound.{ShownRound}
@@ -49,7 +49,7 @@ module _ (old mid : Content) (facts : Facts) (t : ℕ) (request : Request) (id :
           (
             subst (λ (a : Action). Allowed new.world facts.caller a t state.GaveUp (reply.ReadRound shown) new.world)
                 (sym is) ((at.0, shown, at.1, at.2, refl), refl),
-            subst (λ (a : Action). HasSearched new.world a (answering (reply.ReadRound shown))) (sym is) tt,
+            subst (λ (a : Action). IsMadeBy new.world a (answering (reply.ReadRound shown))) (sym is) (tt, tt),
           ),
         ))
 

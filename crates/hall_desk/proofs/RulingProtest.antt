@@ -1,5 +1,5 @@
 -- A protest that is ruled.
-use Rattle.std.proofs.Common.{◌≡◌, ℕ, Some, sym, ap, ◌∙◌, subst}
+use Rattle.std.proofs.Common.{◌≡◌, ℕ, Some, refl, sym, ap, ◌∙◌, subst}
 use Rattle.std.specs.FinMap.{get}
 use Rattle.hall_policy.specs.World.{World}
 use Rattle.hall_policy.specs.Facts.{AreTrue}
@@ -11,7 +11,7 @@ use Rattle.hall_store.specs.Change.{changed, with_ruling, CanMake}
 use Rattle.hall_store.specs.declared.change.Change.{Change}
 use Rattle.hall_store.specs.declared.change.Change.TheVariants as change
 use Rattle.hall_desk.specs.Handler.{rule_protest_action, ruled_key}
-use Rattle.hall_desk.specs.Plans.{IsMadePlan}
+use Rattle.hall_desk.specs.Plans.{IsChangeOf, IsMadePlan}
 use Rattle.hall_desk.specs.declared.plan.Plan.{Plan}
 use Rattle.hall_desk.specs.declared.reply.Reply.TheVariants as reply
 use Rattle.hall_desk.specs.declared.rule_protest.RuleProtest.{RuleProtest}
@@ -36,5 +36,8 @@ ruled world facts asked t plan there told replied changes =
       );
       can = subst (λ (change : Change). CanMake change world) (sym changes) (row, kept);
       quiet = λ nothing. absurd nothing;
-      searched = tt;
+      made = (
+        subst (λ (change : Change). IsChangeOf change (rule_protest_action asked)) (sym changes) (refl, refl),
+        tt,
+      );
     }

@@ -1,5 +1,5 @@
 -- People who stand before any request.
-use Rattle.std.proofs.Common.{◌≡◌, ◌≤◌, ◌⊎◌, inl, inr, ℕ, false, List, Result, Ok, Err, IfOk, sym, ap, ◌∙◌, subst}
+use Rattle.std.proofs.Common.{◌≡◌, ◌≤◌, ◌⊎◌, inl, inr, ℕ, false, List, Result, Ok, Err, IfOk, refl, sym, ap, ◌∙◌, subst}
 use Rattle.std.specs.Prelude.{All, IsOk, OnErr}
 use Rattle.std.proofs.lemmas.Bool.{false≢true}
 use Rattle.hall_policy.specs.Facts.{AreTrue}
@@ -19,7 +19,8 @@ use Rattle.hall_store.specs.declared.change.Change.TheVariants.{Nothing}
 use Rattle.hall_store.specs.declared.change.Change.TheVariants as change
 use Rattle.hall_desk.specs.Step.{Seed}
 use Rattle.hall_desk.specs.Sane.{Sane}
-use Rattle.hall_desk.specs.Plans.{IsMadePlan, IsImportPlan, IsSeedPlan, IsSeedReply, SeedCanFail, Seeds, StopsInSeed}
+use Rattle.hall_desk.specs.Plans.{IsChangeOf, IsMadePlan, IsImportPlan, IsSeedPlan, IsSeedReply, SeedCanFail, Seeds}
+use Rattle.hall_desk.specs.Plans.{StopsInSeed}
 use Rattle.hall_desk.specs.declared.reply.Reply.{Reply}
 use Rattle.hall_desk.specs.declared.reply.Reply.TheVariants.{Denied}
 use Rattle.hall_desk.specs.declared.plan.Plan.{Plan}
@@ -44,7 +45,7 @@ import_plan world facts t people plan told clear is = record {
   allowed = (is.counted, ap (λ (c : Change). changed c world) is.change);
   can = (seed_plan world people plan (λ found. false≢true (sym clear ∙ told.1.1.0.1 found)) is).can;
   quiet = λ nothing. absurd nothing;
-  searched = tt;
+  made = (subst (λ (c : Change). IsChangeOf c (Import people)) (sym is.change) refl, tt);
 }
 
 -- a plan of theirs that was refused was refused as the import is

@@ -1,5 +1,5 @@
 -- An answer that is judged, numbered and stored.
-use Rattle.std.proofs.Common.{◌≡◌, ◌+◌, ℕ, Option, Some, None, sym, ap, ◌∙◌, subst, arith}
+use Rattle.std.proofs.Common.{◌≡◌, ◌+◌, ℕ, Option, Some, None, refl, sym, ap, ◌∙◌, subst, arith}
 use Rattle.std.specs.FinMap.{insert}
 use Rattle.hall_policy.specs.World.{World, IsRoundAt}
 use Rattle.hall_policy.specs.Rules.{answers_given}
@@ -14,7 +14,7 @@ use Rattle.hall_store.specs.declared.change.Change.{Change}
 use Rattle.hall_store.specs.declared.change.Change.TheVariants.{AddAnswer}
 use Rattle.hall_desk.specs.Lookups.{IsThere}
 use Rattle.hall_desk.specs.Handler.{submit_action, submitted_key, submitted_row}
-use Rattle.hall_desk.specs.Plans.{IsMadePlan, IsJudgedAt}
+use Rattle.hall_desk.specs.Plans.{IsChangeOf, IsMadePlan, IsJudgedAt}
 use Rattle.hall_desk.specs.Sane.{Sane}
 use Rattle.hall_desk.specs.Shown.{told_verdict}
 use Rattle.hall_desk.specs.declared.plan.Plan.{Plan}
@@ -84,5 +84,5 @@ module _ (world : World) (facts : Facts) (asked : Submit) (person : Person) (n :
           );
           can = subst (λ (change : Change). CanMake change world) (sym changes) given;
           quiet = λ nothing. absurd nothing;
-          searched = tt;
+          made = (subst (λ (change : Change). IsChangeOf change (submit_action asked)) (sym changes) refl, tt);
         }

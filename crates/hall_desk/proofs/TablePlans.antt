@@ -16,7 +16,7 @@ use Rattle.hall_store.specs.Store.{Content, Kept, Asks, IsRoundKept}
 use Rattle.hall_desk.specs.Lookups.{IsCaller}
 use Rattle.hall_desk.specs.Totals.{IsTableAt}
 use Rattle.hall_desk.specs.Step.{Allowed}
-use Rattle.hall_desk.specs.Plans.{IsPlanFor, HasSearched}
+use Rattle.hall_desk.specs.Plans.{IsPlanFor, IsMadeBy}
 use Rattle.hall_desk.specs.declared.plan.Plan.{Plan}
 use Rattle.hall_desk.specs.declared.reply.Reply.TheVariants as reply
 use Rattle.hall_desk.proofs.ReadPlans.{answering, denied_plan, read_plan}
@@ -46,7 +46,7 @@ module _ (old mid : Content) (facts : Facts) (t : ℕ) (request : Request) (id :
           (
             subst (λ (a : Action). Allowed new.world facts.caller a t state.GaveUp (reply.Table text) new.world)
                 (sym is) ((text, (served h).1, refl), refl),
-            subst (λ (a : Action). HasSearched new.world a (answering (reply.Table text))) (sym is) tt,
+            subst (λ (a : Action). IsMadeBy new.world a (answering (reply.Table text))) (sym is) (tt, tt),
           ),
         ))
 

@@ -14,11 +14,14 @@ use Rattle.hall_policy.specs.declared.record.PuzzleState.{PuzzleState}
 use Rattle.hall_solve.specs.Searched.{visits_made}
 use Rattle.hall_solve.specs.declared.searched.Visits.{Visits}
 use Rattle.hall_policy.specs.declared.request.Action.{Action}
+use Rattle.hall_policy.specs.declared.request.Action.TheVariants as action
 use Rattle.hall_policy.specs.declared.request.Action.TheVariants.{PutPuzzle, Certify}
 use Rattle.hall_policy.specs.declared.request.Action.TheVariants.{ReadPuzzle, ListPuzzles, ListRounds, ReadRound}
 use Rattle.hall_policy.specs.declared.request.Action.TheVariants.{Answers, Solutions, Protests, Table}
 use Rattle.hall_policy.specs.declared.facts.Facts.{Facts}
 use Rattle.hall_store.specs.Store.{Content, Leads, LeavesOneOf, Over, WritesOnce}
+use Rattle.hall_store.specs.declared.change.Change.{Change}
+use Rattle.hall_store.specs.declared.change.RoundFlag.TheVariants as flag
 use Rattle.hall_store.specs.declared.fault.StoreFault.{StoreFault}
 use Rattle.hall_store.specs.declared.fault.StoreFault.TheVariants.{Failed}
 use Rattle.hall_policy.specs.Facts.{AreTrue}
@@ -35,7 +38,7 @@ use Rattle.hall_policy.specs.declared.rule.Decision.TheVariants.{Allow}
 use Rattle.hall_store.specs.Caller.{caller_of}
 use Rattle.hall_store.specs.Change.{changed, CanMake}
 use Rattle.hall_desk.specs.Plan.{planned_reply, planned_change}
-use Rattle.hall_desk.specs.Step.{Step, Seed, IsAnswered, Allowed, is_open, unknown_people}
+use Rattle.hall_desk.specs.Step.{Step, Seed, IsAnswered, Allowed, draft_of, is_open, unknown_people}
 use Rattle.hall_desk.specs.Run.{IsLeftBy, Run}
 use Rattle.hall_desk.specs.declared.reply.Reply.{Reply}
 use Rattle.hall_desk.specs.declared.reply.Reply.TheVariants as reply
@@ -71,6 +74,27 @@ HasSearched world (Certify key budget) plan =
     (visits : Visits) × (plan.visits ≡ Some visits) × HasSpent budget plan.reply visits
 HasSearched world _ plan = Unit {0}
 
+-- The change is the action's own, of what the action names; or there is none. So a store refuses a plan's change for
+-- nothing but what it says of this one.
+abbrev pub IsChangeOf : Change → Action → Type 0
+IsChangeOf Nothing action = Unit {0}
+IsChangeOf (change.Import others) (action.Import people) = others ≡ people
+IsChangeOf (change.PutPuzzle row) (PutPuzzle key puzzle) = row.key ≡ key
+IsChangeOf (change.SetState other state) (Certify key budget) = other ≡ key
+IsChangeOf (change.PutRound row) (action.PutRound round sheet) =
+    row ≡ record { round = draft_of round sheet; puzzles = sheet.puzzles; testers = sheet.testers }
+IsChangeOf (change.SetRoundFlag id set) (action.Release round) = (id ≡ round) × (set ≡ flag.Released)
+IsChangeOf (change.SetRoundFlag id set) (action.Publish round) = (id ≡ round) × (set ≡ flag.Published)
+IsChangeOf (change.AddAnswer row) (action.Submit round number token answer) = row.key.round ≡ round
+IsChangeOf (change.AddProtest row) (action.Protest round token number text) = row.key.round ≡ round
+IsChangeOf (change.RuleProtest key given) (action.RuleProtest round entrant token ruling) =
+    (key.round ≡ round) × (given ≡ ruling)
+IsChangeOf _ _ = ⊥
+
+-- the plan of an allowed action makes its change, and a search was made for it where it needs one
+abbrev pub IsMadeBy : World → Action → Plan → Type 0
+IsMadeBy world action plan = IsChangeOf plan.change action × HasSearched world action plan
+
 -- the plan's reply and change are those of the request as it is decided, for what the search would find, and the
 -- change may be made
 pub record IsPlanFor (world : World) (t : ℕ) (request : Request) (plan : Plan) : Type 0 where
@@ -80,7 +104,7 @@ pub record IsPlanFor (world : World) (t : ℕ) (request : Request) (plan : Plan)
   pub can : CanMake (planned_change plan) world
   -- a denial, a repetition and an action that has nothing to write change nothing
   pub quiet : (answered.1.0 ≢ Allow) ⊎ HasNothingToWrite world request.action → planned_change plan ≡ Nothing
-  pub searched : answered.1.0 ≡ Allow → HasSearched world request.action plan
+  pub made : answered.1.0 ≡ Allow → IsMadeBy world request.action plan
 
 -- the plan's reply and change are those of the allowed action, whatever the search would find, and the change may be
 -- made; an action that has nothing to write changes nothing
@@ -88,7 +112,7 @@ pub record IsAllowedPlan (world : World) (caller : Option Person) (action : Acti
   pub allowed : (found : PuzzleState) → Allowed world caller action t found plan.reply (changed plan.change world)
   pub can : CanMake plan.change world
   pub quiet : HasNothingToWrite world action → plan.change ≡ Nothing
-  pub searched : HasSearched world action plan
+  pub made : IsMadeBy world action plan
 
 -- the plan is that of the allowed action in each world that the facts are true of
 abbrev pub IsPlanOf : Facts → Action → Plan → Type 0
@@ -102,7 +126,7 @@ pub record IsMadePlan (world : World) (caller : Option Person) (action : Action)
   pub allowed : Allowed world caller action t found plan.reply (changed plan.change world)
   pub can : CanMake plan.change world
   pub quiet : HasNothingToWrite world action → plan.change ≡ Nothing
-  pub searched : HasSearched world action plan
+  pub made : IsMadeBy world action plan
 
 -- the plan is that of the allowed action, with what its search found, in each world that the facts are true of
 abbrev pub IsSearchPlanOf : Facts → Action → Plan → Type 0

@@ -8,7 +8,7 @@ use Rattle.hall_store.specs.Store.{Kept}
 use Rattle.hall_store.specs.Change.{changed}
 use Rattle.hall_desk.specs.Lookups.{IsCaller}
 use Rattle.hall_desk.specs.Step.{Allowed}
-use Rattle.hall_desk.specs.Plans.{IsMadePlan, IsPlanFor, HasNothingToWrite, HasSearched}
+use Rattle.hall_desk.specs.Plans.{IsMadePlan, IsPlanFor, HasNothingToWrite, IsMadeBy}
 use Rattle.hall_store.proofs.Knowing.{carried, kept_then, told_through}
 use Rattle.hall_desk.proofs.PlanLemmas.{planned}
 use Rattle.hall_desk.proofs.planning.RequestAt.handle.Goals as goal
@@ -39,5 +39,5 @@ returns-in-Allow-clause-told g c =
       | inr nothing ↦ made.quiet
           (subst (λ (a : Action). HasNothingToWrite new.world a) c.requires.same nothing)
     ])
-    (λ allowed. subst (λ (a : Action). HasSearched new.world a plan) (sym c.requires.same) made.searched))
+    (λ allowed. subst (λ (a : Action). IsMadeBy new.world a plan) (sym c.requires.same) made.made))
     c.plan.ensures.told
