@@ -5,6 +5,7 @@ ghost use Rattle.hall_store.specs.Store.{Kept, Served, Fails, is_in, is_of};
 ghost use Rattle.hall_desk.specs.Shown.{is_sealed, sees_all, shows_verdict, answer_line};
 ghost use Rattle.hall_desk.specs.Lines.{AreLinesOf};
 
+use crate::find_round::find_round;
 use crate::handler::Handler;
 use crate::plan::Plan;
 use crate::reply::{AnswerLine, Reply};
@@ -35,7 +36,7 @@ impl<'a> Handler for Answers<'a> {
         action: &Action,
         facts: &mut Facts,
     ) -> Result<Decision, StoreFault> {
-        facts.round = store.round(alloc, self.round)?;
+        facts.round = find_round(alloc, store, self.round)?;
         Ok(decide(facts, action, t))
     }
 

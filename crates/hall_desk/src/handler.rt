@@ -14,7 +14,7 @@ pub(crate) trait Handler {
     ghost use Rattle.hall_policy.specs.Decided.{IsDecided, PassesUpTo};
     ghost use Rattle.hall_policy.specs.declared.request.Action.{Action};
     ghost use Rattle.hall_policy.specs.declared.rule.Decision.TheVariants.{Repeat};
-    ghost use Rattle.hall_store.specs.Store.{Asks, Kept, Told, Fails};
+    ghost use Rattle.hall_store.specs.Store.{Asks, Kept, Told};
     ghost use Rattle.hall_desk.specs.Plans.{IsMadePlan, FailsIn};
     ghost use Rattle.hall_desk.specs.Lookups.{IsThere};
     ghost use Rattle.hall_desk.specs.Step.{FirstReply};
@@ -35,7 +35,7 @@ pub(crate) trait Handler {
         requires same { action.now ≡ action_of self.now }
         requires passed { PassesUpTo 3 facts.old action.now t }
         ensures kept { Kept (S.content store.old) (S.content store.new) }
-        ensures fault { Fails (S.content store.new).can_fail result }
+        ensures fault { FailsIn (S.content store.new) result }
         ensures caller { facts.new.caller ≡ facts.old.caller }
         ensures implied { IfOk result (λ decision. Implies decision facts.new action.now) }
         ensures told { Told (S.content store.old) (S.content store.new) result

@@ -15,6 +15,7 @@ mod certify_puzzle;
 mod copies;
 mod counts;
 mod desk;
+mod find_round;
 mod finding;
 mod group;
 mod handler;

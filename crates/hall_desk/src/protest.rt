@@ -5,6 +5,7 @@ ghost use Rattle.hall_store.specs.Store.{Kept, Told, Fails};
 ghost use Rattle.hall_store.specs.declared.change.Change.{Change};
 ghost use Rattle.hall_desk.specs.Handler.{protest_action, protest_key, protest_row, IsProtestOf, IsProtestCountOf};
 
+use crate::find_round::find_round;
 use crate::handler::Handler;
 use crate::plan::Plan;
 use crate::reply::Reply;
@@ -58,7 +59,7 @@ impl<'a> Handler for Protest<'a> {
         action: &Action,
         facts: &mut Facts,
     ) -> Result<Decision, StoreFault> {
-        facts.round = store.round(alloc, self.round)?;
+        facts.round = find_round(alloc, store, self.round)?;
         if let Some(decision) = decide_up_to(facts, action, t, Rule::OwnPuzzle) {
             return Ok(decision);
         }

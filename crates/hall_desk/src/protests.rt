@@ -5,6 +5,7 @@ ghost use Rattle.std.specs.FinMap.{values};
 ghost use Rattle.hall_store.specs.Store.{Kept, Served, Fails};
 ghost use Rattle.hall_desk.specs.Shown.{sees_protest, protest_line};
 
+use crate::find_round::find_round;
 use crate::handler::Handler;
 use crate::plan::Plan;
 use crate::reply::{ProtestLine, Reply};
@@ -32,7 +33,7 @@ impl<'a> Handler for Protests<'a> {
         action: &Action,
         facts: &mut Facts,
     ) -> Result<Decision, StoreFault> {
-        facts.round = store.round(alloc, self.round)?;
+        facts.round = find_round(alloc, store, self.round)?;
         Ok(decide(facts, action, t))
     }
 

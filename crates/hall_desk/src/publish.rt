@@ -4,6 +4,7 @@ ghost use Rattle.hall_policy.specs.Implies.{IsAllowable};
 ghost use Rattle.hall_policy.specs.declared.request.Action.{Action};
 ghost use Rattle.hall_desk.specs.Plans.{IsPlanOf};
 
+use crate::find_round::find_round;
 use crate::handler::Handler;
 use crate::plan::Plan;
 use crate::reply::Reply;
@@ -31,7 +32,7 @@ impl<'a> Handler for Publish<'a> {
         action: &Action,
         facts: &mut Facts,
     ) -> Result<Decision, StoreFault> {
-        facts.round = store.round(alloc, self.round)?;
+        facts.round = find_round(alloc, store, self.round)?;
         if let Some(decision) = decide_up_to(facts, action, t, Rule::Published) {
             return Ok(decision);
         }

@@ -4,6 +4,7 @@ ghost use Rattle.hall_policy.specs.Rules.{SheetLacks, LacksPuzzle, LacksTester, 
 ghost use Rattle.hall_store.specs.Store.{Kept, Told, Fails};
 ghost use Rattle.hall_desk.specs.Step.{draft_of};
 
+use crate::find_round::find_round;
 use crate::handler::Handler;
 use crate::plan::Plan;
 use crate::reply::Reply;
@@ -39,7 +40,7 @@ impl<'a> Handler for PutRound<'a> {
         if let Some(decision) = decide_up_to(facts, action, t, Rule::Missing) {
             return Ok(decision);
         }
-        facts.round = store.round(alloc, self.round)?;
+        facts.round = find_round(alloc, store, self.round)?;
         Ok(decide(facts, action, t))
     }
 

@@ -11,6 +11,7 @@ ghost use Rattle.hall_desk.specs.Sane.{Sane};
 ghost use Rattle.hall_desk.specs.Shown.{ShowsRound, ShowsPuzzles, ShowsPuzzle};
 ghost use Rattle.hall_desk.specs.Plans.{FailsIn, AreKept, IsPlanFor};
 
+use crate::find_round::find_round;
 use crate::plan::Plan;
 use crate::planning::RequestAt;
 use crate::put_puzzle::text_of;
@@ -38,7 +39,7 @@ pub(crate) fn plan_round<S: ReadStore>(
         (λ world plan. IsPlanFor world asked.now.t asked.now.request.now plan) }
     ensures copied { IsRoundCopied (S.content store.new) copied.new }
 {
-    facts.round = store.round(asked.alloc, round)?;
+    facts.round = find_round(asked.alloc, store, round)?;
     match decide(facts, &asked.request.action, asked.t) {
         Decision::Deny(rule) => Ok(Plan::of(Reply::Denied(rule))),
         Decision::Repeat => unreachable!(),

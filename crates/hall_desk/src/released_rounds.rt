@@ -1,9 +1,11 @@
 //! Whether a puzzle stands in a released round.
 ghost use Rattle.std.specs.Prelude.{◌↔◌, ℕ, List, IsTrue, Contains};
 ghost use Rattle.hall_policy.specs.Rules.{StandsReleased};
-ghost use Rattle.hall_store.specs.Store.{Kept, Told, Fails};
+ghost use Rattle.hall_store.specs.Store.{Kept, Told};
 ghost use Rattle.hall_desk.specs.Lookups.{IsReleasedRound};
+ghost use Rattle.hall_desk.specs.Plans.{FailsIn};
 
+use crate::find_round::find_round;
 use hall_policy::{PuzzleKey, RoundId};
 use hall_store::{ReadStore, StoreFault};
 use std::alloc::Global;
@@ -15,7 +17,7 @@ pub(crate) fn is_in_released_round<S: ReadStore>(
     key: &PuzzleKey,
 ) -> Result<bool, StoreFault>
     ensures kept { Kept (S.content store.old) (S.content store.new) }
-    ensures fault { Fails (S.content store.new).can_fail result }
+    ensures fault { FailsIn (S.content store.new) result }
     ensures told { Told (S.content store.old) (S.content store.new) result
         (λ world found. IsTrue found ↔ ((id : List ℕ) × StandsReleased world key.now id)) }
 {
@@ -30,7 +32,7 @@ pub(crate) fn any_released<S: ReadStore>(
     ids: &[RoundId],
 ) -> Result<bool, StoreFault>
     ensures kept { Kept (S.content store.old) (S.content store.new) }
-    ensures fault { Fails (S.content store.new).can_fail result }
+    ensures fault { FailsIn (S.content store.new) result }
     ensures told { Told (S.content store.old) (S.content store.new) result
         (λ world found. IsTrue found ↔ ((id : List ℕ) × Contains ids.now id × IsReleasedRound world id)) }
 {
@@ -45,11 +47,11 @@ pub(crate) fn any_released<S: ReadStore>(
 /// Whether the round is there and released.
 fn is_released<S: ReadStore>(alloc: Global, store: &mut S, id: &RoundId) -> Result<bool, StoreFault>
     ensures kept { Kept (S.content store.old) (S.content store.new) }
-    ensures fault { Fails (S.content store.new).can_fail result }
+    ensures fault { FailsIn (S.content store.new) result }
     ensures told { Told (S.content store.old) (S.content store.new) result
         (λ world released. IsTrue released ↔ IsReleasedRound world id.now) }
 {
-    match store.round(alloc, id)? {
+    match find_round(alloc, store, id)? {
         Some(row) => Ok(row.round.released),
         None => Ok(false),
     }

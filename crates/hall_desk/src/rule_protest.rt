@@ -6,6 +6,7 @@ ghost use Rattle.hall_store.specs.Store.{Kept, Told, Fails};
 ghost use Rattle.hall_store.specs.declared.change.Change.{Change};
 ghost use Rattle.hall_desk.specs.Handler.{rule_protest_action, ruled_key};
 
+use crate::find_round::find_round;
 use crate::handler::Handler;
 use crate::plan::Plan;
 use crate::reply::Reply;
@@ -58,7 +59,7 @@ impl<'a> Handler for RuleProtest<'a> {
         action: &Action,
         facts: &mut Facts,
     ) -> Result<Decision, StoreFault> {
-        facts.round = store.round(alloc, self.round)?;
+        facts.round = find_round(alloc, store, self.round)?;
         let key = key_of(self)?;
         facts.protest = store.protest(alloc, &key)?;
         if let Some(decision) = decide_up_to(facts, action, t, Rule::Missing) {

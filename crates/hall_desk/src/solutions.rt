@@ -5,6 +5,7 @@ ghost use Rattle.hall_desk.specs.Sane.{Sane};
 ghost use Rattle.hall_desk.specs.Shown.{AreSolutions, IsStoredSolution};
 ghost use Rattle.hall_desk.specs.Plans.{FailsIn, AreInStateOne};
 
+use crate::find_round::find_round;
 use crate::handler::Handler;
 use crate::plan::Plan;
 use crate::reply::Reply;
@@ -34,7 +35,7 @@ impl<'a> Handler for Solutions<'a> {
         action: &Action,
         facts: &mut Facts,
     ) -> Result<Decision, StoreFault> {
-        facts.round = store.round(alloc, self.round)?;
+        facts.round = find_round(alloc, store, self.round)?;
         Ok(decide(facts, action, t))
     }
 

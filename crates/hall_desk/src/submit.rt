@@ -13,6 +13,7 @@ ghost use Rattle.hall_desk.specs.Shown.{told_verdict};
 ghost use Rattle.hall_desk.specs.Handler.{submit_action, submitted_key, submitted_row, IsAnswerOf, IsCountOf};
 ghost use Rattle.hall_desk.specs.Plans.{IsJudgedAt, FailsIn, AreKept};
 
+use crate::find_round::find_round;
 use crate::handler::Handler;
 use crate::plan::Plan;
 use crate::reply::Reply;
@@ -69,7 +70,7 @@ impl<'a> Handler for Submit<'a> {
         action: &Action,
         facts: &mut Facts,
     ) -> Result<Decision, StoreFault> {
-        facts.round = store.round(alloc, self.round)?;
+        facts.round = find_round(alloc, store, self.round)?;
         if let Some(decision) = decide_up_to(facts, action, t, Rule::OwnPuzzle) {
             return Ok(decision);
         }

@@ -8,6 +8,7 @@ ghost use Rattle.hall_desk.specs.TableCopy.{IsCopied};
 ghost use Rattle.hall_desk.specs.Totals.{AreTotals, IsTableAt};
 ghost use Rattle.hall_desk.specs.Plans.{IsPlanFor, FailsIn};
 
+use crate::find_round::find_round;
 use crate::plan::Plan;
 use crate::planning::RequestAt;
 use crate::reply::{Reply, TableText};
@@ -34,7 +35,7 @@ pub(crate) fn plan_table<S: ReadStore>(
         (λ world plan. IsPlanFor world asked.now.t asked.now.request.now plan) }
     ensures copied { IsCopied (S.content store.new) copied.new }
 {
-    facts.round = store.round(asked.alloc, round)?;
+    facts.round = find_round(asked.alloc, store, round)?;
     match decide(facts, &asked.request.action, asked.t) {
         Decision::Deny(rule) => Ok(Plan::of(Reply::Denied(rule))),
         Decision::Repeat => unreachable!(),

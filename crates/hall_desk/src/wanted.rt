@@ -1,11 +1,11 @@
 //! The search that a request waits for.
 ghost use Rattle.std.specs.Prelude.{◌≡◌, ◌↔◌, IfOk, IfSome, IsTrue, Some};
 ghost use Rattle.hall_policy.specs.Decided.{PassesUpTo};
-ghost use Rattle.hall_store.specs.Store.{Asks, Kept, Told, Fails};
+ghost use Rattle.hall_store.specs.Store.{Asks, Kept, Told};
 ghost use Rattle.hall_desk.specs.Handler.{certify_action};
 ghost use Rattle.hall_desk.specs.Lookups.{IsCaller};
 ghost use Rattle.hall_desk.specs.Memo.{Remembers};
-ghost use Rattle.hall_desk.specs.Plans.{IsNobodys};
+ghost use Rattle.hall_desk.specs.Plans.{FailsIn, IsNobodys};
 ghost use Rattle.hall_desk.specs.Wanted.{IsSearchFor, IsSearchOfFound};
 
 use crate::certify_puzzle::{Certify, is_open};
@@ -38,7 +38,7 @@ pub(crate) fn search_for<S: ReadStore>(
 ) -> Result<Option<Wanted>, StoreFault>
     ensures kept { Kept (S.content store.old) (S.content store.new) }
     ensures untouched { IsNobodys request.now → store.new ≡ store.old }
-    ensures fault { Fails (S.content store.new).can_fail result }
+    ensures fault { FailsIn (S.content store.new) result }
     ensures told { Told (S.content store.old) (S.content store.new) result
         (λ world found. IfSome found (IsSearchFor world request.now)) }
     ensures fresh { IfOk result (λ found. IfSome found
@@ -75,7 +75,7 @@ fn search_by_key<S: ReadStore>(
     requires action { asked.now.request.now.action ≡ certify_action certified.now }
     requires key { asked.now.request.now.key ≡ Some pass.now }
     ensures kept { Kept (S.content store.old) (S.content store.new) }
-    ensures fault { Fails (S.content store.new).can_fail result }
+    ensures fault { FailsIn (S.content store.new) result }
     ensures told { Told (S.content store.old) (S.content store.new) result
         (λ world found. IfSome found (IsSearchFor world asked.now.request.now)) }
     ensures fresh { IfOk result (λ found. IfSome found
@@ -99,7 +99,7 @@ fn search_by_facts<S: ReadStore>(
     requires action { asked.now.request.now.action ≡ certify_action certified.now }
     requires key { asked.now.request.now.key ≡ Some pass.now }
     ensures kept { Kept (S.content store.old) (S.content store.new) }
-    ensures fault { Fails (S.content store.new).can_fail result }
+    ensures fault { FailsIn (S.content store.new) result }
     ensures told { Told (S.content store.old) (S.content store.new) result
         (λ world found. IfSome found (IsSearchFor world asked.now.request.now)) }
     ensures fresh { IfOk result (λ found. IfSome found
@@ -125,7 +125,7 @@ fn search_for_caller<S: ReadStore>(
     requires caller { Asks (S.content store.old) (λ world. IsCaller world asked.now.request.now.key facts.old.caller) }
     requires passed { PassesUpTo 3 facts.old asked.now.request.now.action asked.now.t }
     ensures kept { Kept (S.content store.old) (S.content store.new) }
-    ensures fault { Fails (S.content store.new).can_fail result }
+    ensures fault { FailsIn (S.content store.new) result }
     ensures told { Told (S.content store.old) (S.content store.new) result
         (λ world found. IfSome found (IsSearchFor world asked.now.request.now)) }
     ensures fresh { IfOk result (λ found. IfSome found

@@ -29,15 +29,15 @@ use Rattle.hall_policy.specs.declared.record.PuzzleRow.{PuzzleRow}
 use Rattle.hall_policy.specs.declared.record.PuzzleState.{PuzzleState}
 use Rattle.hall_policy.specs.declared.record.RoundRow.{RoundRow}
 use Rattle.hall_policy.specs.declared.record.Ruling.{Ruling}
-use Rattle.hall_store.specs.Store.{Fails, IsRefusedNext}
+use Rattle.hall_store.specs.Store.{Fails, HasNoRound, IsRefusedNext, RoundCanFail}
 use Rattle.hall_store.specs.declared.change.Change.{Change}
 use Rattle.hall_store.specs.declared.change.Change.TheVariants.{Import, PutPuzzle, SetState, PutRound, SetRoundFlag}
 use Rattle.hall_store.specs.declared.change.Change.TheVariants.{AddAnswer, AddProtest, RuleProtest}
 use Rattle.hall_store.specs.declared.change.RoundFlag.{RoundFlag}
 use Rattle.hall_store.specs.declared.fault.StoreFault.{StoreFault}
 use Rattle.hall_store.specs.declared.fault.StoreFault.TheVariants.{Failed}
-use Rattle.hall_sql.specs.CanFail.{CanFail, CanRefuse, HasReason, KeepsBadRow, KeepsNoWorld, RefusesChange}
-use Rattle.hall_sql.specs.CanFail.{RefusesPuzzle, StoreCanFail, WholeCanFail}
+use Rattle.hall_sql.specs.CanFail.{CanFail, CanRefuse, HasReason, KeepsBadRow, RefusesChange}
+use Rattle.hall_sql.specs.CanFail.{RefusesPuzzle, StoreCanFail}
 use Rattle.hall_sql.specs.Cause.{FeedFails, IsStoreCause, ReadFails, RoundFails, StopsAtRow}
 use Rattle.hall_sql.specs.Columns.{answer_params, person_params, protest_params}
 use Rattle.hall_sql.specs.Content.{content_of}
@@ -87,11 +87,14 @@ module _ (Bad : Database → Type 0) (old new : State) (stayed : KeptRows old ne
   by_tables : Bad old.now → Reason Bad new
   by_tables bad = while_open Bad new (λ opens. inr (inr (subst Bad (sym (stayed.same clean opens)) bad)))
 
--- what reads call bad of the tables
-abbrev KeepsNone : Database → Type 0
-KeepsNone db = KeepsNoWorld db.trees
+doubtful : (s : State) → HasCleanDisk s ⊎ (¬ (HasCleanDisk s))
+doubtful s = elim (cases_Bool (nat_eq (doubt s.is_clean) 0)) [
+  | inl same ↦ inl (eqb-true (doubt s.is_clean) 0 same)
+  | inr differs ↦ inr (λ is. absurd (let same : nat_eq (doubt s.is_clean) 0 ≡ true = eq-eqb (doubt s.is_clean) 0 is in
+      cc))
+]
 
--- and what those of a whole table do
+-- what reads call bad of the tables
 abbrev KeepsUnread : Database → Type 0
 KeepsUnread db = KeepsBadRow db.trees
 
@@ -111,78 +114,81 @@ store_fault result old new rested cause =
 
 -- ---- reads
 
--- the cause lies in the store, or the tables were bad in this sense
-abbrev IsBad : (Database → Type 0) → State → State → Type 0
-IsBad Bad old new = IsStoreCause old new ⊎ Bad old.now
+-- the cause lies in the store, or a row of the tables was no record
+abbrev IsBad : State → State → Type 0
+IsBad old new = IsStoreCause old new ⊎ KeepsUnread old.now
 
 of_hall : (s : State) → IsHall s → HasCleanDisk s → IsTrue s.is_open → IsHallSchema s.now.schema
 of_hall s hall clean opens = (hall.settled clean opens).1
 
-module _ {X : Type 0} (read : Row → Option X) (sql : List ℕ) (params : Row) (unread : TellsUnread read sql params)
-    (old new : State) (hall : IsHall old) (clean : HasCleanDisk old) where
-  of_rows : ReadFails read sql params old new → IsBad KeepsUnread old new
-  of_rows (inl cause) = inl cause
-  of_rows (inr it) =
-      let has = of_hall old hall clean (shown_was_open sql params old new it.0 it.1) in
-      inr (unread old new it.0 has it.1 it.2)
-
-  of_read : ReadFails read sql params old new → IsBad KeepsNone old new
-  of_read fails = elim (of_rows fails) [ inl cause ↦ inl cause | inr some ↦ inr (inl some) ]
+of_rows : {X : Type 0} (read : Row → Option X) (sql : List ℕ) (params : Row) → TellsUnread read sql params
+    → (old new : State) → IsHall old → HasCleanDisk old → ReadFails read sql params old new → IsBad old new
+of_rows read sql params unread old new hall clean (inl cause) = inl cause
+of_rows read sql params unread old new hall clean (inr it) =
+    let has = of_hall old hall clean (shown_was_open sql params old new it.0 it.1) in
+    inr (unread old new it.0 has it.1 it.2)
 
 of_round : (id : List ℕ) (old new : State) → IsHall old → HasCleanDisk old → RoundFails id old new
-    → IsBad KeepsNone old new
-of_round id old new hall clean (inl head) = of_read round_in HEAD.now (Text id ∷ []) (head_unread id) old new hall clean
-    head
-of_round id old new hall clean (inr (inl places)) = of_read place_in PLACES_OF.now (Text id ∷ []) (places_of_unread id)
-    old new hall clean places
-of_round id old new hall clean (inr (inr (inl testers))) = of_read tester_in TESTERS_OF.now (Text id ∷ [])
-    (testers_of_unread id) old new hall clean testers
-of_round id old new hall clean (inr (inr (inr none))) = inr (inr (id, none))
+    → IsBad old new ⊎ HasNoRound (world_of old.now.trees) id
+of_round id old new hall clean (inl head) = inl
+    (of_rows round_in HEAD.now (Text id ∷ []) (head_unread id) old new hall clean head)
+of_round id old new hall clean (inr (inl places)) = inl
+    (of_rows place_in PLACES_OF.now (Text id ∷ []) (places_of_unread id) old new hall clean places)
+of_round id old new hall clean (inr (inr (inl testers))) = inl
+    (of_rows tester_in TESTERS_OF.now (Text id ∷ []) (testers_of_unread id) old new hall clean testers)
+of_round id old new hall clean (inr (inr (inr none))) = inr none
 
-module _ (Bad : Database → Type 0) where
-  by_read : (old new : State) → KeptRows old new → HasCleanDisk new → IsBad Bad old new → Reason Bad new
-  by_read old new stayed clean (inl cause) = by_store Bad old new stayed clean cause
-  by_read old new stayed clean (inr bad) = by_tables Bad old new stayed clean bad
+module _ {old new : State} (hall : IsHall old) (rested : KeptTables old new) where
+  stayed : KeptRows old new
+  stayed = rested_stayed rested
 
-  by_rest : {R : Type 0} (result : Result R StoreFault) {old new : State} → KeptTables old new → (Why : Type 0)
-      → (HasCleanDisk old → Why → IsBad Bad old new) → (HasCleanDisk new → Fails Why result)
-      → Fails (HasReason Bad new) result
-  by_rest result {old} {new} rested Why told cause =
-      by_reason Bad result Why new cause
-      (λ clean why.
-      let was : HasCleanDisk old = omega (arith, rested.follows.lasts.clean, clean) in
-      by_read old new (rested_stayed rested) clean (told was why))
+  was_clean : HasCleanDisk new → HasCleanDisk old
+  was_clean clean = omega (arith, rested.follows.lasts.clean, clean)
 
-module _ {R : Type 0} (result : Result R StoreFault) {old new : State} (hall : IsHall old) (rested : KeptTables old new)
-  where
-    module _ {X : Type 0} (read : Row → Option X) (sql : List ℕ) (params : Row) (unread : TellsUnread read sql params)
-        (cause : HasCleanDisk new → Fails (ReadFails read sql params old new) result) where
-      abbrev Why : Type 0
-      Why = ReadFails read sql params old new
+  by_read : HasCleanDisk new → IsBad old new → Reason KeepsUnread new
+  by_read clean (inl cause) = by_store KeepsUnread old new stayed clean cause
+  by_read clean (inr bad) = by_tables KeepsUnread old new stayed clean bad
 
-      pub read_fault : Fails (CanFail new) result
-      read_fault = by_rest KeepsNone result rested Why (of_read read sql params unread old new hall) cause
+  -- of a round it is also that the world keeps none, with its lists, under the id
+  by_round : (id : List ℕ) → HasCleanDisk new → RoundFails id old new → RoundCanFail id (content_of new)
+  by_round id clean fails = elim (of_round id old new hall (was_clean clean) fails) [
+    | inl bad ↦ inl (λ late. by_read late bad)
+    | inr none ↦ at_open none new.is_open refl
+  ]
+    where
+      at_open : HasNoRound (world_of old.now.trees) id → (b : Bool) → new.is_open ≡ b
+          → RoundCanFail id (content_of new)
+      at_open none true is = inr (λ late. (
+        is,
+        subst (λ (db : Database). HasNoRound (world_of db.trees) id)
+            (sym (stayed.same late is)) none,
+      ))
+      at_open none false is = inl (λ late. inr (inl is))
 
-      -- where it reads a whole table, or any rows
-      pub whole_fault : Fails (WholeCanFail new) result
-      whole_fault = by_rest KeepsUnread result rested Why (of_rows read sql params unread old new hall) cause
+  module _ {R : Type 0} (result : Result R StoreFault) where
+    pub read_fault : {X : Type 0} (read : Row → Option X) (sql : List ℕ) (params : Row) → TellsUnread read sql params
+        → (HasCleanDisk new → Fails (ReadFails read sql params old new) result) → Fails (CanFail new) result
+    read_fault read sql params unread cause =
+        by_reason KeepsUnread result (ReadFails read sql params old new) new cause
+        (λ clean why. by_read clean (of_rows read sql params unread old new hall (was_clean clean) why))
 
     pub round_fault : (id : List ℕ) → (HasCleanDisk new → Fails (RoundFails id old new) result)
-        → Fails (CanFail new) result
-    round_fault id cause = by_rest KeepsNone result rested (RoundFails id old new) (of_round id old new hall) cause
+        → Fails (RoundCanFail id (content_of new)) result
+    round_fault id cause = at result cause
+      where
+        at : (r : Result R StoreFault) → (HasCleanDisk new → Fails (RoundFails id old new) r)
+            → Fails (RoundCanFail id (content_of new)) r
+        at (Ok x) why = tt
+        at (Err e) why = λ failed. elim (doubtful new) [
+          | inl clean ↦ by_round id clean (why clean failed)
+          | inr dirty ↦ inl (λ clean. absurd (dirty clean))
+        ]
 
 -- ---- rows that are fed
 
 last_there : (rows : List Row) (row : Row) → Contains (rows ++ row ∷ []) row
 last_there [] row = (0, omega arith, refl)
 last_there (r ∷ rows) row = let it = last_there rows row in (suc it.0, omega (arith, it.1), it.2)
-
-doubtful : (s : State) → HasCleanDisk s ⊎ (¬ (HasCleanDisk s))
-doubtful s = elim (cases_Bool (nat_eq (doubt s.is_clean) 0)) [
-  | inl same ↦ inl (eqb-true (doubt s.is_clean) 0 same)
-  | inr differs ↦ inr (λ is. absurd (let same : nat_eq (doubt s.is_clean) 0 ≡ true = eq-eqb (doubt s.is_clean) 0 is in
-      cc))
-]
 
 module _ {X : Type 0} (read : Row → Option X) (sql : List ℕ) (params : Row) (tree : ℕ)
     (terms project : List Term) (order : List (Term × Key)) (names : List (List ℕ))
@@ -222,7 +228,7 @@ module _ {X : Type 0} (read : Row → Option X) (sql : List ℕ) (params : Row) 
 
     of_feed : HasCleanDisk new → FeedFails read Takes Refuses sql params old new before after
         → CanFail new ⊎ IsRefusedNext Takes Refuses AreRows (content_of old) (content_of new) before after
-    of_feed clean (inl cause) = inl (λ late. by_store KeepsNone old new (rested_stayed rested) late cause)
+    of_feed clean (inl cause) = inl (λ late. by_store KeepsUnread old new (rested_stayed rested) late cause)
     of_feed clean (inr it) = at_open new.is_open refl
       where
         was : HasCleanDisk old
@@ -232,8 +238,8 @@ module _ {X : Type 0} (read : Row → Option X) (sql : List ℕ) (params : Row) 
             → CanFail new ⊎ IsRefusedNext Takes Refuses AreRows (content_of old) (content_of new) before after
         turned opens (inl none) =
             let has = of_hall old hall was (rested.follows.opened clean opens) in
-            inl (λ late. by_tables KeepsNone old new (rested_stayed rested) late
-            (inl (unread old (it.rows ++ it.row ∷ []) has it.begun (it.row, last_there it.rows it.row, none))))
+            inl (λ late. by_tables KeepsUnread old new (rested_stayed rested) late
+            (unread old (it.rows ++ it.row ∷ []) has it.begun (it.row, last_there it.rows it.row, none)))
         turned opens (inr refused) =
             let opened = rested.follows.opened clean opens in
             let has = of_hall old hall was opened in

@@ -8,7 +8,7 @@ use Rattle.hall_policy.specs.World.{World}
 use Rattle.hall_store.specs.Store.{Fails}
 use Rattle.hall_store.specs.declared.fault.StoreFault.{StoreFault}
 use Rattle.hall_store.specs.declared.fault.StoreFault.TheVariants.{Memory, Failed}
-use Rattle.hall_sql.specs.CanFail.{CanFail, WholeCanFail}
+use Rattle.hall_sql.specs.CanFail.{CanFail}
 use Rattle.hall_sql.specs.Cause.{AreRead, IsFound, ReadFails}
 use Rattle.hall_sql.specs.Counts.{AreSoMany}
 use Rattle.hall_sql.specs.Feed.{AreAll}
@@ -19,7 +19,7 @@ use Rattle.hall_sql.specs.Tables.{IsHallSchema}
 use Rattle.hall_sql.specs.Versions.{IsAnyHall, IsVersion}
 use Rattle.hall_sql.specs.Whole.{AreRecords}
 use Rattle.hall_sql.proofs.CauseLemmas.{fails_as}
-use Rattle.hall_sql.proofs.FailLemmas.{read_fault, whole_fault}
+use Rattle.hall_sql.proofs.FailLemmas.{read_fault}
 use Rattle.hall_sql.proofs.StoreLemmas.{read_whole, rested_hall, rested_kept, told, told_so}
 use Rattle.hall_sql.proofs.UnreadRows.{TellsUnread}
 use Rattle.hall_sql.proofs.Versions.{told_any}
@@ -34,7 +34,7 @@ module _ {X R : Type 0} (read : Row → Option X) (sql : List ℕ) (params : Row
       → (HasCleanDisk new → IfOk result P) → Fails (CanFail new) result → (HasCleanDisk new → Fails Why result)
       → ((x : R) → P x → IsTrue old.is_open → IsHallSchema old.now.schema → AreAllKeyed old.now.trees
       → Means (world_of old.now.trees) x)
-      → Reads old new result Means (AreRecords read sql params old new) Why
+      → Reads old new result Means (AreRecords read sql params old new) (CanFail new) Why
   reads_by Why P all has fault cause means = record {
     kept = rested_kept old new rested;
     rested = rested;
@@ -55,7 +55,7 @@ module _ {X R : Type 0} (read : Row → Option X) (sql : List ℕ) (params : Row
   reads_rows items unread has cause means =
       reads_by (ReadFails read sql params old new) (λ out. AreRead read sql params old new (items out))
       (λ out it. (items out, it)) has
-      (read_fault result hall rested read sql params unread cause) cause (λ out it. means out it.1)
+      (read_fault hall rested result read sql params unread cause) cause (λ out it. means out it.1)
 
   -- rows that are counted
   pub reads_count : (count : R → ℕ) → TellsUnread read sql params
@@ -67,7 +67,7 @@ module _ {X R : Type 0} (read : Row → Option X) (sql : List ℕ) (params : Row
   reads_count count unread has cause means =
       reads_by (ReadFails read sql params old new) (λ out. AreSoMany read sql params old new (count out))
       (λ out it. (it.records, it.are)) has
-      (read_fault result hall rested read sql params unread cause) cause means
+      (read_fault hall rested result read sql params unread cause) cause means
 
 -- an answer that a count of rows gives
 pub answers_count : {X R : Type 0} (read : Row → Option X) (sql : List ℕ) (params : Row) {old new : State} (answer : R)
@@ -99,16 +99,16 @@ finds_row read sql params {old} {new} result Means hall rested unread has cause 
     reads_by read sql params result Means hall rested (ReadFails read sql params old new)
     (IsFound read sql params old new)
     (λ found it. (it.records, it.are)) has
-    (read_fault result hall rested read sql params unread cause) cause means
+    (read_fault hall rested result read sql params unread cause) cause means
 
 -- a call that is refused
 pub refused : {R : Type 0} {old new : State} (result : Result R StoreFault) (Means : World → R → Type 0)
-    (Whole Why : Type 0)
-    (fault : StoreFault) → KeptTables old new → IsErrAnd result (λ e. e ≡ fault) → Fails (CanFail new) result
+    (Whole Reason Why : Type 0)
+    (fault : StoreFault) → KeptTables old new → IsErrAnd result (λ e. e ≡ fault) → Fails Reason result
     → (HasCleanDisk new → Fails Why result)
-    → Reads old new result Means Whole Why
-refused (Ok x) Means Whole Why fault rested is why cause = absurd is
-refused {R} {old} {new} (Err e) Means Whole Why fault rested is why cause =
+    → Reads old new result Means Whole Reason Why
+refused (Ok x) Means Whole Reason Why fault rested is why cause = absurd is
+refused {R} {old} {new} (Err e) Means Whole Reason Why fault rested is why cause =
     record {
       kept = rested_kept old new rested;
       rested = rested;
@@ -127,17 +127,19 @@ pub refused_rows : {X R : Type 0} (read : Row → Option X) (sql : List ℕ) (pa
 refused_rows read sql params {old} {new} result Means fault hall rested unread is cause =
     let why = λ (clean : HasCleanDisk new). fails_as result (ReadFails read sql params old new) fault is (cause clean)
     in
-    refused result Means (AreRecords read sql params old new) (ReadFails read sql params old new) fault rested is
-    (read_fault result hall rested read sql params unread why) why
+    refused result Means (AreRecords read sql params old new) (CanFail new) (ReadFails read sql params old new) fault
+    rested is
+    (read_fault hall rested result read sql params unread why) why
 
 -- ---- what is made of another read
 
 -- an answer that another read's gives
-pub answers_so : {A B : Type 0} {old new : State} {Told : World → A → Type 0} {Whole Why : Type 0} {answer : A}
+pub answers_so : {A B : Type 0} {old new : State} {Told : World → A → Type 0} {Whole Reason Why : Type 0}
+    {answer : A}
     (result : Result B StoreFault)
-    (Means : World → B → Type 0) → Reads old new (Ok answer) Told Whole Why
+    (Means : World → B → Type 0) → Reads old new (Ok answer) Told Whole Reason Why
     → (HasCleanDisk new → Told (world_of new.now.trees) answer → IfOk result (Means (world_of new.now.trees)))
-    → IfErr result (λ fault. fault ≡ Memory) → Reads old new result Means Whole Why
+    → IfErr result (λ fault. fault ≡ Memory) → Reads old new result Means Whole Reason Why
 answers_so (Ok x) Means first means memory = record {
   kept = first.kept;
   rested = first.rested;
@@ -156,10 +158,11 @@ answers_so (Err e) Means first means memory = record {
 }
 
 -- a call that is refused as another read was
-pub refused_as : {A B : Type 0} {old new : State} {Told : World → A → Type 0} {Whole Why : Type 0} {fault : StoreFault}
+pub refused_as : {A B : Type 0} {old new : State} {Told : World → A → Type 0} {Whole Reason Why : Type 0}
+    {fault : StoreFault}
     (result : Result B StoreFault)
-    (Means : World → B → Type 0) → Reads old new (Err fault) Told Whole Why → IsErrAnd result (λ e. e ≡ fault)
-    → Reads old new result Means Whole Why
+    (Means : World → B → Type 0) → Reads old new (Err fault) Told Whole Reason Why → IsErrAnd result (λ e. e ≡ fault)
+    → Reads old new result Means Whole Reason Why
 refused_as (Ok x) Means first is = absurd is
 refused_as (Err e) Means first is = record {
   kept = first.kept;
@@ -202,15 +205,7 @@ table_in_hall read sql {old} {new} result hall unread it =
       kept = rested_kept old new rested;
       rested = rested;
       served = it.served;
-      fault = read_fault result hall rested read sql [] unread it.cause;
+      fault = read_fault hall rested result read sql [] unread it.cause;
       whole = it.whole;
       cause = it.cause;
     }
-
--- and fails as such a one
-pub table_fault : {X R : Type 0} (read : Row → Option X) (sql : List ℕ) {old new : State}
-    (result : Result R StoreFault)
-    {Means : World → R → Type 0} → IsHall old → TellsUnread read sql [] → ReadsTable read sql old new result Means
-    → Fails (WholeCanFail new) result
-table_fault read sql result hall unread it =
-    whole_fault result hall (rested_hall hall it.rested) read sql [] unread it.cause

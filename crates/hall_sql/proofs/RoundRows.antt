@@ -15,10 +15,10 @@ use Rattle.hall_policy.specs.World.{World, IsTesterOf, entry_at}
 use Rattle.hall_policy.specs.declared.record.Entry.{Entry}
 use Rattle.hall_policy.specs.declared.record.PlaceKey.{PlaceKey}
 use Rattle.hall_policy.specs.declared.record.Round.{Round}
-use Rattle.hall_store.specs.Store.{AreTestersOf, IsRoundKept}
+use Rattle.hall_store.specs.Store.{AreTestersOf, HasNoRound, IsRoundKept}
 use Rattle.hall_store.proofs.Tests.{contained, placed}
 use Rattle.hall_policy.proofs.Texts.{text_decides}
-use Rattle.hall_sql.specs.Cause.{AreNoRound, HasNoRound}
+use Rattle.hall_sql.specs.Cause.{AreNoRound}
 use Rattle.hall_sql.specs.Places.{is_in_round, number_cmp, ArePlaces, AreListed, AreNumbered}
 
 abbrev Place : Type 0

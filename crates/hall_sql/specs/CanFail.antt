@@ -5,7 +5,6 @@ use Rattle.std.specs.FinMap.{get}
 use Rattle.sqlite.specs.Effect.{Database}
 use Rattle.sqlite.specs.State.{State, HasCleanDisk}
 use Rattle.sqlite.specs.Tree.{Trees}
-use Rattle.hall_policy.specs.World.{World}
 use Rattle.hall_policy.specs.declared.record.Person.{Person}
 use Rattle.hall_policy.specs.declared.record.ProtestRow.{ProtestRow}
 use Rattle.hall_policy.specs.declared.record.PuzzleRow.{PuzzleRow}
@@ -16,7 +15,6 @@ use Rattle.hall_store.specs.declared.change.Change.TheVariants.{Nothing, Import,
 use Rattle.hall_store.specs.declared.change.Change.TheVariants.{PutRound, SetRoundFlag, AddAnswer}
 use Rattle.hall_store.specs.declared.change.Change.TheVariants.{AddProtest, RuleProtest}
 use Rattle.hall_sql.specs.AllRead.{AreAllRead}
-use Rattle.hall_sql.specs.Cause.{HasNoRound}
 use Rattle.hall_sql.specs.Columns.{answer_params, person_params, protest_params, ruling_params, stands_under}
 use Rattle.hall_sql.specs.Inside.{IsHallData}
 use Rattle.hall_sql.specs.RoundColumns.{head_params}
@@ -31,17 +29,9 @@ use Rattle.hall_sql.specs.declared.round_writes.TheConstants.{REPLACE_HEAD}
 
 -- ---- what is kept
 
--- what the world keeps under a round's id is no round with its lists
-abbrev pub KeepsNoRound : World → Type 0
-KeepsNoRound world = (id : List ℕ) × HasNoRound world id
-
 -- a row of the tables is no record
 abbrev pub KeepsBadRow : Trees → Type 0
 KeepsBadRow trees = ¬ (AreAllRead hall_schema trees)
-
--- what the tables keep is no world: a row is no record, or what is kept under a round's id is no round with its lists
-abbrev pub KeepsNoWorld : Trees → Type 0
-KeepsNoWorld trees = KeepsBadRow trees ⊎ KeepsNoRound (world_of trees)
 
 -- ---- what is refused
 
@@ -86,13 +76,9 @@ RefusesChange (RuleProtest key ruling) db =
 abbrev pub HasReason : (Database → Type 0) → State → Type 0
 HasReason Bad s = HasCleanDisk s → (0 < s.faults) ⊎ ((s.is_open ≡ false) ⊎ Bad s.now)
 
--- why one that reads may: what the tables keep is no world
+-- why one that reads may: a row of the tables is no record
 abbrev pub CanFail : State → Type 0
-CanFail = HasReason (λ db. KeepsNoWorld db.trees)
-
--- why one that reads a whole table may: a row of the tables is no record
-abbrev pub WholeCanFail : State → Type 0
-WholeCanFail = HasReason (λ db. KeepsBadRow db.trees)
+CanFail = HasReason (λ db. KeepsBadRow db.trees)
 
 -- why one may to which nothing that the tables keep is a cause
 abbrev pub StoreCanFail : State → Type 0

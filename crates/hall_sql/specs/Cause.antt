@@ -5,13 +5,11 @@ use Rattle.sqlite.specs.declared.types.Value.TheVariants.{Text}
 use Rattle.sqlite.specs.Order.{Row}
 use Rattle.sqlite.specs.State.{State, Begins, Shown}
 use Rattle.hall_policy.specs.Lists.{AreEntries, AreTesters}
-use Rattle.hall_policy.specs.Ranges.{HasWholeList}
 use Rattle.hall_policy.specs.Sink.{HasTaken}
-use Rattle.hall_policy.specs.World.{World}
 use Rattle.hall_policy.specs.declared.record.Entry.{Entry}
 use Rattle.hall_policy.specs.declared.record.PlaceKey.{PlaceKey}
 use Rattle.hall_policy.specs.declared.record.Round.{Round}
-use Rattle.hall_store.specs.Store.{MoreFaults, IsRoundKept}
+use Rattle.hall_store.specs.Store.{HasNoRound, MoreFaults}
 use Rattle.hall_sql.specs.Feed.{AreAll, IsTurnedAway}
 use Rattle.hall_sql.specs.Places.{AreNumbered}
 use Rattle.hall_sql.specs.Rows.{place_in, round_in, tester_in, world_of}
@@ -38,10 +36,6 @@ abbrev pub AreNoRound : Option Round → List (PlaceKey × Entry) → List (List
 AreNoRound None places names = places ≢ []
 AreNoRound (Some round) places names =
     ¬ (AreNumbered places × AreEntries (map (λ place. place.1) places) × AreTesters names)
-
--- what is kept under the id is neither nothing nor a round with its lists, so that no answer is right
-abbrev pub HasNoRound : World → List ℕ → Type 0
-HasNoRound world id = (¬ IsRoundKept world id None) × (¬ HasWholeList world id)
 
 -- Why a read of a round fails: that of its head does, or that of its places, or that of its testers, or no answer is
 -- right.

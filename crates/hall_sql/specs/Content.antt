@@ -6,7 +6,7 @@ use Rattle.sqlite.specs.Tree.{Trees}
 use Rattle.hall_store.specs.Store.{Content, Makes}
 use Rattle.hall_store.specs.declared.change.Change.{Change}
 use Rattle.hall_sql.specs.AllRead.{are_all_read}
-use Rattle.hall_sql.specs.CanFail.{CanFail, CanRefuse, WholeCanFail}
+use Rattle.hall_sql.specs.CanFail.{CanFail, CanRefuse}
 use Rattle.hall_sql.specs.Rows.{world_of}
 use Rattle.hall_sql.specs.Spared.{may_write, KeptOtherRows}
 use Rattle.hall_sql.specs.Standing.{IsHall, KeptRows}
@@ -30,7 +30,6 @@ content_of s = record {
   world = world_of s.now.trees;
   may_leave = λ left. (db : Trees) × s.may_leave db × OpensTo StandsFor db left;
   can_fail = CanFail s;
-  whole_can_fail = WholeCanFail s;
   can_refuse = λ change. CanRefuse change s;
 }
 

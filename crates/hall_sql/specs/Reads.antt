@@ -12,13 +12,13 @@ use Rattle.hall_sql.specs.Standing.{KeptAnyTables, KeptTables}
 use Rattle.hall_sql.specs.Whole.{AreRecords}
 
 -- A read leaves the world and the tables. Its answer has its meaning in the world, and all that was asked for was read.
--- Where it answers that it failed, the state tells that a read can fail, and there is this cause.
+-- Where it answers that it failed, the state that it leaves gives this reason, and there is this cause.
 pub record Reads {R : Type 0} (old new : State) (result : Result R StoreFault) (Means : World → R → Type 0)
-    (Whole Why : Type 0) : Type 0 where
+    (Whole Reason Why : Type 0) : Type 0 where
   pub kept : Kept (content_of old) (content_of new)
   pub rested : KeptTables old new
   pub served : Served (content_of new) result Means
-  pub fault : Fails (CanFail new) result
+  pub fault : Fails Reason result
   pub whole : HasCleanDisk new → IfOk result (λ _. Whole)
   pub cause : HasCleanDisk new → Fails Why result
 
@@ -26,7 +26,7 @@ pub record Reads {R : Type 0} (old new : State) (result : Result R StoreFault) (
 abbrev pub ReadsRows : {X R : Type 0} → (Row → Option X) → List ℕ → Row → State → State → Result R StoreFault →
     (World → R → Type 0) → Type 0
 ReadsRows read sql params old new result Means =
-    Reads old new result Means (AreRecords read sql params old new) (ReadFails read sql params old new)
+    Reads old new result Means (AreRecords read sql params old new) (CanFail new) (ReadFails read sql params old new)
 
 -- A read of a whole table, over the tables of either version.
 pub record ReadsTable {X R : Type 0} (read : Row → Option X) (sql : List ℕ) (old new : State)

@@ -6,7 +6,7 @@ ghost use Rattle.sqlite.specs.Held.{state};
 ghost use Rattle.sqlite.specs.State.{HasCleanDisk};
 ghost use Rattle.hall_policy.specs.Lists.{AreEntries, AreTesters};
 ghost use Rattle.hall_policy.specs.World.{World, same_text};
-ghost use Rattle.hall_store.specs.Store.{Served, Fails, AreUsing, AreTestersOf, IsRoundKept};
+ghost use Rattle.hall_store.specs.Store.{Served, Fails, AreUsing, AreTestersOf, IsRoundKept, RoundCanFail};
 ghost use Rattle.hall_sql.specs.Places.{is_in_round, ArePlaces, ArePlacesWith, AreListed, AreNumbered};
 ghost use Rattle.hall_sql.specs.RoundColumns.{IsHead};
 ghost use Rattle.hall_sql.specs.Standing.{IsHall, KeptTables};
@@ -255,6 +255,7 @@ pub(crate) fn round<S: Alter>(
     ensures { Reads (state S.Store conn.old) (state S.Store conn.new) result
         (λ world found. IsRoundKept world id.now found)
         (IsRoundRead S.Store id.now (state S.Store conn.old) (state S.Store conn.new))
+        (RoundCanFail id.now (content_of (state S.Store conn.new)))
         (RoundFails id.now (state S.Store conn.old) (state S.Store conn.new)) }
 {
     let head = head(conn, alloc, id)?;

@@ -142,7 +142,8 @@ impl<S: Alter + Drop> ReadStore for SqlStore<S> {
     ghost use Rattle.sqlite.specs.State.{HasCleanDisk};
     ghost use Rattle.hall_policy.specs.Rules.{answers_given, protests_made, puzzles_put};
     ghost use Rattle.hall_store.specs.Caller.{IsKeyHolder};
-    ghost use Rattle.hall_store.specs.Store.{Kept, Fails, puzzles_of, IsRoundKept, AreUsing, IsNumberTaken};
+    ghost use Rattle.hall_store.specs.Store.{Kept, Fails, puzzles_of, IsRoundKept, RoundCanFail, AreUsing};
+    ghost use Rattle.hall_store.specs.Store.{IsNumberTaken};
     ghost use Rattle.hall_store.specs.Store.{AreTestersOf, IsListing, is_of, is_in};
     ghost use Rattle.hall_store.specs.Store.{HasSubmitted, IsProtestOpen, protests_of, protests_in};
     ghost use Rattle.hall_store.specs.Store.{Fed, IsRefusedNext};
@@ -159,7 +160,7 @@ impl<S: Alter + Drop> ReadStore for SqlStore<S> {
     ghost use Rattle.hall_sql.specs.Reads.{Reads, ReadsRows};
     ghost use Rattle.hall_sql.specs.Whole.{AreRecords, IsRoundRead};
     ghost use Rattle.hall_sql.specs.Cause.{FeedFails, RoundFails};
-    ghost use Rattle.hall_sql.specs.CanFail.{CanFail, WholeCanFail};
+    ghost use Rattle.hall_sql.specs.CanFail.{CanFail};
     ghost use Rattle.hall_sql.specs.Content.{content_of};
     ghost use Rattle.hall_sql.specs.Standing.{KeptTables};
 
@@ -186,9 +187,8 @@ impl<S: Alter + Drop> ReadStore for SqlStore<S> {
     }
 
     fn people(&mut self, alloc: Global) -> Result<Vec<Person>, StoreFault>
-        ensures reads { ReadsRows person_in ALL_PEOPLE.now [] (state S.Store self.old) (state S.Store self.new) result
+        ensures { ReadsRows person_in ALL_PEOPLE.now [] (state S.Store self.old) (state S.Store self.new) result
             (λ world people. people.items ≡ values world.people) }
-        ensures fault { Fails (WholeCanFail (state S.Store self.new)) result }
     {
         all_people(&mut self.conn, alloc)
     }
@@ -209,9 +209,8 @@ impl<S: Alter + Drop> ReadStore for SqlStore<S> {
     }
 
     fn all_puzzles(&mut self, alloc: Global) -> Result<Vec<PuzzleRow>, StoreFault>
-        ensures reads { ReadsRows puzzle_row_in ALL_PUZZLES.now [] (state S.Store self.old) (state S.Store self.new)
+        ensures { ReadsRows puzzle_row_in ALL_PUZZLES.now [] (state S.Store self.old) (state S.Store self.new)
             result (λ world rows. rows.items ≡ values world.puzzles) }
-        ensures fault { Fails (WholeCanFail (state S.Store self.new)) result }
     {
         all_puzzles(&mut self.conn, alloc)
     }
@@ -227,6 +226,7 @@ impl<S: Alter + Drop> ReadStore for SqlStore<S> {
         ensures { Reads (state S.Store self.old) (state S.Store self.new) result
             (λ world found. IsRoundKept world id.now found)
             (IsRoundRead S.Store id.now (state S.Store self.old) (state S.Store self.new))
+            (RoundCanFail id.now (content_of (state S.Store self.new)))
             (RoundFails id.now (state S.Store self.old) (state S.Store self.new)) }
     {
         round(&mut self.conn, alloc, id)
@@ -240,9 +240,8 @@ impl<S: Alter + Drop> ReadStore for SqlStore<S> {
     }
 
     fn rounds(&mut self, alloc: Global) -> Result<Vec<Round>, StoreFault>
-        ensures reads { ReadsRows round_in ALL_ROUNDS.now [] (state S.Store self.old) (state S.Store self.new) result
+        ensures { ReadsRows round_in ALL_ROUNDS.now [] (state S.Store self.old) (state S.Store self.new) result
             (λ world rounds. rounds.items ≡ values world.rounds) }
-        ensures fault { Fails (WholeCanFail (state S.Store self.new)) result }
     {
         rounds(&mut self.conn, alloc)
     }
@@ -485,8 +484,6 @@ impl<S: Alter + Drop> WholeStore for SqlStore<S> {
     ghost use Rattle.std.specs.Prelude.{◌≡◌, []};
     ghost use Rattle.std.specs.FinMap.{entries, values};
     ghost use Rattle.sqlite.specs.Held.{state};
-    ghost use Rattle.hall_store.specs.Store.{Fails};
-    ghost use Rattle.hall_sql.specs.CanFail.{WholeCanFail};
     ghost use Rattle.hall_sql.specs.Reads.{ReadsRows};
     ghost use Rattle.hall_sql.specs.Rows.{answer_in, place_in, protest_in, tester_in};
     ghost use Rattle.hall_sql.specs.declared.answers.TheConstants.{ALL_ANSWERS};
@@ -497,33 +494,29 @@ impl<S: Alter + Drop> WholeStore for SqlStore<S> {
     fn under_own_keys(&self) {}
 
     fn all_places(&mut self, alloc: Global) -> Result<Vec<Place>, StoreFault>
-        ensures reads { ReadsRows place_in ALL_PLACES.now [] (state S.Store self.old) (state S.Store self.new) result
+        ensures { ReadsRows place_in ALL_PLACES.now [] (state S.Store self.old) (state S.Store self.new) result
             (λ world places. places.items ≡ entries world.places) }
-        ensures fault { Fails (WholeCanFail (state S.Store self.new)) result }
     {
         all_places(&mut self.conn, alloc)
     }
 
     fn all_testers(&mut self, alloc: Global) -> Result<Vec<Tester>, StoreFault>
-        ensures reads { ReadsRows tester_in ALL_TESTERS.now [] (state S.Store self.old) (state S.Store self.new) result
+        ensures { ReadsRows tester_in ALL_TESTERS.now [] (state S.Store self.old) (state S.Store self.new) result
             (λ world testers. testers.items ≡ entries world.testers) }
-        ensures fault { Fails (WholeCanFail (state S.Store self.new)) result }
     {
         all_testers(&mut self.conn, alloc)
     }
 
     fn all_answers(&mut self, alloc: Global) -> Result<Vec<AnswerRow>, StoreFault>
-        ensures reads { ReadsRows answer_in ALL_ANSWERS.now [] (state S.Store self.old) (state S.Store self.new) result
+        ensures { ReadsRows answer_in ALL_ANSWERS.now [] (state S.Store self.old) (state S.Store self.new) result
             (λ world rows. rows.items ≡ values world.answers) }
-        ensures fault { Fails (WholeCanFail (state S.Store self.new)) result }
     {
         all_answers(&mut self.conn, alloc)
     }
 
     fn all_protests(&mut self, alloc: Global) -> Result<Vec<ProtestRow>, StoreFault>
-        ensures reads { ReadsRows protest_in ALL_PROTESTS.now [] (state S.Store self.old) (state S.Store self.new)
+        ensures { ReadsRows protest_in ALL_PROTESTS.now [] (state S.Store self.old) (state S.Store self.new)
             result (λ world rows. rows.items ≡ values world.protests) }
-        ensures fault { Fails (WholeCanFail (state S.Store self.new)) result }
     {
         all_protests(&mut self.conn, alloc)
     }

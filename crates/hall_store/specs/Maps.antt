@@ -53,7 +53,6 @@ content_of_maps store = record {
   world = world_of_maps store;
   may_leave = λ _. ⊥;
   can_fail = ⊥;
-  whole_can_fail = ⊥;
   can_refuse = λ _. ⊥;
 }
 

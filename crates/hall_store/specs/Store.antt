@@ -8,6 +8,7 @@ use Rattle.std.specs.declared.cmp.Ordering.{Ordering}
 use Rattle.std.specs.FinMap.{get, values}
 use Rattle.hall_policy.specs.Text.{text_cmp}
 use Rattle.hall_policy.specs.World.{World, IsTesterOf, answer_of, same_text}
+use Rattle.hall_policy.specs.Ranges.{HasWholeList}
 use Rattle.hall_policy.specs.Rules.{ListsEntry}
 use Rattle.hall_policy.specs.Facts.{IsRoundFound}
 use Rattle.hall_policy.specs.Sink.{HasTaken}
@@ -30,8 +31,7 @@ use Rattle.hall_store.specs.Change.{changed}
 -- `writes` is a number that one write may raise by one, and nothing else raises. Which one is the store's own matter: a
 -- store may count its writes, or say 0 for ever. So what is proved of all stores bounds how many writes are made.
 -- `may_leave`, the worlds that the next open may find, were the program stopped at this moment. `can_fail`, a call that
--- only reads may be refused for another cause than being out of memory; `whole_can_fail`, one that reads a whole table
--- may; `can_refuse`, one that makes the change may.
+-- only reads may be refused for another cause than being out of memory; `can_refuse`, one that makes the change may.
 pub record Content : Type 1 where
   pub honest : Type 0
   pub serves : Type 0
@@ -40,7 +40,6 @@ pub record Content : Type 1 where
   pub world : World
   pub may_leave : World → Type 0
   pub can_fail : Type 0
-  pub whole_can_fail : Type 0
   pub can_refuse : Change → Type 0
 
 -- the device has failed once more, or so often that it is no longer counted
@@ -133,6 +132,14 @@ Over Relates old new =
 pub record IsRoundKept (world : World) (id : List ℕ) (found : Option RoundRow) : Type 0 where
   pub row : IsRoundFound world (Some id) found
   pub empty : found ≡ None → (entry : Entry) → ¬ (ListsEntry world id entry)
+
+-- what is kept under the id is neither nothing nor a round with its lists, so that no answer is right
+abbrev pub HasNoRound : World → List ℕ → Type 0
+HasNoRound world id = (¬ IsRoundKept world id None) × (¬ HasWholeList world id)
+
+-- why a read of the round may be refused, other than out of memory: as any read may be, or no answer is right
+abbrev pub RoundCanFail : List ℕ → Content → Type 0
+RoundCanFail id content = content.can_fail ⊎ (content.honest → content.serves × HasNoRound content.world id)
 
 -- the names of those who test the round, none twice; no order is promised
 pub record AreTestersOf (world : World) (round : List ℕ) (names : List (List ℕ)) : Type 0 where

@@ -12,14 +12,14 @@ use std::alloc::Global;
 /// A read may change what keeps the world, as a connection is, and leaves the world. What a call says of its answer and
 /// of what it leaves holds where the device was honest, and, where the call is refused, while the store still serves: a
 /// store that a fault of its device has shut answers nothing more.
-/// A call is refused as out of memory, or as failed: by a store whose content then says that it can fail, and of one
-/// that reads a whole table that such a one can (`whole_can_fail`), or, where rows are fed, by the sink.
+/// A call is refused as out of memory, or as failed: by a store whose content then says that it can fail; where a round
+/// is read, as neither nothing nor a round with its lists is kept under the id; or, where rows are fed, by the sink.
 pub trait ReadStore: Drop {
     ghost use Rattle.std.specs.Prelude.{◌≡◌, ◌↔◌, ◌⊎◌, IsTrue, IfErr};
     ghost use Rattle.std.specs.FinMap.{get, values};
     ghost use Rattle.hall_policy.specs.Rules.{answers_given, protests_made, puzzles_put};
     ghost use Rattle.hall_store.specs.Store.{Content, Kept, IsSettled, Served, Fails, puzzles_of, IsRoundKept};
-    ghost use Rattle.hall_store.specs.Store.{AreTestersOf};
+    ghost use Rattle.hall_store.specs.Store.{AreTestersOf, RoundCanFail};
     ghost use Rattle.hall_store.specs.Store.{AreUsing, IsNumberTaken, IsListing, is_of, is_in};
     ghost use Rattle.hall_store.specs.Store.{HasSubmitted, IsProtestOpen, protests_of, protests_in, Fed, IsRefusedNext};
     ghost use Rattle.hall_store.specs.Caller.{IsKeyHolder};
@@ -48,8 +48,7 @@ pub trait ReadStore: Drop {
     fn people(&mut self, alloc: Global) -> Result<Vec<Person>, StoreFault>
         ensures kept { Kept (content self.old) (content self.new) }
         ensures served { Served (content self.new) result (λ world people. people.items ≡ values world.people) }
-        ensures fault { Fails (content self.new).can_fail result }
-        ensures whole { Fails (content self.new).whole_can_fail result };
+        ensures fault { Fails (content self.new).can_fail result };
 
     /// The puzzle under the key.
     fn puzzle(&mut self, alloc: Global, key: &PuzzleKey) -> Result<Option<PuzzleRow>, StoreFault>
@@ -67,8 +66,7 @@ pub trait ReadStore: Drop {
     fn all_puzzles(&mut self, alloc: Global) -> Result<Vec<PuzzleRow>, StoreFault>
         ensures kept { Kept (content self.old) (content self.new) }
         ensures served { Served (content self.new) result (λ world rows. rows.items ≡ values world.puzzles) }
-        ensures fault { Fails (content self.new).can_fail result }
-        ensures whole { Fails (content self.new).whole_can_fail result };
+        ensures fault { Fails (content self.new).can_fail result };
 
     /// How many puzzles of the author are kept.
     fn puzzles_put(&mut self, alloc: Global, author: &Name) -> Result<u64, StoreFault>
@@ -80,7 +78,7 @@ pub trait ReadStore: Drop {
     fn round(&mut self, alloc: Global, id: &RoundId) -> Result<Option<RoundRow>, StoreFault>
         ensures kept { Kept (content self.old) (content self.new) }
         ensures served { Served (content self.new) result (λ world found. IsRoundKept world id.now found) }
-        ensures fault { Fails (content self.new).can_fail result };
+        ensures fault { Fails (RoundCanFail id.now (content self.new)) result };
 
     /// The names of those who test the round, none twice, in any order.
     fn testers_of(&mut self, alloc: Global, round: &RoundId) -> Result<Vec<Name>, StoreFault>
@@ -92,8 +90,7 @@ pub trait ReadStore: Drop {
     fn rounds(&mut self, alloc: Global) -> Result<Vec<Round>, StoreFault>
         ensures kept { Kept (content self.old) (content self.new) }
         ensures served { Served (content self.new) result (λ world rounds. rounds.items ≡ values world.rounds) }
-        ensures fault { Fails (content self.new).can_fail result }
-        ensures whole { Fails (content self.new).whole_can_fail result };
+        ensures fault { Fails (content self.new).can_fail result };
 
     /// The ids of the rounds that have the puzzle, each once, in their order.
     fn rounds_using(&mut self, alloc: Global, key: &PuzzleKey) -> Result<Vec<RoundId>, StoreFault>

@@ -12,7 +12,7 @@ pub type Tester = (TesterKey, ());
 
 /// A hall's world of which each row can be read, also where it isn't sane: who asks whether it is gets this.
 ///
-/// When that holds what a call says is as of a `ReadStore`. Each call here reads a whole table, and is refused as such.
+/// When that holds what a call says is as of a `ReadStore`.
 pub trait WholeStore: ReadStore {
     ghost use Rattle.std.specs.Prelude.{◌≡◌};
     ghost use Rattle.std.specs.FinMap.{entries, values};
@@ -28,24 +28,24 @@ pub trait WholeStore: ReadStore {
     fn all_places(&mut self, alloc: Global) -> Result<Vec<Place>, StoreFault>
         ensures kept { Kept (Self.content self.old) (Self.content self.new) }
         ensures served { Served (Self.content self.new) result (λ world places. places.items ≡ entries world.places) }
-        ensures fault { Fails (Self.content self.new).whole_can_fail result };
+        ensures fault { Fails (Self.content self.new).can_fail result };
 
     /// Each tester of each round, in the order of their keys; of a round that isn't there too.
     fn all_testers(&mut self, alloc: Global) -> Result<Vec<Tester>, StoreFault>
         ensures kept { Kept (Self.content self.old) (Self.content self.new) }
         ensures served { Served (Self.content self.new) result
             (λ world testers. testers.items ≡ entries world.testers) }
-        ensures fault { Fails (Self.content self.new).whole_can_fail result };
+        ensures fault { Fails (Self.content self.new).can_fail result };
 
     /// All answers, in the order of their keys.
     fn all_answers(&mut self, alloc: Global) -> Result<Vec<AnswerRow>, StoreFault>
         ensures kept { Kept (Self.content self.old) (Self.content self.new) }
         ensures served { Served (Self.content self.new) result (λ world rows. rows.items ≡ values world.answers) }
-        ensures fault { Fails (Self.content self.new).whole_can_fail result };
+        ensures fault { Fails (Self.content self.new).can_fail result };
 
     /// All protests, in the order of their keys.
     fn all_protests(&mut self, alloc: Global) -> Result<Vec<ProtestRow>, StoreFault>
         ensures kept { Kept (Self.content self.old) (Self.content self.new) }
         ensures served { Served (Self.content self.new) result (λ world rows. rows.items ≡ values world.protests) }
-        ensures fault { Fails (Self.content self.new).whole_can_fail result };
+        ensures fault { Fails (Self.content self.new).can_fail result };
 }

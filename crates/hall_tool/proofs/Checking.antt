@@ -15,7 +15,7 @@ use Rattle.hall_store.specs.declared.fault.StoreFault.{StoreFault}
 use Rattle.hall_store.specs.declared.fault.StoreFault.TheVariants as store
 use Rattle.hall_store.proofs.Knowing.{kept_then}
 use Rattle.hall_sql.specs.AllRead.{AreAllRead}
-use Rattle.hall_sql.specs.CanFail.{StoreCanFail, WholeCanFail}
+use Rattle.hall_sql.specs.CanFail.{CanFail, StoreCanFail}
 use Rattle.hall_sql.specs.Cause.{IsStoreCause}
 use Rattle.hall_sql.specs.CopyCause.{CannotCopy}
 use Rattle.hall_sql.specs.FillCause.{TablesFail}
@@ -131,7 +131,7 @@ copy_text budget source left empty filled last count text status migrates (check
 
 -- where each row was a record, it is still one, so that no row is a cause
 pub reads_fail : (old new : State) → Kept (content_of old) (content_of new)
-    → (HasCleanDisk old → IsTrue old.is_open → AreAllRead hall_schema old.now.trees) → WholeCanFail new
+    → (HasCleanDisk old → IsTrue old.is_open → AreAllRead hall_schema old.now.trees) → CanFail new
     → StoreCanFail new
 reads_fail old new kept whole can clean = elim (can clean) [
   | inl counted ↦ inl counted
@@ -146,7 +146,7 @@ reads_fail old new kept whole can clean = elim (can clean) [
 
 -- so of the present version, after each of its rows was found to be a record
 pub present_fails : (old mid new : State) → KeptTables old mid → Kept (content_of mid) (content_of new)
-    → (HasCleanDisk mid → AreAllRead hall_schema old.now.trees) → WholeCanFail new → StoreCanFail new
+    → (HasCleanDisk mid → AreAllRead hall_schema old.now.trees) → CanFail new → StoreCanFail new
 present_fails old mid new rested kept whole =
     reads_fail mid new kept
     (λ was opens. subst (λ (d : Database). AreAllRead hall_schema d.trees) (sym (rested.same was opens)) (whole was))
@@ -207,7 +207,7 @@ module _ (source left : State) (empty : Held MemStore) (bare : IsBareDatabase ha
     pub copy_unread : (filled last : Held MemStore) (count : ℕ)
         → Migrates source left (state over_memory empty) (state over_memory filled) (Ok (Done count))
         → Kept (content_of (state over_memory filled)) (content_of (state over_memory last))
-        → WholeCanFail (state over_memory last) → CopyFails source left
+        → CanFail (state over_memory last) → CopyFails source left
     copy_unread filled last count migrates kept can clean =
         absurd (never_fails last (reads_fail (state over_memory filled) (state over_memory last) kept
         (λ was opens. (migrates.taken clean was).read) can))

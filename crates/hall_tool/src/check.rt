@@ -39,7 +39,7 @@ fn world_ending<S: WholeStore>(
     ensures text { IfOk result (λ ending. ((S.content store.new).honest → (S.content store.new).serves)
         × WorldText budget (S.content store.new).honest (S.content store.old).world (string_bytes ending.line)
         ending.status) }
-    ensures fault { IsErrOf result ToolFault.Store → (S.content store.new).whole_can_fail }
+    ensures fault { IsErrOf result ToolFault.Store → (S.content store.new).can_fail }
     ensures cause { IfErr result IsOfMemoryOrStore }
 {
     match check(alloc, store, budget) {

@@ -30,7 +30,7 @@ impl ReadStore for LimitedStore<'_> {
     ghost use Rattle.hall_store.specs.Maps.{content_of_maps};
 
     ghost content = { λ limited.
-        record (content_of_maps limited.store.now) { can_fail = ⊤; whole_can_fail = ⊤; can_refuse = λ _. ⊤ } };
+        record (content_of_maps limited.store.now) { can_fail = ⊤; can_refuse = λ _. ⊤ } };
 
     fn at_rest(&self) {
         self.store.at_rest();

@@ -3,7 +3,7 @@ use Rattle.hall_desk.proofs.read_round.plan_round.Goals as goal
 
 pub returns-in-Deny-clause-told : goal.returns-in-Deny-clause-told
 returns-in-Deny-clause-told g c =
-    let told = round_denied (g.S.ReadStore.content c.args.store.now) (g.S.ReadStore.content c.round.new.self) _
+    let told = round_denied (g.S.ReadStore.content c.args.store.now) (g.S.ReadStore.content c.find_round.new.store) _
     c.args.asked.now.t c.args.asked.now.request.now c.args.round.now
     c.requires.action c.requires.caller c.in_ok-facts.ensures.kept c.in_ok-facts.ensures.served c.decide.result
     c.decide.ensures.decided c.in-Deny.rule c.of.result c.in-Deny.is c.of.ensures in
@@ -11,7 +11,7 @@ returns-in-Deny-clause-told g c =
 
 pub returns-in_ok-shown-in-Allow-clause-told : goal.returns-in_ok-shown-in-Allow-clause-told
 returns-in_ok-shown-in-Allow-clause-told g c =
-    let told = round_planned (g.S.ReadStore.content c.args.store.now) (g.S.ReadStore.content c.round.new.self) _
+    let told = round_planned (g.S.ReadStore.content c.args.store.now) (g.S.ReadStore.content c.find_round.new.store) _
     c.args.asked.now.t c.args.asked.now.request.now c.args.round.now
     c.requires.action c.requires.caller c.in_ok-facts.ensures.kept c.in_ok-facts.ensures.served c.decide.result
     c.decide.ensures.decided

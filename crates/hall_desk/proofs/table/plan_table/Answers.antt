@@ -3,15 +3,15 @@ use Rattle.hall_desk.proofs.table.plan_table.Goals as goal
 
 pub returns-in-Deny-clause-served : goal.returns-in-Deny-clause-served
 returns-in-Deny-clause-served g c =
-    table_denied (g.S.ReadStore.content c.args.store.now) (g.S.ReadStore.content c.round.new.self) _ c.args.asked.now.t
-    c.args.asked.now.request.now c.args.round.now
+    table_denied (g.S.ReadStore.content c.args.store.now) (g.S.ReadStore.content c.find_round.new.store) _
+    c.args.asked.now.t c.args.asked.now.request.now c.args.round.now
     c.requires.action c.requires.caller c.in_ok-facts.ensures.kept c.in_ok-facts.ensures.served c.decide.result
     c.decide.ensures.decided c.in-Deny.rule c.of.result c.in-Deny.is c.of.ensures
 
 pub returns-in_ok-text-in-Allow-clause-served : goal.returns-in_ok-text-in-Allow-clause-served
 returns-in_ok-text-in-Allow-clause-served g c =
-    table_planned (g.S.ReadStore.content c.args.store.now) (g.S.ReadStore.content c.round.new.self) _ c.args.asked.now.t
-    c.args.asked.now.request.now c.args.round.now
+    table_planned (g.S.ReadStore.content c.args.store.now) (g.S.ReadStore.content c.find_round.new.store) _
+    c.args.asked.now.t c.args.asked.now.request.now c.args.round.now
     c.requires.action c.requires.caller c.in_ok-facts.ensures.kept c.in_ok-facts.ensures.served c.decide.result
     c.decide.ensures.decided
     (g.S.ReadStore.content c.make_table.new.store) c.in_ok-text-in-Allow.text c.of-in-Allow.result c.in-Allow.is

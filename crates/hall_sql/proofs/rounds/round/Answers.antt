@@ -7,8 +7,8 @@ use Rattle.sqlite.specs.Held.{state}
 use Rattle.sqlite.specs.State.{HasCleanDisk}
 use Rattle.hall_sql.specs.Places.{AreListed}
 use Rattle.hall_sql.specs.Rows.{place_in, tester_in, world_of}
-use Rattle.hall_store.specs.Store.{Fails}
-use Rattle.hall_sql.specs.Cause.{HasNoRound, RoundFails}
+use Rattle.hall_store.specs.Store.{Fails, HasNoRound}
+use Rattle.hall_sql.specs.Cause.{RoundFails}
 use Rattle.hall_sql.specs.declared.rounds.TheConstants.{HEAD, PLACES_OF}
 use Rattle.hall_sql.specs.declared.testers.TheConstants.{TESTERS_OF}
 use Rattle.hall_sql.proofs.CauseLemmas.{fails_as}
@@ -66,7 +66,7 @@ returns g c =
           let list = subst (λ (d : Database). AreListed (world_of d.trees) c.args.id.now c.in_ok-places.places.items)
           (sym same) places.1 in
           c.row_of.ensures.row (world_of new.now.trees) c.args.id.now head list.whole names.1);
-      fault = round_fault c.row_of.result c.requires.hall rested id why;
+      fault = round_fault c.requires.hall rested c.row_of.result id why;
       whole = λ clean.
           let late : HasCleanDisk (state g.S.Store c.places_of.new.conn) = omega
           (arith, c.testers_of.ensures.rested.follows.lasts.clean, clean) in
@@ -92,8 +92,8 @@ returns-in_err-head g c =
     (λ failed. inl (c.in_err-head.ensures.reads.cause clean failed))
     in
     let rested = c.head.ensures.reads.rested in
-    refused c.from_residual.result _ _ _ _ rested c.from_residual.ensures.1
-    (round_fault c.from_residual.result c.requires.hall rested id why) why
+    refused c.from_residual.result _ _ _ _ _ rested c.from_residual.ensures.1
+    (round_fault c.requires.hall rested c.from_residual.result id why) why
 
 pub returns-in_err-places : goal.returns-in_err-places
 returns-in_err-places g c =
@@ -115,8 +115,8 @@ returns-in_err-places g c =
     in
     let to_places = rests_on old mid new rested c.places_of.ensures.rested in
     let result = c.from_residual-in_err-places.result in
-    refused result _ _ _ _ to_places c.from_residual-in_err-places.ensures.1
-    (round_fault result c.requires.hall to_places id why) why
+    refused result _ _ _ _ _ to_places c.from_residual-in_err-places.ensures.1
+    (round_fault c.requires.hall to_places result id why) why
 
 pub returns-in_err-names : goal.returns-in_err-names
 returns-in_err-names g c =
@@ -147,5 +147,5 @@ returns-in_err-names g c =
     (c.in_err-names.ensures.cause clean failed))))))
     in
     let result = c.from_residual-in_err-names.result in
-    refused result _ _ _ _ rested c.from_residual-in_err-names.ensures.1
-    (round_fault result c.requires.hall rested id why) why
+    refused result _ _ _ _ _ rested c.from_residual-in_err-names.ensures.1
+    (round_fault c.requires.hall rested result id why) why

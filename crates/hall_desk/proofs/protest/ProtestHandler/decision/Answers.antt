@@ -9,7 +9,7 @@ use Rattle.hall_desk.proofs.protest.ProtestHandler.decision.Goals as goal
 pub returns-in-Some-clause-told : goal.returns-in-Some-clause-told
 returns-in-Some-clause-told g c =
     let read = c.in_ok-facts.ensures in
-    let world = (g.S.ReadStore.content c.round.new.self).world in
+    let world = (g.S.ReadStore.content c.find_round.new.store).world in
     let asked = c.args.self.now in (
       (λ h s. (read.served h).0),
       (λ h s. c.in-Some.ensures.some world
@@ -21,7 +21,7 @@ pub returns-in-Some-decide_up_to-clause-told : goal.returns-in-Some-decide_up_to
 returns-in-Some-decide_up_to-clause-told g c =
     let read = c.in_ok-facts.ensures in
     let standing = c.in_ok-facts-2.ensures in
-    let first = g.S.ReadStore.content c.round.new.self in
+    let first = g.S.ReadStore.content c.find_round.new.store in
     let last = g.S.ReadStore.content c.find_protest.new.store in
     let asked = c.args.self.now in (
       (λ h s. standing.told.0 h (read.served (standing.kept.honest h)).0),
@@ -37,7 +37,7 @@ returns-clause-told g c =
     let read = c.in_ok-facts.ensures in
     let standing = c.in_ok-facts-2.ensures in
     let made = c.in_ok-facts-3.ensures in
-    let first = g.S.ReadStore.content c.round.new.self in
+    let first = g.S.ReadStore.content c.find_round.new.store in
     let second = g.S.ReadStore.content c.find_protest.new.store in
     let last = g.S.ReadStore.content c.count_protests.new.store in
     let asked = c.args.self.now in

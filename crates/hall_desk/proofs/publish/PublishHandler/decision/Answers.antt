@@ -7,7 +7,7 @@ use Rattle.hall_desk.proofs.publish.PublishHandler.decision.Goals as goal
 pub returns-in-Some-clause-told : goal.returns-in-Some-clause-told
 returns-in-Some-clause-told g c =
     let read = c.in_ok-facts.ensures in
-    let world = (g.S.ReadStore.content c.round.new.self).world in (
+    let world = (g.S.ReadStore.content c.find_round.new.store).world in (
       (λ h s. (read.served h).0),
       (λ h s. c.in-Some.ensures.some world (ended_told world _ c.args.action.now c.args.self.now.round.now
           c.requires.same (read.served h).1.row)),
@@ -17,7 +17,7 @@ pub returns-clause-told : goal.returns-clause-told
 returns-clause-told g c =
     let read = c.in_ok-facts.ensures in
     let looked = c.in_ok-facts-2.ensures in
-    let first = g.S.ReadStore.content c.round.new.self in
+    let first = g.S.ReadStore.content c.find_round.new.store in
     let last = g.S.ReadStore.content c.has_open_protest.new.self in
     let id = c.args.self.now.round.now in (
       (λ h s. (looked.served h).0),

@@ -20,7 +20,7 @@ returns-clause-told g c =
     let lacks = c.in_ok-facts.ensures in
     let read = c.in_ok-facts-2.ensures in
     let first = g.S.ReadStore.content c.any_lacking.new.store in
-    let last = g.S.ReadStore.content c.round.new.self in
+    let last = g.S.ReadStore.content c.find_round.new.store in
     let put = c.args.self.now in
     let lacking : World → Type 0 = λ w. IsTrue c.in_ok-facts.field-0 ↔ SheetLacks w put.sheet.now in (
       (λ h s. (read.served h).0),

@@ -10,7 +10,7 @@ use Rattle.hall_desk.proofs.release.ReleaseHandler.decision.Goals as goal
 pub returns-in-Some-clause-told : goal.returns-in-Some-clause-told
 returns-in-Some-clause-told g c =
     let read = c.in_ok-facts.ensures in
-    let world = (g.S.ReadStore.content c.round.new.self).world in (
+    let world = (g.S.ReadStore.content c.find_round.new.store).world in (
       (λ h s. (read.served h).0),
       (λ h s. c.in-Some.ensures.some world (draft_told world _ c.args.action.now c.args.self.now.round.now
           c.requires.same (read.served h).1.row)),
@@ -20,7 +20,7 @@ pub returns-in-Some-decide_up_to-clause-told : goal.returns-in-Some-decide_up_to
 returns-in-Some-decide_up_to-clause-told g c =
     let read = c.in_ok-facts.ensures in
     let shared = c.in_ok-facts-2.ensures in
-    let first = g.S.ReadStore.content c.round.new.self in
+    let first = g.S.ReadStore.content c.find_round.new.store in
     let last = g.S.ReadStore.content c.find_fault.new.store in
     let world = last.world in
     let id = c.args.self.now.round.now in (
@@ -35,7 +35,7 @@ returns-clause-told g c =
     let read = c.in_ok-facts.ensures in
     let shared = c.in_ok-facts-2.ensures in
     let uncertified = c.in_ok-facts-3.ensures in
-    let first = g.S.ReadStore.content c.round.new.self in
+    let first = g.S.ReadStore.content c.find_round.new.store in
     let second = g.S.ReadStore.content c.find_fault.new.store in
     let last = g.S.ReadStore.content c.find_fault-2.new.store in
     let world = last.world in

@@ -11,7 +11,7 @@ pub returns-in-Some-clause-told : goal.returns-in-Some-clause-told
 returns-in-Some-clause-told g c =
     let read = c.in_ok-facts.ensures in
     let standing = c.in_ok-facts-2.ensures in
-    let first = g.S.ReadStore.content c.round.new.self in
+    let first = g.S.ReadStore.content c.find_round.new.store in
     let last = g.S.ReadStore.content c.protest.new.self in
     let asked = c.args.self.now in (
       (λ h s. (standing.served h).0),
@@ -28,7 +28,7 @@ returns-clause-told g c =
     let read = c.in_ok-facts.ensures in
     let standing = c.in_ok-facts-2.ensures in
     let looked = c.in_ok-facts-3.ensures in
-    let first = g.S.ReadStore.content c.round.new.self in
+    let first = g.S.ReadStore.content c.find_round.new.store in
     let second = g.S.ReadStore.content c.protest.new.self in
     let last = g.S.ReadStore.content c.is_involved.new.store in
     let asked = c.args.self.now in
