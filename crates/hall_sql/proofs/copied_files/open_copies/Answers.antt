@@ -10,6 +10,7 @@ image log db = record { log = log; db = db }
 
 pub returns-in-Ok-clause-found : goal.returns-in-Ok-clause-found
 returns-in-Ok-clause-found g c = record {
+  unlimited = c.in-Ok.ensures.fresh.unlimited;
   opened = c.in-Ok.ensures.opened;
   found = λ clean.
       let it = c.in-Ok.ensures.found clean in

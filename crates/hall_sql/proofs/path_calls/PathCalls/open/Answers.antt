@@ -4,7 +4,7 @@ use Rattle.sqlite_disk.specs.declared.Files.{Files}
 use Rattle.sqlite.specs.Files.{FailsToOpenFiles, IsCleanLeft, IsOpened, LeavesFiles, file_state}
 use Rattle.sqlite.specs.declared.error.Error.{Error}
 use Rattle.sqlite.specs.declared.file.Leftover.{Leftover}
-use Rattle.sqlite.specs.Held.{Held}
+use Rattle.sqlite.specs.Held.{Held, IsNew}
 use Rattle.sqlite.specs.Opening.{is_open_error}
 use Rattle.sqlite.specs.Recovery.{Image}
 use Rattle.sqlite.specs.Start.{FindsIn}
@@ -18,9 +18,9 @@ use Rattle.hall_sql.proofs.path_calls.PathCalls.open.Goals as goal
 found : {D E : Type 0} {g : Ghosts D} (image : Image) (opened : Result (Held (FileStore D g)) E)
     → IfOk opened (λ conn. HasCleanDisk (file_state conn) → IsOpened conn)
     → IfOk opened (λ conn. HasCleanDisk (file_state conn) → FindsIn image (file_state conn))
-    → IfOk opened (λ conn. IsImageFound image (file_state conn))
-found image (Ok conn) opens finds = record { opened = opens; found = finds }
-found image (Err e) opens finds = tt
+    → IfOk opened IsNew → IfOk opened (λ conn. IsImageFound image (file_state conn))
+found image (Ok conn) opens finds fresh = record { unlimited = fresh.unlimited; opened = opens; found = finds }
+found image (Err e) opens finds fresh = tt
 
 -- an error without files left, and one with them
 refused : {T D : Type 0} {g : Ghosts D} (IsLog IsDb : D → Type 0) (opened : Result T (Error × Option (Leftover D g)))
@@ -37,7 +37,7 @@ refused IsLog IsDb (Err (error, Some left)) named none some =
 pub returns-clause-found : goal.returns-clause-found
 returns-clause-found g c =
     let opened = c.open_from-opened in
-    found _ opened.result opened.ensures.opened opened.ensures.found
+    found _ opened.result opened.ensures.opened opened.ensures.found opened.ensures.fresh
 
 pub returns-clause-refused : goal.returns-clause-refused
 returns-clause-refused g c =
