@@ -10,11 +10,13 @@ use Rattle.sqlite_std_file.specs.File.{IsFresh}
 use Rattle.sqlite_std_file.specs.declared.host.Host.{Host}
 use Rattle.sqlite_disk.specs.declared.Files.{Files}
 use Rattle.sqlite.specs.Files.{FailsToOpenFiles, IsCleanLeft, LeavesFiles}
+use Rattle.sqlite.specs.Held.{Held}
 use Rattle.sqlite.specs.Opening.{is_open_error}
 use Rattle.sqlite.specs.declared.error.Error.{Error}
 use Rattle.sqlite.specs.declared.error.Error.TheVariants.{SqliteFailure}
 use Rattle.sqlite.specs.declared.error.ErrorCode.TheVariants.{CannotOpen, DatabaseBusy, OutOfMemory}
 use Rattle.sqlite.specs.declared.file.Leftover.{Leftover}
+use Rattle.sqlite_store.specs.declared.store.FileStore.{FileStore}
 use Rattle.hall_sql.specs.declared.path_calls.PathCall.{PathCall}
 use Rattle.hall_sql.specs.declared.path_calls.PathCall.TheVariants.{Open}
 use Rattle.hall_sql.specs.declared.path_calls.PathCalls.{PathCalls}
@@ -56,6 +58,12 @@ abbrev pub WasCalled : PathCall → PathCalls → List ℕ → PathCalls → Typ
 WasCalled call old path new = named new.log ≡ named old.log ++ (path, call) ∷ []
 
 -- so it was asked for a database, which was handed out, or refused by the error
-abbrev pub WasOpened : {T L : Type 0} → PathCalls → List ℕ → Result T (Error × L) → PathCalls → Type 0
+abbrev pub WasOpened : {T : Type 0} → PathCalls → List ℕ → Result T Error → PathCalls → Type 0
 WasOpened old path (Ok it) new = WasCalled (Open (Ok tt)) old path new
-WasOpened old path (Err unopened) new = WasCalled (Open (Err unopened.0)) old path new
+WasOpened old path (Err error) new = WasCalled (Open (Err error)) old path new
+
+-- where no connection was handed out, there is this cause, over files that were so
+abbrev pub IsRefusedFor : {T D : Type 0} {g : Ghosts D} → (T → Held (FileStore D g)) → (Files D → Type 0)
+    → Result T Error → Type 0
+IsRefusedFor conn_of Were (Ok it) = Unit {0}
+IsRefusedFor {T} {D} {g} conn_of Were (Err error) = (left : Option (Leftover D g)) × IsUnopened Were left error

@@ -211,13 +211,9 @@ impl<B: Start> PathFiles<FileStore<Copied<B>>> for CopiedFiles<'_, B> {
         if self.start.take().is_none() {
             return Err(Error::SqliteFailure(ErrorCode::CannotOpen));
         }
-        match self.calls.open_copies(path) {
-            Ok((file, conn)) => {
-                self.lock = Some(file);
-                Ok(conn)
-            }
-            Err((error, _left)) => Err(error),
-        }
+        let (file, conn) = self.calls.open_copies(path)?;
+        self.lock = Some(file);
+        Ok(conn)
     }
 
     fn close(&mut self, left: &mut Option<GivenBack<CopiedConnection<B>>>) {

@@ -1,12 +1,11 @@
 //! What this machine was asked of its paths, and what it told: a history that only proofs read.
-ghost use Rattle.std.specs.Prelude.{◌≡◌, [], None, IfErr, IfOk};
+ghost use Rattle.std.specs.Prelude.{◌≡◌, [], None, IfOk};
 ghost use Rattle.sqlite.specs.Files.{file_state};
 ghost use Rattle.sqlite.specs.WalFiles.{image_at};
 ghost use Rattle.hall_sql.specs.Copied.{AreCopies};
 ghost use Rattle.hall_sql.specs.Opened.{IsImageFound};
-ghost use Rattle.hall_sql.specs.PathCalls.{AreFresh, IsUnopened, WasCalled, WasOpened, named, noted};
+ghost use Rattle.hall_sql.specs.PathCalls.{AreFresh, IsRefusedFor, WasCalled, WasOpened, named, noted};
 
-use crate::copied::Copied;
 use crate::copied_files::{CopiedConnection, read_database};
 use crate::given_back::GivenBack;
 use http_server::Log;
@@ -92,30 +91,27 @@ impl<'r> PathCalls<'r> {
         }
     }
 
-    /// Adds that the path was asked for a database, and what was told.
-    fn add_opened<T, L>(&mut self, path: &str, opened: &Result<T, (Error, L)>)
-        ensures { WasOpened self.old path.now opened.now self.new }
-    {
-        let told = match opened {
-            Ok(_) => Ok(()),
-            Err((error, _)) => Err(*error),
-        };
-        self.add(path, &PathCall::Open(told));
-    }
-
-    /// Asks the system for the database at the path, whose files hold what `B` stands for.
+    /// Asks the system for the database at the path, whose files hold what `B` stands for. What is left of files that give
+    /// none goes no further.
     pub(crate) fn open<B: Start>(
         &mut self,
         path: &str,
         start: B,
-    ) -> Result<Connection<FileStore<FileFrom<B>>>, Unopened<FileFrom<B>>>
+    ) -> Result<Connection<FileStore<FileFrom<B>>>, Error>
         ensures called { WasOpened self.old path.now result self.new }
         ensures found { IfOk result (λ conn. IsImageFound (image_at B.Start) (file_state conn)) }
-        ensures refused { IfErr result (λ unopened. IsUnopened AreFresh unopened.1 unopened.0) }
+        ensures refused { IsRefusedFor (λ conn. conn) AreFresh result }
     {
-        let opened = Connection::open_from(self.rt, path, false, start);
-        self.add_opened(path, &opened);
-        opened
+        match Connection::open_from(self.rt, path, false, start) {
+            Ok(conn) => {
+                self.add(path, &PathCall::Open(Ok(())));
+                Ok(conn)
+            }
+            Err((error, _left)) => {
+                self.add(path, &PathCall::Open(Err(error)));
+                Err(error)
+            }
+        }
     }
 
     /// Asks the system for the database at the path, in copies of its files, which hold what `B` stands for, and for
@@ -123,14 +119,21 @@ impl<'r> PathCalls<'r> {
     pub(crate) fn open_copies<B: Start>(
         &mut self,
         path: &str,
-    ) -> Result<(File, CopiedConnection<B>), Unopened<Copied<B>>>
+    ) -> Result<(File, CopiedConnection<B>), Error>
         ensures called { WasOpened self.old path.now result self.new }
         ensures found { IfOk result (λ it. IsImageFound (image_at B.Start) (file_state it.1)) }
-        ensures refused { IfErr result (λ unopened. IsUnopened AreCopies unopened.1 unopened.0) }
+        ensures refused { IsRefusedFor (λ it. it.1) AreCopies result }
     {
-        let opened = read_database(self.rt, path);
-        self.add_opened(path, &opened);
-        opened
+        match read_database(self.rt, path) {
+            Ok((file, conn)) => {
+                self.add(path, &PathCall::Open(Ok(())));
+                Ok((file, conn))
+            }
+            Err((error, _left)) => {
+                self.add(path, &PathCall::Open(Err(error)));
+                Err(error)
+            }
+        }
     }
 
     /// Takes a database back. Nobody can reach what it is given.

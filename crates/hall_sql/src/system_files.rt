@@ -66,12 +66,9 @@ impl<B: Start> PathFiles<FileStore<FileFrom<B>>> for SystemFiles<'_, B> {
     }
 
     fn open(&mut self, path: &str) -> Result<Connection<FileStore<FileFrom<B>>>, Error> {
-        let Some(start) = self.start.take() else {
-            return Err(Error::SqliteFailure(ErrorCode::CannotOpen));
-        };
-        match self.calls.open(path, start) {
-            Ok(conn) => Ok(conn),
-            Err((error, _left)) => Err(error),
+        match self.start.take() {
+            Some(start) => self.calls.open(path, start),
+            None => Err(Error::SqliteFailure(ErrorCode::CannotOpen)),
         }
     }
 
