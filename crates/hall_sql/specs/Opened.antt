@@ -24,8 +24,8 @@ use Rattle.hall_sql.specs.Migrate.{StandsForOld}
 use Rattle.hall_sql.specs.declared.open.OpenFault.{OpenFault}
 use Rattle.hall_sql.specs.declared.open.OpenFault.TheVariants.{Missing, Unopened, Old, Refused}
 
--- where the device was honest, the connection stands for what the log and the database file hold; no limit is set on the
--- steps of its statements, so that no database is refused for one
+-- where the device was honest, the connection stands for what the log and the database file hold; no limit is set on
+-- the steps of its statements, so that no database is refused for one
 pub record IsImageFound (image : Image) (s : State) : Type 0 where
   pub unlimited : s.step_limit ≡ None
   pub opened : HasCleanDisk s → Opens s × IsLive s

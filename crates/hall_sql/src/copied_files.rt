@@ -9,9 +9,9 @@ ghost use Rattle.hall_sql.specs.PathCalls.{IsUnopened, named};
 use crate::copied::Copied;
 use crate::given_back::GivenBack;
 use crate::open::PathFiles;
-use crate::path_calls::{PathCalls, Unopened};
+use crate::path_calls::PathCalls;
 use os::RangeLock;
-use sqlite::{Connection, Error, ErrorCode, FileStore, Files, Options, Start};
+use sqlite::{Connection, Error, ErrorCode, FileStore, Files, Leftover, Options, Start};
 use std::fs::{File, OpenOptions};
 use std::hash::{BuildHasher, RandomState};
 use std::io::{ErrorKind, Read};
@@ -26,6 +26,9 @@ const LAST_STREAM: i32 = 2;
 
 /// A database in copies of files of this machine, which held what `B` stands for.
 pub(crate) type CopiedConnection<B> = Connection<FileStore<Copied<B>>>;
+
+/// Why no database was opened, and what is left of the copies once they were.
+type Unopened<B> = (Error, Option<Leftover<Copied<B>>>);
 
 /// The files of this machine, of which one database is read into memory, with its log, and opened there: what it held,
 /// `B` stands for. Until it is given back, no other program has the database open.
@@ -53,7 +56,7 @@ impl<'r, B: Start> CopiedFiles<'r, B> {
 }
 
 /// What was had of the files, or why it can't be, as a database tells it: none was opened.
-fn had<T, B: Start>(found: io::Result<T>) -> Result<T, Unopened<Copied<B>>>
+fn had<T, B: Start>(found: io::Result<T>) -> Result<T, Unopened<B>>
     ensures found { IfOk result (λ it. found ≡ Ok it) }
     ensures refused { IfErr result (λ unopened. IsUnopened AreCopies unopened.1 unopened.0) }
 {
@@ -148,7 +151,7 @@ fn read_files<B: Start>(rt: &HostRuntime, path: &str) -> io::Result<(File, Files
 fn open_copies<B: Start>(
     rt: &HostRuntime,
     files: Files<Copied<B>>,
-) -> Result<CopiedConnection<B>, Unopened<Copied<B>>>
+) -> Result<CopiedConnection<B>, Unopened<B>>
     requires { AreCopies files }
     ensures found { IfOk result (λ conn. IsImageFound (image_at B.Start) (file_state conn)) }
     ensures refused { IfErr result (λ unopened. IsUnopened AreCopies unopened.1 unopened.0) }
@@ -164,7 +167,7 @@ fn open_copies<B: Start>(
 pub(crate) fn read_database<B: Start>(
     rt: &HostRuntime,
     path: &str,
-) -> Result<(File, CopiedConnection<B>), Unopened<Copied<B>>>
+) -> Result<(File, CopiedConnection<B>), Unopened<B>>
     ensures found { IfOk result (λ it. IsImageFound (image_at B.Start) (file_state it.1)) }
     ensures refused { IfErr result (λ unopened. IsUnopened AreCopies unopened.1 unopened.0) }
 {

@@ -9,16 +9,13 @@ ghost use Rattle.hall_sql.specs.PathCalls.{AreFresh, IsRefusedFor, WasCalled, Wa
 use crate::copied_files::{CopiedConnection, read_database};
 use crate::given_back::GivenBack;
 use http_server::Log;
-use sqlite::{Connection, Error, FileFrom, FileStore, Leftover, Start};
+use sqlite::{Connection, Error, FileFrom, FileStore, Start};
 use std::fs::File;
 use std::io::ErrorKind;
 use std::{fs, io};
 
 /// The bytes of a path.
-pub(crate) type Noted = Log<u8, ()>;
-
-/// Why no database was handed out, and what is left of the files once they were opened.
-pub(crate) type Unopened<D> = (Error, Option<Leftover<D>>);
+type Noted = Log<u8, ()>;
 
 /// A call that was made of files, with what it told.
 #[derive(Drop)]
@@ -91,8 +88,8 @@ impl<'r> PathCalls<'r> {
         }
     }
 
-    /// Asks the system for the database at the path, whose files hold what `B` stands for. What is left of files that give
-    /// none goes no further.
+    /// Asks the system for the database at the path, whose files hold what `B` stands for. What is left of files that
+    /// give none goes no further.
     pub(crate) fn open<B: Start>(
         &mut self,
         path: &str,
