@@ -3,7 +3,7 @@
 
 mod asked;
 mod facts;
-mod law;
+mod laws;
 mod list;
 mod number;
 mod ranges;
@@ -16,7 +16,7 @@ mod sink;
 mod text;
 
 pub use facts::Facts;
-pub use law::law_decisions;
+pub use laws::law_decisions;
 pub use list::{Entries, MOST_ENTRIES, MOST_PEOPLE, MOST_TESTERS, People, Testers, is_new};
 pub use number::{
     AnswerNumber, Bonus, Budget, MOST_ANSWERS, MOST_PROTESTS, MOST_PUZZLES, Minutes, Moment,

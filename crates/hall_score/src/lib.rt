@@ -2,7 +2,7 @@
 #![tactic(auto)]
 
 mod entrant;
-mod law;
+mod laws;
 mod points;
 mod progress;
 mod ranking;
@@ -12,7 +12,7 @@ mod tally;
 mod totals;
 mod tries;
 
-pub use law::law_totals;
+pub use laws::law_totals;
 pub use points::total;
 pub use ranking::{Line, standings};
 pub use table::table_text;

@@ -3,7 +3,7 @@
 
 mod entry;
 mod fault;
-mod law;
+mod laws;
 mod list;
 mod sheet;
 mod start;
@@ -13,6 +13,6 @@ mod words;
 mod zone;
 
 pub use fault::{Field, Refusal, SheetFault};
-pub use law::law_zone;
+pub use laws::law_zone;
 pub use list::read_people;
 pub use sheet::read_round;

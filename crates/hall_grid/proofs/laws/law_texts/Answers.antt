@@ -4,7 +4,7 @@ use Rattle.hall_grid.proofs.Bodies.{IsBoard-from_Spells}
 use Rattle.hall_grid.proofs.SpellsOnePuzzle.{one_puzzle, no_text_fault, one_text_fault}
 use Rattle.hall_grid.proofs.HasOneCanonicalText.{one_canonical_text}
 use Rattle.hall_grid.proofs.CanonicalSpells.{SpellsText-from_CanonicalText}
-use Rattle.hall_grid.proofs.law.law_texts.Goals as goal
+use Rattle.hall_grid.proofs.laws.law_texts.Goals as goal
 
 pub returns-clause-spells_or_fault : goal.returns-clause-spells_or_fault
 returns-clause-spells_or_fault c = spells_or_fault

@@ -1,6 +1,6 @@
 use Rattle.hall_score.proofs.RightTotals.{totals_are_right, totals_keep_no_order}
 use Rattle.hall_score.proofs.OneTotal.{totals_are_one}
-use Rattle.hall_score.proofs.law.law_totals.Goals as goal
+use Rattle.hall_score.proofs.laws.law_totals.Goals as goal
 
 pub returns-clause-right : goal.returns-clause-right
 returns-clause-right c = totals_are_right

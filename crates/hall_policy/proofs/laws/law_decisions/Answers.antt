@@ -1,6 +1,6 @@
 use Rattle.hall_policy.proofs.Deciding.{decisions_agree}
 use Rattle.hall_policy.proofs.LoneDecisions.{entrants_decided_alike}
-use Rattle.hall_policy.proofs.law.law_decisions.Goals as goal
+use Rattle.hall_policy.proofs.laws.law_decisions.Goals as goal
 
 pub returns-clause-one : goal.returns-clause-one
 returns-clause-one c = decisions_agree

@@ -1,6 +1,6 @@
 use Rattle.hall_sheet.proofs.Clocks.{clocks_show_starts}
 use Rattle.hall_sheet.proofs.Seasons.{seasons_are_regular}
-use Rattle.hall_sheet.proofs.law.law_zone.Goals as goal
+use Rattle.hall_sheet.proofs.laws.law_zone.Goals as goal
 
 pub returns-clause-shown : goal.returns-clause-shown
 returns-clause-shown c = clocks_show_starts
