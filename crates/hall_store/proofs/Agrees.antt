@@ -193,6 +193,9 @@ write_agrees result change old new before after spares agrees makes same forgot 
 pub answers_spare : (row : _) → Spares (Change.AddAnswer row)
 answers_spare row world = record { people = refl; rounds = refl; places = refl; puzzles = refl; testers = refl }
 
+pub joint_spare : (rows : _) → Spares (Change.AddAnswers rows)
+joint_spare rows world = record { people = refl; rounds = refl; places = refl; puzzles = refl; testers = refl }
+
 pub protests_spare : (row : _) → Spares (Change.AddProtest row)
 protests_spare row world = record { people = refl; rounds = refl; places = refl; puzzles = refl; testers = refl }
 

@@ -4,6 +4,7 @@ pub mod Firsts
 pub mod MapWorlds
 pub mod RoundWorlds
 pub mod AnswerWorlds
+pub mod PutAnswers
 pub mod UsingRounds
 pub mod Inserts
 pub mod Knowing

@@ -2,7 +2,7 @@
 use Rattle.std.specs.Prelude.{◌≡◌, ◌≢◌, ◌+◌, ℕ, true, not, List, [], ◌∷◌, Option, Some, None, Contains, if◌then◌else◌}
 use Rattle.std.specs.FinMap.{FinMap, get, contains_key, insert, retain_keys}
 use Rattle.hall_policy.specs.Text.{text_cmp}
-use Rattle.hall_policy.specs.World.{World, place_cmp, tester_cmp, same_text}
+use Rattle.hall_policy.specs.World.{World, answer_cmp, place_cmp, tester_cmp, same_text}
 use Rattle.hall_policy.specs.Rules.{Conflicts}
 use Rattle.hall_policy.specs.declared.record.Person.{Person}
 use Rattle.hall_policy.specs.declared.record.Entry.{Entry}
@@ -17,7 +17,8 @@ use Rattle.hall_policy.specs.declared.record.Round.{Round}
 use Rattle.hall_policy.specs.declared.record.RoundRow.{RoundRow}
 use Rattle.hall_store.specs.declared.change.Change.{Change}
 use Rattle.hall_store.specs.declared.change.Change.TheVariants.{Nothing, Import, PutPuzzle, SetState}
-use Rattle.hall_store.specs.declared.change.Change.TheVariants.{PutRound, SetRoundFlag, AddAnswer, AddProtest}
+use Rattle.hall_store.specs.declared.change.Change.TheVariants.{PutRound, SetRoundFlag, AddAnswer, AddAnswers}
+use Rattle.hall_store.specs.declared.change.Change.TheVariants.{AddProtest}
 use Rattle.hall_store.specs.declared.change.Change.TheVariants.{RuleProtest}
 use Rattle.hall_store.specs.declared.change.RoundFlag.{RoundFlag}
 use Rattle.hall_store.specs.declared.change.RoundFlag.TheVariants.{Released, Published}
@@ -81,6 +82,11 @@ with_ruling world key ruling None = world
 with_ruling world key ruling (Some row) =
     record world { protests = insert world.protests key (record row { ruling = Some ruling }) }
 
+-- the answers, and these, one after another
+abbrev pub with_answers : FinMap answer_cmp AnswerRow → List AnswerRow → FinMap answer_cmp AnswerRow
+with_answers answers [] = answers
+with_answers answers (row ∷ rows) = with_answers (insert answers row.key row) rows
+
 -- the world after a change
 abbrev pub changed : Change → World → World
 changed Nothing world = world
@@ -94,6 +100,7 @@ changed (PutRound row) world = record world {
 }
 changed (SetRoundFlag id flag) world = with_flag world id flag (get world.rounds id)
 changed (AddAnswer row) world = record world { answers = insert world.answers row.key row }
+changed (AddAnswers rows) world = record world { answers = with_answers world.answers rows }
 changed (AddProtest row) world = record world { protests = insert world.protests row.key row }
 changed (RuleProtest key ruling) world = with_ruling world key ruling (get world.protests key)
 
@@ -129,6 +136,12 @@ pub record CanAddAnswer (world : World) (row : AnswerRow) : Type 0 where
       (record { entrant = row.key.entrant; round = row.key.round; number = row.key.number; token = token })
       ≡ Some other → other.n ≢ row.n
 
+-- each of the answers may be added after those before it
+abbrev pub CanAddAnswers : World → List AnswerRow → Type 0
+CanAddAnswers world [] = Unit {0}
+CanAddAnswers world (row ∷ rows) =
+    CanAddAnswer world row × CanAddAnswers (record world { answers = insert world.answers row.key row }) rows
+
 -- the key is new, and what the row refers to is there
 pub record CanAddProtest (world : World) (row : ProtestRow) : Type 0 where
   pub fresh : get world.protests row.key ≡ None
@@ -149,5 +162,6 @@ CanMake (SetState key state) world = CanSetState world key
 CanMake (PutRound row) world = CanPutRound world row
 CanMake (SetRoundFlag id flag) world = CanSetFlag world id
 CanMake (AddAnswer row) world = CanAddAnswer world row
+CanMake (AddAnswers rows) world = CanAddAnswers world rows
 CanMake (AddProtest row) world = CanAddProtest world row
 CanMake (RuleProtest key ruling) world = CanRuleProtest world key

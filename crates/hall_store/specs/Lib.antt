@@ -1,4 +1,5 @@
 pub mod Change
+pub mod Joint
 pub mod Store
 pub mod Caller
 pub mod Keyed

@@ -1,16 +1,21 @@
 -- The world that ordered maps keep.
-use Rattle.std.specs.Prelude.{⊤, ℕ, ◌+◌, List, [], ◌∷◌, map}
+use Rattle.std.specs.Prelude.{⊤, ℕ, ◌≡◌, ◌+◌, List, [], ◌∷◌, Some, cond, map}
 use Rattle.std.specs.List.{flat_map}
+use Rattle.std.specs.Map.{lookup}
+use Rattle.std.specs.BTreeMap.{insert_entry, is_at}
 use Rattle.std.specs.FinMap.{from_entries, empty}
 use Rattle.hall_policy.specs.World.{World}
+use Rattle.hall_policy.specs.declared.record.AnswerRow.{AnswerRow}
 use Rattle.hall_policy.specs.declared.record.Round.{Round}
 use Rattle.hall_policy.specs.declared.record.Entry.{Entry}
 use Rattle.hall_policy.specs.declared.record.PlaceKey.{PlaceKey}
 use Rattle.hall_policy.specs.declared.record.RoundRow.{RoundRow}
 use Rattle.hall_policy.specs.declared.record.TesterKey.{TesterKey}
-use Rattle.hall_store.specs.Keyed.{answer_entry}
+use Rattle.hall_store.specs.Change.{with_answers}
+use Rattle.hall_store.specs.Keyed.{AreKeysDistinct, Each, IsAnswerKept, answer_entry, slot_cmp}
 use Rattle.hall_store.specs.Store.{Content}
 use Rattle.hall_store.specs.declared.map_store.MapStore.{MapStore}
+use Rattle.hall_store.specs.declared.slot.AnswerSlot.{AnswerSlot}
 
 -- a round without its puzzles and testers, under its id
 abbrev pub round_head : List ℕ × RoundRow → List ℕ × Round
@@ -67,3 +72,19 @@ empty_world = record {
   protests = empty;
   testers = empty;
 }
+
+-- the answer was put into its own slot
+pub record HasPutAnswer (before : List (AnswerSlot × AnswerRow)) (row : AnswerRow)
+    (after : List (AnswerSlot × AnswerRow)) : Type 0 where
+  pub slot : AnswerSlot
+  pub kept : IsAnswerKept slot row
+  pub put : after ≡ insert_entry slot_cmp before slot row
+  pub found : (q : AnswerSlot) → lookup (is_at (slot_cmp q)) after
+      ≡ cond (is_at (slot_cmp slot) q) (Some row) (lookup (is_at (slot_cmp q)) before)
+
+-- the entries are the store's answers and these, one after another, each in its own slot, and no two of one key
+pub record HoldsAnswers (store : MapStore) (rows : List AnswerRow) (entries : List (AnswerSlot × AnswerRow))
+    : Type 0 where
+  pub kept : Each slot_cmp entries IsAnswerKept
+  pub distinct : AreKeysDistinct entries
+  pub made : from_entries (map answer_entry entries) ≡ with_answers (world_of_maps store).answers rows

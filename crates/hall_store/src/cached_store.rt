@@ -2,6 +2,7 @@
 use crate::cache::Cache;
 use crate::change::RoundFlag;
 use crate::fault::StoreFault;
+use crate::joint::JointAnswers;
 use crate::store::{ReadStore, Store};
 use hall_policy::{
     AnswerKey, AnswerNumber, AnswerRow, Key, Name, People, Person, ProtestKey, ProtestRow,
@@ -317,6 +318,12 @@ impl<S: Store> Store for CachedStore<S> {
 
     fn add_answer(&mut self, alloc: Global, row: AnswerRow) -> Result<(), StoreFault> {
         let told = self.store.add_answer(alloc, row);
+        self.cache.forget_if_refused(&told);
+        told
+    }
+
+    fn add_answers(&mut self, alloc: Global, rows: &JointAnswers) -> Result<(), StoreFault> {
+        let told = self.store.add_answers(alloc, rows);
         self.cache.forget_if_refused(&told);
         told
     }

@@ -1,4 +1,5 @@
 //! A change of the world.
+use crate::joint::JointAnswers;
 use hall_policy::{
     AnswerRow, People, ProtestKey, ProtestRow, PuzzleKey, PuzzleRow, PuzzleState, RoundId,
     RoundRow, Ruling,
@@ -27,6 +28,8 @@ pub enum Change {
     SetRoundFlag { round: RoundId, flag: RoundFlag },
     /// Stores one more answer.
     AddAnswer(AnswerRow),
+    /// Stores some more answers, one after another.
+    AddAnswers(JointAnswers),
     /// Stores one more protest.
     AddProtest(ProtestRow),
     /// Rules the protest under the key.

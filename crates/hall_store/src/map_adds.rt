@@ -4,15 +4,16 @@ ghost use Rattle.std.specs.BTreeMap as tree;
 ghost use Rattle.std.specs.FinMap.{from_entries};
 ghost use Rattle.hall_policy.specs.Text.{text_cmp};
 ghost use Rattle.hall_policy.specs.Lists.{ArePeopleDifferent};
-ghost use Rattle.hall_store.specs.Change.{with_people};
+ghost use Rattle.hall_store.specs.Change.{CanAddAnswers, with_people};
 ghost use Rattle.hall_store.specs.Keyed.{Each, IsRoundIndexed, IsUseKept, UsesStay, use_cmp, use_of};
 ghost use Rattle.hall_store.specs.Keyed.{AgreedStay, AreLed};
-ghost use Rattle.hall_store.specs.Maps.{world_of_maps, empty_world};
+ghost use Rattle.hall_store.specs.Maps.{HasPutAnswer, HoldsAnswers, world_of_maps, empty_world};
 
+use crate::answer_reads::own_slot;
 use crate::map_store::MapStore;
-use crate::slot::UseKey;
+use crate::slot::{AnswerSlot, UseKey};
 use crate::writes::put;
-use hall_policy::{Key, Name, Person, PuzzleKey, RoundId, RoundRow};
+use hall_policy::{AnswerRow, Key, Name, Person, PuzzleKey, RoundId, RoundRow};
 use std::alloc::{AllocError, Global};
 use std::collections::BTreeMap;
 
@@ -137,4 +138,31 @@ pub(crate) fn put_round(
 {
     let id = row.round.id.clone()?;
     put(rounds, id, row)
+}
+
+/// The answers of the store, and these, one after another.
+pub(crate) fn with_answers(
+    store: &MapStore,
+    rows: &[AnswerRow],
+) -> Result<BTreeMap<AnswerSlot, AnswerRow>, AllocError>
+    requires { CanAddAnswers (world_of_maps store.now) rows.now }
+    ensures { IfOk result (λ answers. HoldsAnswers store.now rows.now answers.entries) }
+{
+    let mut answers = store.answers.clone()?;
+    for row in rows {
+        put_answer(&mut answers, row.clone()?)?;
+    }
+    Ok(answers)
+}
+
+/// Puts the answer into its own slot. Refused, it leaves the answers.
+pub(crate) fn put_answer(
+    answers: &mut BTreeMap<AnswerSlot, AnswerRow>,
+    row: AnswerRow,
+) -> Result<(), AllocError>
+    ensures ok { OnOk result (HasPutAnswer answers.old.entries row answers.new.entries) }
+    ensures err { OnErr result (tree.IsUnchanged answers.old answers.new) }
+{
+    let slot = own_slot(&row)?;
+    put(answers, slot, row)
 }

@@ -4,11 +4,14 @@ ghost use Rattle.hall_store.specs.Change.{flagged};
 
 use crate::answer_reads::{
     answer_rows, answer_with, count_answers, feed_answers, first_in, first_of, first_to,
-    has_answer, is_taken, own_slot, slot_at,
+    has_answer, is_taken, slot_at,
 };
 use crate::change::RoundFlag;
 use crate::fault::StoreFault;
-use crate::map_adds::{index_people, index_round, put_round, with_people};
+use crate::joint::JointAnswers;
+use crate::map_adds::{
+    index_people, index_round, put_answer, put_round, with_answers, with_people,
+};
 use crate::map_reads::{
     all_people, all_puzzle_rows, count_puzzles, first_label, first_use, heads, holder, ids_using,
     own_key, person_at, puzzle_at, puzzle_rows, round_at, testers_at,
@@ -247,8 +250,14 @@ impl Store for MapStore {
     }
 
     fn add_answer(&mut self, _alloc: Global, row: AnswerRow) -> Result<(), StoreFault> {
-        let slot = own_slot(&row)?;
-        put(&mut self.answers, slot, row)?;
+        put_answer(&mut self.answers, row)?;
+        Ok(())
+    }
+
+    fn add_answers(&mut self, _alloc: Global, rows: &JointAnswers) -> Result<(), StoreFault> {
+        // A copy takes the place of the answers at the end, so that a refusal leaves them.
+        let answers = with_answers(self, rows.as_slice())?;
+        self.answers = answers;
         Ok(())
     }
 

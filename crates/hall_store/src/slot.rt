@@ -1,5 +1,7 @@
 //! The keys of the maps of answers and of uses, whose orders put side by side what is asked for together.
+use crate::answer_reads::slot_at;
 use hall_policy::{AnswerNumber, Label, Name, PuzzleNumber, RoundId};
+use std::alloc::AllocError;
 
 /// Where an answer is kept: a round's slots are in the order of listings.
 #[derive(PartialEq, Eq, PartialOrd, Ord, Drop)]
@@ -8,6 +10,17 @@ pub(crate) struct AnswerSlot {
     pub(crate) entrant: Name,
     pub(crate) number: PuzzleNumber,
     pub(crate) n: AnswerNumber,
+}
+
+// By hand, as a derived one would ask each field for memory.
+impl Clone for AnswerSlot {
+    ghost use Rattle.std.specs.Prelude.{◌≡◌};
+
+    ghost is_clone = { λ x y. y ≡ x };
+
+    fn clone(&self) -> Result<AnswerSlot, AllocError> {
+        slot_at(&self.entrant, &self.round, self.number, self.n)
+    }
 }
 
 /// Which answers are asked for together.

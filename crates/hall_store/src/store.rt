@@ -1,6 +1,7 @@
 //! What keeps the world.
 use crate::change::RoundFlag;
 use crate::fault::StoreFault;
+use crate::joint::JointAnswers;
 use hall_policy::{
     AnswerKey, AnswerNumber, AnswerRow, Key, Name, People, Person, ProtestKey, ProtestRow,
     PuzzleKey, PuzzleNumber, PuzzleRow, PuzzleState, Round, RoundId, RoundRow, Ruling, Sink,
@@ -242,10 +243,11 @@ pub trait ReadStore: Drop {
 pub trait Store: ReadStore {
     ghost use Rattle.hall_store.specs.Store.{Fails, Asks, Makes};
     ghost use Rattle.hall_store.specs.Change.{CanImport, CanPutPuzzle, CanSetState, CanPutRound, CanSetFlag};
-    ghost use Rattle.hall_store.specs.Change.{CanAddAnswer};
+    ghost use Rattle.hall_store.specs.Change.{CanAddAnswer, CanAddAnswers};
     ghost use Rattle.hall_store.specs.Change.{CanAddProtest, CanRuleProtest};
     ghost use Rattle.hall_store.specs.declared.change.Change.TheVariants.{Import, PutPuzzle, SetState, PutRound};
-    ghost use Rattle.hall_store.specs.declared.change.Change.TheVariants.{SetRoundFlag, AddAnswer, AddProtest};
+    ghost use Rattle.hall_store.specs.declared.change.Change.TheVariants.{SetRoundFlag, AddAnswer, AddAnswers};
+    ghost use Rattle.hall_store.specs.declared.change.Change.TheVariants.{AddProtest};
     ghost use Rattle.hall_store.specs.declared.change.Change.TheVariants.{RuleProtest};
 
     /// Adds the people of the list whose names are unknown.
@@ -293,6 +295,12 @@ pub trait Store: ReadStore {
         requires { Asks (Self.content self.old) (λ world. CanAddAnswer world row) }
         ensures makes { Makes (AddAnswer row) (Self.content self.old) (Self.content self.new) result }
         ensures fault { Fails ((Self.content self.new).can_refuse (AddAnswer row)) result };
+
+    /// Stores some more answers, one after another: all of them or none.
+    fn add_answers(&mut self, alloc: Global, rows: &JointAnswers) -> Result<(), StoreFault>
+        requires { Asks (Self.content self.old) (λ world. CanAddAnswers world rows.now) }
+        ensures makes { Makes (AddAnswers rows.now) (Self.content self.old) (Self.content self.new) result }
+        ensures fault { Fails ((Self.content self.new).can_refuse (AddAnswers rows.now)) result };
 
     /// Stores one more protest.
     fn add_protest(&mut self, alloc: Global, row: ProtestRow) -> Result<(), StoreFault>

@@ -5,7 +5,7 @@ use hall_policy::{
     AnswerKey, AnswerNumber, AnswerRow, Key, Name, People, Person, ProtestKey, ProtestRow,
     PuzzleKey, PuzzleNumber, PuzzleRow, PuzzleState, Round, RoundId, RoundRow, Ruling, Sink,
 };
-use hall_store::{MapStore, ReadStore, RoundFlag, Store, StoreFault};
+use hall_store::{JointAnswers, MapStore, ReadStore, RoundFlag, Store, StoreFault};
 use std::alloc::Global;
 
 /// A store that answers so many calls, and fails at each further one. It hands on to the store that it was lent.
@@ -247,6 +247,11 @@ impl Store for LimitedStore<'_> {
     fn add_answer(&mut self, alloc: Global, row: AnswerRow) -> Result<(), StoreFault> {
         spend(&mut self.left)?;
         self.store.add_answer(alloc, row)
+    }
+
+    fn add_answers(&mut self, alloc: Global, rows: &JointAnswers) -> Result<(), StoreFault> {
+        spend(&mut self.left)?;
+        self.store.add_answers(alloc, rows)
     }
 
     fn add_protest(&mut self, alloc: Global, row: ProtestRow) -> Result<(), StoreFault> {
