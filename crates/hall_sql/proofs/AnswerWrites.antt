@@ -24,12 +24,13 @@ use Rattle.hall_sql.specs.declared.tables.HallTable.TheVariants.{Answers}
 use Rattle.hall_sql.specs.declared.answers.TheConstants.{ADD_ANSWER}
 use Rattle.hall_sql.specs.Columns.{answer_params}
 use Rattle.hall_sql.specs.Rows.{answer_of_row, world_of}
+use Rattle.hall_sql.specs.Spared.{may_write}
 use Rattle.hall_sql.specs.Standing.{HasAdded, IsHall, HasMade}
 use Rattle.hall_sql.specs.Fill.{AddsAnswer, WithAnswer}
 use Rattle.hall_sql.specs.Inside.{IsHallData}
 use Rattle.hall_sql.proofs.AnswerTexts.{added_terms, add_answer_is}
 use Rattle.hall_sql.proofs.AloneLemmas.{alone_world}
-use Rattle.hall_sql.proofs.AddLemmas.{IsInsert, row_put, row_made}
+use Rattle.hall_sql.proofs.AddLemmas.{IsInsert, added_spares, row_put, row_made}
 use Rattle.hall_sql.proofs.MapLemmas.{put_new}
 use Rattle.hall_sql.proofs.SparedLemmas.{taken_record}
 use Rattle.hall_sql.proofs.WriteLemmas.{cast_null, cast_number}
@@ -90,9 +91,18 @@ module _ (row : AnswerRow) (is : IsAnswerRow row) where
 
     -- the INSERT of an answer inside a transaction
     pub answer_put : IsHallData old.now → IsHallData new.now × AddsAnswer old.now row new.now
-    answer_put =
-        row_put Answers ADD_ANSWER.now params adds old new count ran WithAnswer row (ap is_some (answer_reads rowid))
-        (with_answer old.now new.now)
+    answer_put held =
+        let (after, it) = row_put Answers ADD_ANSWER.now params adds old new count ran WithAnswer row
+        (ap is_some (answer_reads rowid)) (with_answer old.now new.now) held in (
+          after,
+          record {
+            row = it.row;
+            world = it.world;
+            read = it.read;
+            others = added_spares (may_write (AddAnswer row)) 9 params old.now new.now it.row
+                (taken_record answer_total (λ (x : AnswerRow). x.key) row.key _ row (answer_reads rowid) refl);
+          },
+        )
 
     -- and outside of one, under a new key
     pub answer_added : IsHall old → HasCleanDisk old

@@ -9,7 +9,7 @@ use Rattle.sqlite_trees.specs.Tree.{put_row}
 use Rattle.sqlite_trees.proofs.ListLemmas.{all-permutation, all_of, filter_all}
 use Rattle.hall_policy.specs.Sink.{HasTaken}
 use Rattle.hall_policy.specs.declared.record.PuzzleRow.{PuzzleRow}
-use Rattle.hall_sql.specs.declared.rows.Rows.{Rows}
+use Rattle.hall_sql.specs.declared.whole.Whole.{Whole}
 use Rattle.hall_sql.specs.Columns.{puzzle_params}
 use Rattle.hall_sql.specs.Fill.{AddsAnswer, AddsHead, AddsPlace, AddsProtest, AddsPuzzle, Fills, PutsPerson}
 use Rattle.hall_sql.specs.PuzzleText.{AreCanonical, IsCanonicalRow}
@@ -45,7 +45,7 @@ taken_texted Adds one a (x ∷ xs) b done = λ all. taken_texted Adds one done.0
 still : (old new : List Row) → new ≡ old → AllByRecursion IsCanonicalRow old → AllByRecursion IsCanonicalRow new
 still old new same = subst (AllByRecursion IsCanonicalRow) (sym same)
 
-pub fills_texts : (rows : Rows) (a b : Database) → Fills rows a b → a.trees 3 ≡ [] → AreCanonical b.trees
+pub fills_texts : (rows : Whole) (a b : Database) → Fills rows a b → a.trees 3 ≡ [] → AreCanonical b.trees
 fills_texts rows a b fills none =
     taken_texted AddsProtest (λ d x e it. still _ _ (it.row.others.1.0 (λ same. absurd (omega (arith, same))))) _ _ _
     fills.protests

@@ -32,7 +32,7 @@ use Rattle.hall_policy.specs.declared.record.Ruling.{Ruling}
 use Rattle.hall_store.specs.Store.{Fails, HasNoRound, IsRefusedNext, RoundCanFail}
 use Rattle.hall_store.specs.declared.change.Change.{Change}
 use Rattle.hall_store.specs.declared.change.Change.TheVariants.{Import, PutPuzzle, SetState, PutRound, SetRoundFlag}
-use Rattle.hall_store.specs.declared.change.Change.TheVariants.{AddAnswer, AddProtest, RuleProtest}
+use Rattle.hall_store.specs.declared.change.Change.TheVariants.{AddAnswer, AddAnswers, AddProtest, RuleProtest}
 use Rattle.hall_store.specs.declared.change.RoundFlag.{RoundFlag}
 use Rattle.hall_store.specs.declared.fault.StoreFault.{StoreFault}
 use Rattle.hall_store.specs.declared.fault.StoreFault.TheVariants.{Failed}
@@ -46,6 +46,7 @@ use Rattle.hall_sql.specs.Rows.{person_in, place_in, protest_in, puzzle_row_in, 
 use Rattle.hall_sql.specs.Standing.{IsHall, IsSelection, KeptTables, KeptRows}
 use Rattle.hall_sql.specs.Statements.{plain_query}
 use Rattle.hall_sql.specs.Tables.{IsHallSchema}
+use Rattle.hall_sql.specs.FillCause.{AddAnswersFails}
 use Rattle.hall_sql.specs.WriteCause.{ImportFails, IsStatementRefused, IsUnknown, PersonIsRefused, PuzzleIsRefused}
 use Rattle.hall_sql.specs.WriteCause.{PutPuzzleFails, PutRoundFails, RuleFails, RunFails, SetFlagFails, SetStateFails}
 use Rattle.hall_sql.specs.declared.answers.TheConstants.{ADD_ANSWER}
@@ -375,6 +376,12 @@ module _ {R : Type 0} (old new : State) (result : Result R StoreFault) (hall : I
   answer_fault row stayed cause =
       change_fault (AddAnswer row) old new result (RunFails ADD_ANSWER.now (answer_params row) old new) stayed cause
       (λ was. refused_told)
+
+  pub joint_fault : (rows : List AnswerRow)
+      → OnErr result (KeptRows old new) → (HasCleanDisk new → Fails (AddAnswersFails rows old new) result)
+      → Fails (CanRefuse (AddAnswers rows) new) result
+  joint_fault rows stayed cause =
+      change_fault (AddAnswers rows) old new result (AddAnswersFails rows old new) stayed cause (λ was. refused_told)
 
   pub protest_fault : (row : ProtestRow)
       → OnErr result (KeptRows old new) → (HasCleanDisk new → Fails

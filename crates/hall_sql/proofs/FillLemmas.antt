@@ -18,7 +18,7 @@ use Rattle.hall_policy.specs.Sink.{HasTaken}
 use Rattle.hall_policy.specs.World.{World}
 use Rattle.sqlite.specs.Effect.{Database}
 use Rattle.sqlite.specs.State.{State}
-use Rattle.hall_sql.specs.declared.rows.Rows.{Rows}
+use Rattle.hall_sql.specs.declared.whole.Whole.{Whole}
 use Rattle.hall_sql.specs.AllRead.{AreAllRead, StaysRead}
 use Rattle.hall_sql.specs.Fill.{AddsAnswer, AddsHead, AddsPlace, AddsProtest, AddsPuzzle, Fills, PutsPerson, WithPerson}
 use Rattle.hall_sql.specs.Fill.{WithPuzzle, WithRound, WithPlace, WithAnswer, WithProtest}
@@ -121,7 +121,7 @@ taken_read Adds one a [] b done = subst (λ (d : Database). AreAllRead hall_sche
 taken_read Adds one a (x ∷ xs) b done = λ all. taken_read Adds one done.0 xs b done.2 (one a x done.0 done.1 all)
 
 -- each record was added to the world, after those to which it refers
-pub record FillsWorlds (rows : Rows) (old new : World) : Type 0 where
+pub record FillsWorlds (rows : Whole) (old new : World) : Type 0 where
   pub with_people : World
   pub with_puzzles : World
   pub with_heads : World
@@ -134,7 +134,7 @@ pub record FillsWorlds (rows : Rows) (old new : World) : Type 0 where
   pub answers : HasTaken WithAnswer with_places rows.answers.items with_answers
   pub protests : HasTaken WithProtest with_answers rows.protests.items new
 
-pub fills_worlds : (rows : Rows) (a b : Database) → Fills rows a b
+pub fills_worlds : (rows : Whole) (a b : Database) → Fills rows a b
     → FillsWorlds rows (world_of a.trees) (world_of b.trees)
 fills_worlds rows a b fills = record {
   with_people = world_of fills.with_people.trees;
@@ -150,7 +150,7 @@ fills_worlds rows a b fills = record {
   protests = taken_worlds AddsProtest WithProtest (λ d x e it. it.world) _ _ _ fills.protests;
 }
 
-pub fills_read : (rows : Rows) (a b : Database) → Fills rows a b → StaysRead a b
+pub fills_read : (rows : Whole) (a b : Database) → Fills rows a b → StaysRead a b
 fills_read rows a b fills all =
     taken_read AddsProtest (λ d x e it. it.read) _ _ _ fills.protests
     (taken_read AddsAnswer (λ d x e it. it.read) _ _ _ fills.answers
@@ -160,7 +160,7 @@ fills_read rows a b fills all =
     (taken_read PutsPerson (λ d x e it. it.read) _ _ _ fills.people all)))))
 
 -- the six tables, one after another
-pub six_added : (rows : Rows) (a b c d e f h : State)
+pub six_added : (rows : Whole) (a b c d e f h : State)
     → MakesInside (λ v w. HasTaken PutsPerson v rows.people.items w) a b
     → MakesInside (λ v w. HasTaken AddsPuzzle v rows.puzzles.items w) b c
     → MakesInside (λ v w. HasTaken AddsHead v rows.heads.items w) c d

@@ -11,7 +11,7 @@ use Rattle.hall_policy.specs.declared.record.ProtestRow.{ProtestRow}
 use Rattle.hall_policy.proofs.Orders.{text_total, same_texts, puzzle_total, same_puzzle_keys, place_total}
 use Rattle.hall_policy.proofs.Orders.{same_place_keys, answer_total, same_answer_keys, protest_total, same_protest_keys}
 use Rattle.hall_store.specs.Maps.{empty_world}
-use Rattle.hall_sql.specs.declared.rows.Rows.{Rows}
+use Rattle.hall_sql.specs.declared.whole.Whole.{Whole}
 use Rattle.hall_sql.specs.Fill.{WithAnswer, WithPerson, WithPlace, WithProtest, WithPuzzle, WithRound}
 use Rattle.hall_sql.specs.WholeRows.{AreRowsOf, without_testers}
 use Rattle.hall_sql.proofs.FillLemmas.{FillsWorlds, filled}
@@ -21,7 +21,7 @@ same_pairs [] = refl
 same_pairs (e ∷ es) = ap (λ l. e ∷ l) (same_pairs es)
 
 -- rows that were added to nothing make the world whose rows they are, without its testers
-pub filled_whole : (world new : World) (rows : Rows) → AreRowsOf world rows → FillsWorlds rows empty_world new
+pub filled_whole : (world new : World) (rows : Whole) → AreRowsOf world rows → FillsWorlds rows empty_world new
     → new ≡ without_testers world
 filled_whole world new rows are fills =
     let a : fills.with_people ≡ record empty_world { people = world.people } =

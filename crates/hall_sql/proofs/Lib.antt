@@ -21,6 +21,7 @@ pub mod Wordings
 pub mod ReplaceLemmas
 pub mod SparedLemmas
 pub mod ContentLemmas
+pub mod JointLemmas
 pub mod KeyedLemmas
 pub mod ValueLemmas
 pub mod UniqueLemmas
@@ -92,7 +93,7 @@ pub mod CountLemmas
 pub mod MigrationLemmas
 pub mod FilledWorlds
 pub mod CanonicalTexts
-pub mod Laws
+pub mod StatementLaws
 pub mod CopyLemmas
 pub mod BadRowLemmas
 pub mod OpenedRead

@@ -16,7 +16,7 @@ use Rattle.hall_store.specs.declared.fault.StoreFault.TheVariants.{Failed}
 use Rattle.hall_store.proofs.Knowing.{leads_then}
 use Rattle.hall_sql.specs.declared.migration.Migrated.{Migrated}
 use Rattle.hall_sql.specs.declared.migration.Migrated.TheVariants.{Done, Occupied}
-use Rattle.hall_sql.specs.declared.rows.Rows.{Rows}
+use Rattle.hall_sql.specs.declared.whole.Whole.{Whole}
 use Rattle.hall_sql.specs.AllRead.{AreAllRead, IsRead}
 use Rattle.hall_sql.specs.Cause.{ReadFails}
 use Rattle.hall_sql.specs.Fill.{AreFilled, Fills}
@@ -55,14 +55,14 @@ has_some held some = (
       (ap (λ (w : World). w.testers) is ∙ bare),
 )
 
-module _ (held : World) (found : Rows) (are : AreRowsOf held found) where
+module _ (held : World) (found : Whole) (are : AreRowsOf held found) where
   pub is_nothing : held.testers ≡ empty → count_of found ≡ 0 → held ≡ empty_world
   is_nothing none zero = bare_world held none ∙ nothing_kept held found are zero
 
   pub is_something : ¬ (count_of found ≡ 0) → held ≢ empty_world
   is_something some is = some (rows_counted held found are ∙ none_counted held (ap without_testers is))
 
-  module _ (world : World) (rows : Rows) (own : AreRowsOf world rows) where
+  module _ (world : World) (rows : Whole) (own : AreRowsOf world rows) where
     pub are_these : held.testers ≡ empty → world.testers ≡ empty → AreSameRows found rows → held ≡ world
     are_these none bare same = bare_world held none ∙ one_world held world found rows are own same
         ∙ sym (bare_world world bare)
@@ -70,7 +70,7 @@ module _ (held : World) (found : Rows) (are : AreRowsOf held found) where
     pub are_others : ¬ (AreSameRows found rows) → held ≢ world
     are_others apart is = apart (one_rows held world found rows are own (ap without_testers is))
 
-module _ (mid new : State) (held : Rows) (rested : KeptTables mid new)
+module _ (mid new : State) (held : Whole) (rested : KeptTables mid new)
     (read : HasCleanDisk mid → IsTrue mid.is_open × AreRowsOf (world_of mid.now.trees) held)
     (has : Bool) (told : HasCleanDisk new → IsTrue new.is_open
     × ((has ≡ false) ↔ ((world_of new.now.trees).testers ≡ empty))) where
@@ -85,7 +85,7 @@ module _ (mid new : State) (held : Rows) (rested : KeptTables mid new)
   finds_nothing none zero clean =
       let it = told clean in (it.0, is_nothing (world_of new.now.trees) held (still clean) (it.1.0 none) zero)
 
-  pub finds_these : (rows : Rows) → has ≡ false → AreSameRows held rows → HasCleanDisk new
+  pub finds_these : (rows : Whole) → has ≡ false → AreSameRows held rows → HasCleanDisk new
       → IsTrue new.is_open × ((world : World) → AreRowsOf world rows → world.testers ≡ empty
       → world_of new.now.trees ≡ world)
   finds_these rows none same clean =
@@ -95,7 +95,7 @@ module _ (mid new : State) (held : Rows) (rested : KeptTables mid new)
             same,
       )
 
-  pub finds_others : (rows : Rows) → ¬ (count_of held ≡ 0) → ¬ (AreSameRows held rows) → HasCleanDisk new
+  pub finds_others : (rows : Whole) → ¬ (count_of held ≡ 0) → ¬ (AreSameRows held rows) → HasCleanDisk new
       → IsTrue new.is_open × ((world_of new.now.trees ≢ empty_world)
       × ((world : World) → AreRowsOf world rows → world.testers ≡ empty → world_of new.now.trees ≢ world))
   finds_others rows some apart clean =
@@ -157,7 +157,7 @@ testers_fail old mid new hall rested serves after clean why =
     ]
 
 -- why a target takes nothing that was found to hold nothing
-pub take_fails : (old mid new : State) (rows : Rows) (result : Result Migrated StoreFault) → KeptTables old mid
+pub take_fails : (old mid new : State) (rows : Whole) (result : Result Migrated StoreFault) → KeptTables old mid
     → (HasCleanDisk mid → IsTrue mid.is_open) → IsEmptyIn mid → Leaves mid new result
     → (HasCleanDisk new → Fails (FillCountedFails rows mid new) result) → HasCleanDisk new
     → Fails (TakeFails rows old new) result
@@ -182,7 +182,7 @@ found_bare old new rested told read clean opens =
     (subst (λ (d : Database). AreAllRead hall_schema d.trees) (sym (rested.same clean opens)) (read clean))
 
 -- tables that had no row were filled
-pub filled_takes : (old new : State) (world : World) (rows : Rows) (count : ℕ) → AreRowsOf world rows
+pub filled_takes : (old new : State) (world : World) (rows : Whole) (count : ℕ) → AreRowsOf world rows
     → world.testers ≡ empty
     → count ≡ count_of rows → IsEmptyIn old → Leads (content_of old) (content_of new)
     → (HasCleanDisk new → IsTrue new.is_open × Fills rows old.now new.now)
@@ -201,7 +201,7 @@ filled_takes old new world rows count are bare is empties leads filled clean =
     }
 
 -- what a stop leaves of tables that had no row, and are filled
-pub filled_stops : (old new : State) (world : World) (rows : Rows) → AreRowsOf world rows → world.testers ≡ empty
+pub filled_stops : (old new : State) (world : World) (rows : Whole) → AreRowsOf world rows → world.testers ≡ empty
     → IsEmptyIn old → Leads (content_of old) (content_of new)
     → (IsTrue old.is_open → AddsOutcomes (AreFilled rows old.now) old new) → IsTrue old.is_open
     → StopsAtWorld world old new
@@ -318,7 +318,7 @@ is_left old new world rested has read clean =
 -- ---- the source
 
 -- its rows are those of its world, which has no testers
-pub source_told : (s : State) (result : Result Rows StoreFault) → Served (content_of s) result AreRowsOf
+pub source_told : (s : State) (result : Result Whole StoreFault) → Served (content_of s) result AreRowsOf
     → Served (old_content_of s) result AreRowsOf
 source_told s (Ok rows) told = λ clean. let it = told clean in (it.0, bare_rows (world_of s.now.trees) rows it.1)
 source_told s (Err fault) told = tt
@@ -344,7 +344,7 @@ source_settled g law held tabled live clean opens left it =
 -- ---- both
 
 -- what the target did with the rows that were read
-pub migrated : (was now before after : State) (rows : Rows) (result : Result Migrated StoreFault)
+pub migrated : (was now before after : State) (rows : Whole) (result : Result Migrated StoreFault)
     → KeptTablesIn old_schema was now
     → (HasCleanDisk now → IsTrue now.is_open × AreRowsOf (without_testers (world_of now.now.trees)) rows)
     → (HasCleanDisk now → AreAllRead old_schema was.now.trees)

@@ -213,6 +213,65 @@ module _ {S : Type 0} (g : Ghosts S) (held : Held S) (hall : IsHall (state g hel
             (it.does ours).others;
       })
 
+  -- what was done makes the change, over the tables of a store that was open
+  module _ (change : Change) (Did : Database → Database → Type 0)
+      (makes : HasCleanDisk (state g held) → IsTrue (state g held).is_open → (d : Database)
+      → Did (state g held).now d → Changes change (state g held).now d) where
+    -- what a commit of it may leave
+    pub did_stops : IsLive (state g held) → (mid end : State) → LeadsUncommitted base mid
+        → (HasCleanDisk mid → IsTrue base.in_transaction → MakesInside Did base mid)
+        → Survives mid end (λ db. db ≡ mid.now.trees) → StopsAt change (state g held) end
+    did_stops live mid end carries did survives opens clean db may =
+        let was : HasCleanDisk base = omega (arith, carries.lasts.clean, survives.clean, clean) in
+        elim (commit_outcomes live Did mid end carries did survives opens clean db may) [
+          | inl earlier ↦ inl earlier
+          | inr made ↦ inr (subst (HoldsHall (changed change (world_of base.now.trees))) (sym made.3)
+              (made.2, (makes was opens made.0 made.1).world))
+        ]
+
+    -- so it was where the commit was refused
+    pub did_refused : {R E : Type 0} → IsLive (state g held) → (fault : E) (error : Error) (mid end : State)
+        → LeadsUncommitted base mid → (HasCleanDisk mid → IsTrue base.in_transaction → MakesInside Did base mid)
+        → Survives mid end (λ db. db ≡ mid.now.trees) → end.in_transaction ≡ false
+        → (HasCleanDisk end → FailsToCommit mid end error)
+        → MakesInTables {R = R} change (state g held) end (Err fault)
+    did_refused live fault error mid end carries did survives ended fails =
+        let lasts = survived mid end _ survives in
+        stayed_wrote change (state g held) end fault (did_stops live mid end carries did survives)
+        (rolled_stayed mid end carries lasts ended (λ clean.
+        let was : HasCleanDisk mid = omega (arith, lasts.clean, clean) in
+        commit_refused mid end error (did was refl).steps.mode (fails clean)))
+
+    -- committed, the change is made
+    pub did_committed : {R E : Type 0} → IsLive (state g held) → (done : R) (mid end : State)
+        → LeadsUncommitted base mid → (HasCleanDisk mid → IsTrue base.in_transaction → MakesInside Did base mid)
+        → Survives mid end (λ db. db ≡ mid.now.trees) → end.in_transaction ≡ false
+        → (HasCleanDisk end → IsTrue mid.in_transaction × Shows mid end mid.now mid.now false × KeepsCounts mid end
+        × (end.marks ≡ []))
+        → MakesInTables {E = E} change (state g held) end (Ok done)
+    did_committed live done mid end carries did survives ended ok =
+        let lasts = survived mid end _ survives in
+        made_wrote change (state g held) end done hall (last_then (state g held) mid end
+        (last_begun g held mid carries.lasts) lasts)
+        (did_stops live mid end carries did survives) (λ was clean.
+        let clean_mid : HasCleanDisk mid = omega (arith, lasts.clean, clean) in
+        let shown = (ok clean).1 in
+        let opened = (carries.kept clean_mid refl).was_open shown.was_open in
+        let ours : IsHallData base.now = record {
+          schema = (hall.settled was opened).1;
+          keyed = hall.keyed was opened;
+        } in
+        let it = did clean_mid refl in
+        let made = makes was opened mid.now (it.does ours) in
+        record {
+          hall = shown_hall mid end (it.steps.hall ours) ended shown;
+          was_open = opened;
+          serves = shown.is_open;
+          world = ap (λ (d : Database). world_of d.trees) shown.now_is ∙ made.world;
+          others = subst (λ (d : Database). KeptOtherRows (may_write change) base.now.trees d.trees)
+              (sym shown.now_is) made.others;
+        })
+
   -- and the tables are as the calls before it left them
   pub committed_did : (Does : Database → Database → Type 0) (mid end : State)
       → LeadsUncommitted base mid → (HasCleanDisk mid → IsTrue base.in_transaction → MakesInside Does base mid)

@@ -19,7 +19,7 @@ use Rattle.hall_policy.proofs.Orders.{text_total, same_texts, puzzle_total, same
 use Rattle.hall_policy.proofs.Orders.{same_answer_keys, protest_total, same_protest_keys}
 use Rattle.hall_store.specs.Maps.{empty_world}
 use Rattle.hall_store.specs.Whole.{AreUnderOwnKeys}
-use Rattle.hall_sql.specs.declared.rows.Rows.{Rows}
+use Rattle.hall_sql.specs.declared.whole.Whole.{Whole}
 use Rattle.hall_sql.specs.Migrate.{row_count}
 use Rattle.hall_sql.specs.Rows.{answer_of_row, kept, person_of_row, protest_of_row, puzzle_of_row, round_of_row}
 use Rattle.hall_sql.specs.Rows.{world_of}
@@ -41,7 +41,7 @@ module _ {K X : Type 0} {R : K → K → Ordering} (total : IsTotalOrder R) (sam
       keyed (entries (kept R key read rows)) (kept_own total same key read rows) ∙ ap (map (λ x. (key x, x))) (sym is)
 
 -- the rows that were read are all that the tables hold but testers
-pub rows_of : (trees : Trees) (rows : Rows)
+pub rows_of : (trees : Trees) (rows : Whole)
     → rows.people.items ≡ values (world_of trees).people
     → rows.puzzles.items ≡ values (world_of trees).puzzles
     → rows.heads.items ≡ values (world_of trees).rounds
@@ -74,7 +74,7 @@ own_keys trees = record {
 }
 
 -- testers don't count
-pub bare_rows : (world : World) (rows : Rows) → AreRowsOf world rows → AreRowsOf (without_testers world) rows
+pub bare_rows : (world : World) (rows : Whole) → AreRowsOf world rows → AreRowsOf (without_testers world) rows
 bare_rows world rows are = record {
   people = are.people;
   puzzles = are.puzzles;
@@ -114,7 +114,7 @@ same_worlds one other people puzzles rounds places answers protests =
           empty;
     }
 
-pub one_world : (one other : World) (a b : Rows) → AreRowsOf one a → AreRowsOf other b → AreSameRows a b
+pub one_world : (one other : World) (a b : Whole) → AreRowsOf one a → AreRowsOf other b → AreSameRows a b
     → without_testers one ≡ without_testers other
 one_world one other a b p q same =
     same_worlds one other
@@ -135,7 +135,7 @@ records_same : {K X : Type 0} (key : X → K) (xs ys : List X)
 records_same {K} {X} key xs ys is = sym (unkeyed key xs) ∙ ap (map (λ (e : K × X). e.1)) is ∙ unkeyed key ys
 
 -- one world has one list of rows
-pub one_rows : (one other : World) (a b : Rows) → AreRowsOf one a → AreRowsOf other b
+pub one_rows : (one other : World) (a b : Whole) → AreRowsOf one a → AreRowsOf other b
     → without_testers one ≡ without_testers other
     → AreSameRows a b
 one_rows one other a b p q is = record {
@@ -157,7 +157,7 @@ counted : {K X Y : Type 0} {R : K → K → Ordering} (m : FinMap R Y) (f : X �
     → length xs ≡ len m
 counted m f xs is = sym (length-map xs f) ∙ ap length (sym is) ∙ sym (len-entries m)
 
-pub rows_counted : (world : World) (rows : Rows) → AreRowsOf world rows → count_of rows ≡ row_count world
+pub rows_counted : (world : World) (rows : Whole) → AreRowsOf world rows → count_of rows ≡ row_count world
 rows_counted world rows are =
     let a = counted world.people (λ (x : Person). (x.name, x)) rows.people.items are.people in
     let b = counted world.puzzles (λ (x : PuzzleRow). (x.key, x)) rows.puzzles.items are.puzzles in
@@ -182,7 +182,7 @@ none_left : {K X : Type 0} {R : K → K → Ordering} (m : FinMap R X) → len m
 none_left m none = empty_entries m (no_more (entries m) (sym (len-entries m) ∙ none))
 
 -- no rows, no world
-pub nothing_kept : (world : World) (rows : Rows) → AreRowsOf world rows → count_of rows ≡ 0
+pub nothing_kept : (world : World) (rows : Whole) → AreRowsOf world rows → count_of rows ≡ 0
     → without_testers world ≡ empty_world
 nothing_kept world rows are none =
     let all : row_count world ≡ 0 = sym (rows_counted world rows are) ∙ none in

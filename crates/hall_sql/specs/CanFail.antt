@@ -13,9 +13,11 @@ use Rattle.hall_store.specs.Change.{flagged}
 use Rattle.hall_store.specs.declared.change.Change.{Change}
 use Rattle.hall_store.specs.declared.change.Change.TheVariants.{Nothing, Import, PutPuzzle, SetState}
 use Rattle.hall_store.specs.declared.change.Change.TheVariants.{PutRound, SetRoundFlag, AddAnswer}
-use Rattle.hall_store.specs.declared.change.Change.TheVariants.{AddProtest, RuleProtest}
+use Rattle.hall_store.specs.declared.change.Change.TheVariants.{AddAnswers, AddProtest, RuleProtest}
 use Rattle.hall_sql.specs.AllRead.{AreAllRead}
 use Rattle.hall_sql.specs.Columns.{answer_params, person_params, protest_params, ruling_params, stands_under}
+use Rattle.hall_sql.specs.Fill.{AddsAnswer}
+use Rattle.hall_sql.specs.FillCause.{IsNextRefused, RefusesToAddAnswer}
 use Rattle.hall_sql.specs.Inside.{IsHallData}
 use Rattle.hall_sql.specs.RoundColumns.{head_params}
 use Rattle.hall_sql.specs.Rows.{world_of}
@@ -64,6 +66,7 @@ RefusesChange (SetRoundFlag id flag) db =
     (round : Round) × (get (world_of db.trees).rounds id ≡ Some round)
     × IsStatementRefused REPLACE_HEAD.now (head_params (flagged flag round)) db
 RefusesChange (AddAnswer row) db = IsStatementRefused ADD_ANSWER.now (answer_params row) db
+RefusesChange (AddAnswers rows) db = IsNextRefused AddsAnswer RefusesToAddAnswer rows db
 RefusesChange (AddProtest row) db = IsStatementRefused ADD_PROTEST.now (protest_params row) db
 RefusesChange (RuleProtest key ruling) db =
     (row : ProtestRow) × (get (world_of db.trees).protests key ≡ Some row)

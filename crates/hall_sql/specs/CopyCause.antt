@@ -5,10 +5,10 @@ use Rattle.hall_sql.specs.FillCause.{CannotFill}
 use Rattle.hall_sql.specs.Standing.{IsBareLike}
 use Rattle.hall_sql.specs.Tables.{hall_schema}
 use Rattle.hall_sql.specs.WholeRows.{AreRowsOf}
-use Rattle.hall_sql.specs.declared.rows.Rows.{Rows}
+use Rattle.hall_sql.specs.declared.whole.Whole.{Whole}
 
 -- the statement that adds one of the world's rows, but its testers', is refused there, or they are more than can be
 -- counted
 abbrev pub CannotCopy : World → Type 0
 CannotCopy world =
-    (rows : Rows) × AreRowsOf world rows × (bare : Database) × IsBareLike hall_schema bare × CannotFill rows bare
+    (rows : Whole) × AreRowsOf world rows × (bare : Database) × IsBareLike hall_schema bare × CannotFill rows bare

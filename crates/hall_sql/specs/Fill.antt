@@ -14,13 +14,15 @@ use Rattle.hall_policy.specs.declared.record.Entry.{Entry}
 use Rattle.hall_policy.specs.declared.record.PlaceKey.{PlaceKey}
 use Rattle.hall_policy.specs.declared.record.AnswerRow.{AnswerRow}
 use Rattle.hall_policy.specs.declared.record.ProtestRow.{ProtestRow}
-use Rattle.hall_sql.specs.declared.rows.Rows.{Rows}
+use Rattle.hall_store.specs.declared.change.Change.TheVariants.{AddAnswer}
+use Rattle.hall_sql.specs.declared.whole.Whole.{Whole}
 use Rattle.hall_sql.specs.AllRead.{StaysRead}
 use Rattle.hall_sql.specs.Columns.{answer_params, protest_params, puzzle_params}
 use Rattle.hall_sql.specs.Inside.{AddsPerson}
 use Rattle.hall_sql.specs.RoundColumns.{head_params}
 use Rattle.hall_sql.specs.RoundPuts.{PutsPlace}
 use Rattle.hall_sql.specs.Rows.{world_of}
+use Rattle.hall_sql.specs.Spared.{may_write, KeptOtherRows}
 use Rattle.hall_sql.specs.Standing.{HasAdded}
 use Rattle.hall_sql.specs.Stands.{ListsLike}
 use Rattle.hall_sql.specs.Tables.{hall_schema}
@@ -76,16 +78,19 @@ AddsHead old round new = AddsRow 5 WithRound (head_params round) old round new
 abbrev pub AddsPlace : Database → PlaceKey × Entry → Database → Type 0
 AddsPlace old place new = PutsPlace place.0.round place.0.number place.1 old new
 
--- the answer's
-abbrev pub AddsAnswer : Database → AnswerRow → Database → Type 0
-AddsAnswer old row new = AddsRow 9 WithAnswer (answer_params row) old row new
+-- the answer's, and each row stays that this may not write
+pub record AddsAnswer (old : Database) (answer : AnswerRow) (new : Database) : Type 0 where
+  pub row : HasAdded hall_schema 9 (answer_params answer) old new
+  pub world : WithAnswer (world_of old.trees) answer (world_of new.trees)
+  pub read : StaysRead old new
+  pub others : KeptOtherRows (may_write (AddAnswer answer)) old.trees new.trees
 
 -- the protest's
 abbrev pub AddsProtest : Database → ProtestRow → Database → Type 0
 AddsProtest old row new = AddsRow 12 WithProtest (protest_params row) old row new
 
 -- each record was added, after those to which it refers
-pub record Fills (rows : Rows) (old new : Database) : Type 0 where
+pub record Fills (rows : Whole) (old new : Database) : Type 0 where
   pub with_people : Database
   pub with_puzzles : Database
   pub with_heads : Database
@@ -99,5 +104,5 @@ pub record Fills (rows : Rows) (old new : Database) : Type 0 where
   pub protests : HasTaken AddsProtest with_answers rows.protests.items new
 
 -- the trees are those of a database to which all records were added, and list the hall's tables
-abbrev pub AreFilled : Rows → Database → Trees → Type 0
+abbrev pub AreFilled : Whole → Database → Trees → Type 0
 AreFilled rows held db = (d : Database) × Fills rows held d × ListsLike hall_schema d.trees × (db ≡ d.trees)

@@ -27,7 +27,7 @@ use Rattle.hall_sql.specs.declared.people.TheConstants.{ADD_PERSON}
 use Rattle.hall_sql.specs.declared.protests.TheConstants.{ADD_PROTEST}
 use Rattle.hall_sql.specs.declared.puzzles.TheConstants.{ADD_PUZZLE}
 use Rattle.hall_sql.specs.declared.round_writes.TheConstants.{ADD_HEAD, ADD_PLACE}
-use Rattle.hall_sql.specs.declared.rows.Rows.{Rows}
+use Rattle.hall_sql.specs.declared.whole.Whole.{Whole}
 
 -- Why the tables of the schema aren't read whole: the cause lies in the store, or a row of theirs is no record.
 abbrev pub TablesFail : Schema → State → State → Type 0
@@ -83,53 +83,57 @@ pub record IsRefusedAfter {X : Type 0} (Adds : Database → X → Database → T
   pub refused : Refused mid
 
 -- a protest of the rows is refused, where all else was added
-abbrev pub ProtestsAreRefused : Rows → Database → Type 0
+abbrev pub ProtestsAreRefused : Whole → Database → Type 0
 ProtestsAreRefused rows = IsNextRefused AddsProtest RefusesToAddProtest rows.protests.items
 
 -- and so on: an answer, or a protest after all answers
-abbrev pub AnswersAreRefused : Rows → Database → Type 0
+abbrev pub AnswersAreRefused : Whole → Database → Type 0
 AnswersAreRefused rows db =
     IsNextRefused AddsAnswer RefusesToAddAnswer rows.answers.items db
     ⊎ IsRefusedAfter AddsAnswer (ProtestsAreRefused rows) rows.answers.items db
 
 -- an entry of a list, or what follows all of them
-abbrev pub PlacesAreRefused : Rows → Database → Type 0
+abbrev pub PlacesAreRefused : Whole → Database → Type 0
 PlacesAreRefused rows db =
     IsNextRefused AddsPlace RefusesToAddPlace rows.places.items db
     ⊎ IsRefusedAfter AddsPlace (AnswersAreRefused rows) rows.places.items db
 
 -- a round's head, or what follows all of them
-abbrev pub HeadsAreRefused : Rows → Database → Type 0
+abbrev pub HeadsAreRefused : Whole → Database → Type 0
 HeadsAreRefused rows db =
     IsNextRefused AddsHead RefusesToAddHead rows.heads.items db
     ⊎ IsRefusedAfter AddsHead (PlacesAreRefused rows) rows.heads.items db
 
 -- a puzzle, or what follows all of them
-abbrev pub PuzzlesAreRefused : Rows → Database → Type 0
+abbrev pub PuzzlesAreRefused : Whole → Database → Type 0
 PuzzlesAreRefused rows db =
     IsNextRefused AddsPuzzle RefusesToAddPuzzle rows.puzzles.items db
     ⊎ IsRefusedAfter AddsPuzzle (HeadsAreRefused rows) rows.puzzles.items db
 
 -- The statement that adds one of the rows is refused over the tables that those before it have come to: by a rule of
 -- the tables, for want of a rowid, or as too large a row.
-abbrev pub RowsAreRefused : Rows → Database → Type 0
+abbrev pub RowsAreRefused : Whole → Database → Type 0
 RowsAreRefused rows db =
     IsNextRefused PutsPerson RefusesToAddPerson rows.people.items db
     ⊎ IsRefusedAfter PutsPerson (PuzzlesAreRefused rows) rows.people.items db
 
 -- why empty tables aren't filled: the cause lies in the store, or one of the rows is refused
-abbrev pub FillFails : Rows → State → State → Type 0
+abbrev pub FillFails : Whole → State → State → Type 0
 FillFails rows old new = IsStoreCause old new ⊎ RowsAreRefused rows old.now
 
 -- the rows are refused, or more than can be counted
-abbrev pub CannotFill : Rows → Database → Type 0
+abbrev pub CannotFill : Whole → Database → Type 0
 CannotFill rows db = RowsAreRefused rows db ⊎ (18446744073709551615 < count_of rows)
 
 -- why empty tables aren't filled with rows that are counted: so, or the cause lies in the store
-abbrev pub FillCountedFails : Rows → State → State → Type 0
+abbrev pub FillCountedFails : Whole → State → State → Type 0
 FillCountedFails rows old new = IsStoreCause old new ⊎ CannotFill rows old.now
 
 -- Why a hall's tables don't take the rows: they aren't read whole, or they hold nothing, and can't be filled with them.
-abbrev pub TakeFails : Rows → State → State → Type 0
+abbrev pub TakeFails : Whole → State → State → Type 0
 TakeFails rows old new =
     TablesFail hall_schema old new ⊎ (IsBareLike hall_schema old.now × CannotFill rows old.now)
+
+-- why answers aren't added together: the cause lies in the store, or one of them is refused
+abbrev pub AddAnswersFails : List AnswerRow → State → State → Type 0
+AddAnswersFails rows old new = IsStoreCause old new ⊎ IsNextRefused AddsAnswer RefusesToAddAnswer rows old.now

@@ -11,7 +11,7 @@ use Rattle.hall_sql.specs.declared.migration.Found.{Found}
 use Rattle.hall_sql.specs.declared.migration.Found.TheVariants.{Nothing, These, Others}
 use Rattle.hall_sql.specs.declared.migration.Migrated.{Migrated}
 use Rattle.hall_sql.specs.declared.migration.Migrated.TheVariants.{Done, Occupied}
-use Rattle.hall_sql.specs.declared.rows.Rows.{Rows}
+use Rattle.hall_sql.specs.declared.whole.Whole.{Whole}
 use Rattle.hall_sql.specs.AllRead.{AreAllRead}
 use Rattle.hall_sql.specs.FillCause.{TablesFail, TakeFails}
 use Rattle.hall_sql.specs.PuzzleText.{AreCanonical}
@@ -40,7 +40,7 @@ row_count world =
     len world.people + len world.puzzles + len world.rounds + len world.places + len world.answers + len world.protests
 
 -- What tables hold beside rows: nothing, the world whose rows they are, or neither.
-abbrev pub IsFoundBeside : Rows → World → Found → Type 0
+abbrev pub IsFoundBeside : Whole → World → Found → Type 0
 IsFoundBeside rows held Nothing = held ≡ empty_world
 IsFoundBeside rows held These = (world : World) → AreRowsOf world rows → world.testers ≡ empty → held ≡ world
 IsFoundBeside rows held Others =
@@ -88,7 +88,7 @@ StopsAtWorld world old new = LeavesOneOf (λ before left. left ≡ world) (conte
 abbrev pub MigrateFails : State → State → State → State → Type 0
 MigrateFails was now before after =
     TablesFail old_schema was now
-    ⊎ ((rows : Rows) × AreRowsOf (without_testers (world_of was.now.trees)) rows × TakeFails rows before after)
+    ⊎ ((rows : Whole) × AreRowsOf (without_testers (world_of was.now.trees)) rows × TakeFails rows before after)
 
 -- The tables of the source are as they were, and the target takes the source's world, or is left. What it takes is
 -- told where the devices of both were honest to the end; and where the source's was, each row of the source is a

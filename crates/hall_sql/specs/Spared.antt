@@ -8,11 +8,12 @@ use Rattle.sqlite.specs.Table.{Table}
 use Rattle.sqlite.specs.Tree.{Trees}
 use Rattle.hall_policy.specs.World.{answer_cmp, protest_cmp}
 use Rattle.hall_policy.specs.Text.{text_cmp}
+use Rattle.hall_policy.specs.declared.record.AnswerRow.{AnswerRow}
 use Rattle.hall_policy.specs.declared.record.Person.{Person}
 use Rattle.hall_store.specs.declared.change.Change.{Change}
 use Rattle.hall_store.specs.declared.change.Change.TheVariants.{Nothing, Import, PutPuzzle, SetState}
 use Rattle.hall_store.specs.declared.change.Change.TheVariants.{PutRound, SetRoundFlag, AddAnswer}
-use Rattle.hall_store.specs.declared.change.Change.TheVariants.{AddProtest, RuleProtest}
+use Rattle.hall_store.specs.declared.change.Change.TheVariants.{AddAnswers, AddProtest, RuleProtest}
 use Rattle.hall_sql.specs.Tables.{hall_schema}
 use Rattle.hall_sql.specs.Columns.{stands_under}
 use Rattle.hall_sql.specs.RoundColumns.{is_under}
@@ -28,6 +29,12 @@ abbrev pub is_one_of : List Person → ℕ → Row → Bool
 is_one_of people tree row =
     tree == 0 && list_any (λ (person : Person). is_keyed_by text_cmp (λ x. x.name) person.name (person_of_row row))
     people
+
+-- it is one of the answers, by its key
+abbrev pub is_answer_of : List AnswerRow → ℕ → Row → Bool
+is_answer_of answers tree row =
+    tree == 9 && list_any (λ (answer : AnswerRow). is_keyed_by answer_cmp (λ x. x.key) answer.key (answer_of_row row))
+    answers
 
 -- it is a row of the table of rounds under this id
 abbrev pub is_head_of : List ℕ → ℕ → Row → Bool
@@ -55,6 +62,7 @@ may_write (SetState key state) tree row = tree == 3 && stands_under key row
 may_write (PutRound round) tree row = is_of_round round.round.id tree row
 may_write (SetRoundFlag id flag) tree row = is_head_of id tree row
 may_write (AddAnswer answer) tree row = tree == 9 && is_keyed_by answer_cmp (λ x. x.key) answer.key (answer_of_row row)
+may_write (AddAnswers answers) tree row = is_answer_of answers tree row
 may_write (AddProtest protest) tree row =
     tree == 12 && is_keyed_by protest_cmp (λ x. x.key) protest.key (protest_of_row row)
 may_write (RuleProtest key ruling) tree row =

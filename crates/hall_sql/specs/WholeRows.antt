@@ -3,12 +3,12 @@ use Rattle.std.specs.Prelude.{◌≡◌, ◌+◌, ℕ, map, length, IsTrue}
 use Rattle.std.specs.FinMap.{entries, empty}
 use Rattle.sqlite.specs.State.{State, HasCleanDisk}
 use Rattle.hall_policy.specs.World.{World}
-use Rattle.hall_sql.specs.declared.rows.Rows.{Rows}
+use Rattle.hall_sql.specs.declared.whole.Whole.{Whole}
 use Rattle.hall_sql.specs.Standing.{IsBareLike}
 use Rattle.hall_sql.specs.Tables.{hall_schema}
 
 -- the rows are all that the world keeps but its testers, each list in the order of its keys
-pub record AreRowsOf (world : World) (rows : Rows) : Type 0 where
+pub record AreRowsOf (world : World) (rows : Whole) : Type 0 where
   pub people : entries world.people ≡ map (λ person. (person.name, person)) rows.people.items
   pub puzzles : entries world.puzzles ≡ map (λ row. (row.key, row)) rows.puzzles.items
   pub heads : entries world.rounds ≡ map (λ round. (round.id, round)) rows.heads.items
@@ -17,7 +17,7 @@ pub record AreRowsOf (world : World) (rows : Rows) : Type 0 where
   pub protests : entries world.protests ≡ map (λ row. (row.key, row)) rows.protests.items
 
 -- the lists of the one are those of the other
-pub record AreSameRows (one other : Rows) : Type 0 where
+pub record AreSameRows (one other : Whole) : Type 0 where
   pub people : one.people.items ≡ other.people.items
   pub puzzles : one.puzzles.items ≡ other.puzzles.items
   pub heads : one.heads.items ≡ other.heads.items
@@ -26,7 +26,7 @@ pub record AreSameRows (one other : Rows) : Type 0 where
   pub protests : one.protests.items ≡ other.protests.items
 
 -- how many there are
-abbrev pub count_of : Rows → ℕ
+abbrev pub count_of : Whole → ℕ
 count_of rows =
     length rows.people.items + length rows.puzzles.items + length rows.heads.items + length rows.places.items
     + length rows.answers.items

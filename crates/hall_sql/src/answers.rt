@@ -3,13 +3,14 @@ ghost use Rattle.std.specs.Prelude.{◌≡◌, []};
 ghost use Rattle.std.specs.FinMap.{values};
 ghost use Rattle.sqlite.specs.Held.{state};
 ghost use Rattle.hall_store.specs.Store.{Fails, Asks};
-ghost use Rattle.hall_store.specs.Change.{CanAddAnswer};
-ghost use Rattle.hall_store.specs.declared.change.Change.TheVariants.{AddAnswer};
+ghost use Rattle.hall_store.specs.Change.{CanAddAnswer, CanAddAnswers};
+ghost use Rattle.hall_store.specs.declared.change.Change.TheVariants.{AddAnswer, AddAnswers};
 ghost use Rattle.hall_policy.specs.Ranges.{IsAnswerRow};
 ghost use Rattle.sqlite.specs.State.{HasCleanDisk};
 ghost use Rattle.sqlite.specs.Values.{bound};
 ghost use Rattle.hall_sql.specs.Columns.{answer_params};
 ghost use Rattle.hall_sql.specs.Fill.{AddsAnswer};
+ghost use Rattle.hall_sql.specs.FillCause.{AddAnswersFails};
 ghost use Rattle.hall_sql.specs.Inside.{LeadsUncommitted, DoesInside};
 ghost use Rattle.hall_sql.specs.Standing.{IsHall};
 ghost use Rattle.hall_sql.specs.Content.{MakesInTables, content_of};
@@ -18,11 +19,12 @@ ghost use Rattle.hall_sql.specs.Reads.{ReadsTable};
 ghost use Rattle.hall_sql.specs.Versions.{IsAnyHall};
 ghost use Rattle.hall_sql.specs.WriteCause.{InsideFails, RunFails};
 
-use crate::calls::{run, write_in};
+use crate::calls::{fault_of, live, run, write_in};
 use crate::counts::count;
+use crate::fill::add_each;
 use crate::reads::read_any;
 use hall_policy::AnswerRow;
-use hall_store::StoreFault;
+use hall_store::{JointAnswers, StoreFault};
 use sqlite::types::{ToSql, ValueRef};
 use sqlite::{Alter, Connection, Transaction};
 use std::alloc::Global;
@@ -135,4 +137,29 @@ pub(crate) fn add_answer<S: Alter>(
 {
     in_range(row);
     run(conn, ADD_ANSWER, &columns(row))
+}
+
+/// Stores some more answers under new keys, one after another: all of them or none.
+pub(crate) fn add_answers<S: Alter>(
+    conn: &mut Connection<S>,
+    alloc: Global,
+    rows: &JointAnswers,
+) -> Result<(), StoreFault>
+    requires hall { IsHall (state S.Store conn.old) }
+    requires can { Asks (content_of (state S.Store conn.old)) (λ world. CanAddAnswers world rows.now) }
+    ensures wrote { MakesInTables (AddAnswers rows.now) (state S.Store conn.old) (state S.Store conn.new) result }
+    ensures cause { HasCleanDisk (state S.Store conn.new) → Fails (AddAnswersFails rows.now
+        (state S.Store conn.old) (state S.Store conn.new)) result }
+{
+    if !conn.is_autocommit() {
+        return Err(StoreFault::Failed);
+    }
+    live(conn);
+    let answers = rows.as_slice();
+    let mut tx = conn.transaction();
+    add_each(&mut tx, alloc, answers)?;
+    match tx.commit() {
+        Ok(()) => Ok(()),
+        Err(error) => Err(fault_of(&error)),
+    }
 }

@@ -20,7 +20,7 @@ use crate::calls::{fault_of, live};
 use crate::people::add_person;
 use crate::record::Place;
 use crate::round_writes::{put_new, put_place};
-use crate::rows::Rows;
+use crate::whole::Whole;
 use crate::{answers, protests, puzzles};
 use hall_policy::{AnswerRow, Person, ProtestRow, PuzzleRow, Round};
 use hall_store::StoreFault;
@@ -107,7 +107,7 @@ impl Added for ProtestRow {
 }
 
 /// Adds them, one after another.
-fn add_each<S: Alter, T: Added>(
+pub(crate) fn add_each<S: Alter, T: Added>(
     tx: &mut Transaction<'_, S>,
     alloc: Global,
     records: &[T],
@@ -130,7 +130,7 @@ fn add_each<S: Alter, T: Added>(
 fn fill_inside<S: Alter>(
     tx: &mut Transaction<'_, S>,
     alloc: Global,
-    rows: &Rows,
+    rows: &Whole,
 ) -> Result<(), StoreFault>
     ensures same_reference { tx.new.conn.ghost_name ≡ tx.old.conn.ghost_name }
     ensures carries { LeadsUncommitted (state S.Store tx.old.conn.now) (state S.Store tx.new.conn.now) }
@@ -152,7 +152,7 @@ fn fill_inside<S: Alter>(
 pub(crate) fn fill<S: Alter>(
     conn: &mut Connection<S>,
     alloc: Global,
-    rows: &Rows,
+    rows: &Whole,
 ) -> Result<(), StoreFault>
     requires hall { IsHall (state S.Store conn.old) }
     ensures hall { IsHall (state S.Store conn.new) }

@@ -15,9 +15,9 @@ ghost use Rattle.hall_sql.specs.WholeRows.{AreRowsOf, IsEmptyIn};
 
 use crate::fill::fill;
 use crate::old_store::OldStore;
-use crate::rows::{Rows, read_rows};
 use crate::sql_store::SqlStore;
 use crate::testers::has_testers;
+use crate::whole::{Whole, read_rows};
 use hall_store::StoreFault;
 use sqlite::{Alter, Connection};
 use std::alloc::Global;
@@ -43,7 +43,7 @@ enum Found {
 fn compare<T: Alter>(
     conn: &mut Connection<T>,
     alloc: Global,
-    rows: &Rows,
+    rows: &Whole,
 ) -> Result<Found, StoreFault>
     requires hall { IsHall (state T.Store conn.old) }
     ensures rested { KeptTables (state T.Store conn.old) (state T.Store conn.new) }
@@ -70,7 +70,7 @@ fn compare<T: Alter>(
 fn fill_counted<T: Alter>(
     conn: &mut Connection<T>,
     alloc: Global,
-    rows: &Rows,
+    rows: &Whole,
 ) -> Result<Migrated, StoreFault>
     requires hall { IsHall (state T.Store conn.old) }
     requires nothing { IsEmptyIn (state T.Store conn.old) }
@@ -97,7 +97,7 @@ fn fill_counted<T: Alter>(
 pub(crate) fn take_rows<T: Alter>(
     conn: &mut Connection<T>,
     alloc: Global,
-    rows: &Rows,
+    rows: &Whole,
 ) -> Result<Migrated, StoreFault>
     requires hall { IsHall (state T.Store conn.old) }
     ensures hall { IsHall (state T.Store conn.new) }

@@ -19,9 +19,9 @@ ghost use Rattle.hall_sql.specs.WholeRows.{AreRowsOf};
 use crate::adoption::adopt_old;
 use crate::bad_rows::{BadRows, bad_rows};
 use crate::calls::live;
-use crate::rows::{Rows, read_rows};
 use crate::sql_store::Declined;
 use crate::tables::OLD;
+use crate::whole::{Whole, read_rows};
 use hall_store::StoreFault;
 use sqlite::{Alter, Connection};
 use std::alloc::Global;
@@ -110,7 +110,7 @@ impl<S: Alter + Drop> OldStore<S> {
     }
 
     /// All rows of the tables.
-    pub(crate) fn read_rows(&mut self, alloc: Global) -> Result<Rows, StoreFault>
+    pub(crate) fn read_rows(&mut self, alloc: Global) -> Result<Whole, StoreFault>
         ensures rested { KeptTablesIn old_schema (state S.Store self.old) (state S.Store self.new) }
         ensures served { Served (old_content_of (state S.Store self.new)) result (λ world rows. AreRowsOf world rows) }
         ensures whole { HasCleanDisk (state S.Store self.new) → IfOk result (λ _.

@@ -20,7 +20,8 @@ ghost use Rattle.hall_sql.specs.WholeRows.{AreRowsOf};
 
 use crate::adoption::adopt;
 use crate::answers::{
-    ANSWER, ANSWERS_GIVEN, ANSWERS_IN, ANSWERS_OF, NUMBER_TAKEN, add_answer, all_answers,
+    ANSWER, ANSWERS_GIVEN, ANSWERS_IN, ANSWERS_OF, NUMBER_TAKEN, add_answer, add_answers,
+    all_answers,
 };
 use crate::bad_rows::{BadRows, bad_rows};
 use crate::calls::live;
@@ -37,14 +38,14 @@ use crate::reads::{find, read};
 use crate::record::{Place, Tester};
 use crate::round_writes::{put_round, set_round_flag};
 use crate::rounds::{all_places, round, rounds, rounds_using};
-use crate::rows::Rows;
 use crate::tables::ALL;
 use crate::testers::{all_testers, testers_of};
+use crate::whole::Whole;
 use hall_policy::{
     AnswerKey, AnswerNumber, AnswerRow, Key, Name, People, Person, ProtestKey, ProtestRow,
     PuzzleKey, PuzzleNumber, PuzzleRow, PuzzleState, Round, RoundId, RoundRow, Ruling, Sink,
 };
-use hall_store::{ReadStore, RoundFlag, Store, StoreFault, WholeStore};
+use hall_store::{JointAnswers, ReadStore, RoundFlag, Store, StoreFault, WholeStore};
 use sqlite::{Alter, Connection, params};
 use std::alloc::Global;
 use std::marker::Model;
@@ -121,7 +122,7 @@ impl<S: Alter + Drop> SqlStore<S> {
     }
 
     /// Puts the rows in tables that hold nothing, and tells of tables that hold these or others.
-    pub(crate) fn take_rows(&mut self, alloc: Global, rows: &Rows) -> Result<Migrated, StoreFault>
+    pub(crate) fn take_rows(&mut self, alloc: Global, rows: &Whole) -> Result<Migrated, StoreFault>
         ensures leaves { Leaves (state S.Store self.old) (state S.Store self.new) result }
         ensures stops { (world : World) → AreRowsOf world rows.now → world.testers ≡ empty
             → StopsAtWorld world (state S.Store self.old) (state S.Store self.new) }
@@ -527,10 +528,11 @@ impl<S: Alter + Drop> Store for SqlStore<S> {
     ghost use Rattle.sqlite.specs.Held.{state};
     ghost use Rattle.sqlite.specs.State.{HasCleanDisk};
     ghost use Rattle.hall_store.specs.Store.{Fails, Asks};
-    ghost use Rattle.hall_store.specs.Change.{CanAddAnswer, CanAddProtest};
+    ghost use Rattle.hall_store.specs.Change.{CanAddAnswer, CanAddAnswers, CanAddProtest};
     ghost use Rattle.hall_store.specs.declared.change.Change.TheVariants.{Import, PutPuzzle, SetState, PutRound};
-    ghost use Rattle.hall_store.specs.declared.change.Change.TheVariants.{SetRoundFlag, AddAnswer, AddProtest};
-    ghost use Rattle.hall_store.specs.declared.change.Change.TheVariants.{RuleProtest};
+    ghost use Rattle.hall_store.specs.declared.change.Change.TheVariants.{SetRoundFlag, AddAnswer, AddAnswers};
+    ghost use Rattle.hall_store.specs.declared.change.Change.TheVariants.{AddProtest, RuleProtest};
+    ghost use Rattle.hall_sql.specs.FillCause.{AddAnswersFails};
     ghost use Rattle.hall_sql.specs.declared.answers.TheConstants.{ADD_ANSWER};
     ghost use Rattle.hall_sql.specs.declared.protests.TheConstants.{ADD_PROTEST};
     ghost use Rattle.hall_sql.specs.Columns.{answer_params, protest_params};
@@ -610,6 +612,16 @@ impl<S: Alter + Drop> Store for SqlStore<S> {
             (RunFails ADD_ANSWER.now (answer_params row) (state S.Store self.old) (state S.Store self.new)) result }
     {
         add_answer(&mut self.conn, &row)
+    }
+
+    fn add_answers(&mut self, alloc: Global, rows: &JointAnswers) -> Result<(), StoreFault>
+        requires { Asks (content_of (state S.Store self.old)) (λ world. CanAddAnswers world rows.now) }
+        ensures wrote { MakesInTables (AddAnswers rows.now) (state S.Store self.old) (state S.Store self.new) result }
+        ensures fault { Fails (CanRefuse (AddAnswers rows.now) (state S.Store self.new)) result }
+        ensures cause { HasCleanDisk (state S.Store self.new) → Fails
+            (AddAnswersFails rows.now (state S.Store self.old) (state S.Store self.new)) result }
+    {
+        add_answers(&mut self.conn, alloc, rows)
     }
 
     fn add_protest(&mut self, _alloc: Global, row: ProtestRow) -> Result<(), StoreFault>

@@ -9,7 +9,7 @@ use Rattle.hall_sql.proofs.AllRead.{rounds_fails, rounds_read}
 use Rattle.hall_sql.proofs.RowReads.{fails_first, fails_next, rested_clean, rests_any, rests_twice, told_before}
 use Rattle.hall_sql.proofs.CauseLemmas.{fails_as}
 use Rattle.hall_sql.proofs.WholeRows.{rows_of}
-use Rattle.hall_sql.proofs.rows.read_rows.Goals as goal
+use Rattle.hall_sql.proofs.whole.read_rows.Goals as goal
 
 pub all_puzzles-requires : goal.all_puzzles-requires
 all_puzzles-requires g c =

@@ -1,6 +1,6 @@
-use Rattle.hall_sql.proofs.Laws.{asks_of_people, asks_of_puzzles, asks_of_rounds, asks_of_places, asks_of_testers}
-use Rattle.hall_sql.proofs.Laws.{asks_of_answers, asks_of_protests, asks_for_rowids}
-use Rattle.hall_sql.proofs.law.law_statements.Goals as goal
+use Rattle.hall_sql.proofs.StatementLaws.{asks_of_people, asks_of_puzzles, asks_of_rounds, asks_of_places, asks_of_testers}
+use Rattle.hall_sql.proofs.StatementLaws.{asks_of_answers, asks_of_protests, asks_for_rowids}
+use Rattle.hall_sql.proofs.laws.law_statements.Goals as goal
 
 pub returns-clause-people : goal.returns-clause-people
 returns-clause-people c = asks_of_people

@@ -25,7 +25,7 @@ use std::alloc::Global;
 
 /// The rows of each table, in the order of their keys.
 #[derive(Drop)]
-pub(crate) struct Rows {
+pub(crate) struct Whole {
     pub(crate) people: Vec<Person>,
     pub(crate) puzzles: Vec<PuzzleRow>,
     pub(crate) heads: Vec<Round>,
@@ -34,9 +34,9 @@ pub(crate) struct Rows {
     pub(crate) protests: Vec<ProtestRow>,
 }
 
-impl Rows {
+impl Whole {
     /// Whether both are the same rows.
-    pub(crate) fn is_same(&self, other: &Rows) -> bool
+    pub(crate) fn is_same(&self, other: &Whole) -> bool
         ensures { IsTrue result ↔ AreSameRows self.now other.now }
     {
         all_same(&self.people, &other.people)
@@ -77,7 +77,7 @@ impl Rows {
 pub(crate) fn read_rows<S: Alter>(
     conn: &mut Connection<S>,
     alloc: Global,
-) -> Result<Rows, StoreFault>
+) -> Result<Whole, StoreFault>
     requires hall { IsAnyHall (state S.Store conn.old) }
     ensures rested { KeptAnyTables (state S.Store conn.old) (state S.Store conn.new) }
     ensures served { Served (content_of (state S.Store conn.new)) result (λ world rows. AreRowsOf world rows) }
@@ -92,7 +92,7 @@ pub(crate) fn read_rows<S: Alter>(
     let places = all_places(conn, alloc)?;
     let answers = all_answers(conn, alloc)?;
     let protests = all_protests(conn, alloc)?;
-    Ok(Rows {
+    Ok(Whole {
         people,
         puzzles,
         heads,
