@@ -1,36 +1,41 @@
 -- The copies that a desk keeps stay what its store's world says.
-use Rattle.std.proofs.Common.{◌≡◌, ◌∙◌, ◌⊎◌, ◌↔◌, ◌+◌, ℕ, List, [], ◌∷◌, Option, Some, None, Contains, inl, inr, refl}
-use Rattle.std.proofs.Common.{sym, ap, subst}
-use Rattle.std.specs.Prelude.{Result, Ok, Err}
+use Rattle.std.proofs.Common.{◌≡◌, ◌∙◌, ◌⊎◌, ◌↔◌, ◌+◌, ◌++◌, ℕ, Bool, List, [], ◌∷◌, Option, Some, None, Contains}
+use Rattle.std.proofs.Common.{inl, inr, refl, sym, ap, subst}
+use Rattle.std.specs.Prelude.{IsTrue, OnErr, OnOk, Result, Ok, Err}
 use Rattle.std.specs.FinMap.{get}
+use Rattle.std.specs.List.{filter}
+use Rattle.std.proofs.lemmas.List.Elements.{Contains-push_cases}
 use Rattle.hall_policy.specs.World.{World, IsRoundAt}
 use Rattle.hall_policy.specs.declared.record.Entry.{Entry}
 use Rattle.hall_policy.specs.declared.record.ProtestRow.{ProtestRow}
 use Rattle.hall_policy.specs.declared.record.RoundRow.{RoundRow}
 use Rattle.hall_policy.specs.declared.record.ProtestKey.{ProtestKey}
 use Rattle.hall_policy.specs.declared.record.Ruling.{Ruling}
-use Rattle.hall_store.specs.Change.{changed, with_ruling}
-use Rattle.hall_store.specs.Store.{Content, Kept, Leads, MakesInWorld}
+use Rattle.hall_store.specs.Change.{CanMake, changed, with_ruling}
+use Rattle.hall_store.specs.Store.{Asks, Content, Kept, Leads, MakesInWorld}
 use Rattle.hall_store.specs.declared.change.Change.{Change}
 use Rattle.hall_store.specs.declared.change.Change.TheVariants as change
 use Rattle.hall_store.proofs.Knowing.{carried}
+use Rattle.hall_store.proofs.Tests.{filter-Contains}
 use Rattle.hall_desk.specs.Copies.{AreCopied}
 use Rattle.hall_desk.specs.RoundCopy.{IsShownAt, IsRoundCopied, LeavesRounds}
 use Rattle.hall_desk.specs.Shown.{ShowsPuzzles}
-use Rattle.hall_desk.specs.TableCopy.{IsCopied}
+use Rattle.hall_desk.specs.TableCopy.{AreTablesCopied, IsKept, leaves_table}
 use Rattle.hall_desk.specs.Totals.{IsTableAt}
 use Rattle.hall_desk.specs.declared.copies.Copies.{Copies}
 use Rattle.hall_desk.specs.declared.reply.ShownPuzzle.{ShownPuzzle}
 use Rattle.hall_desk.specs.declared.reply.ShownRound.{ShownRound}
 use Rattle.hall_desk.specs.declared.round_copy.RoundCopy.{RoundCopy}
 use Rattle.hall_desk.specs.declared.table_copy.TableCopy.{TableCopy}
+use Rattle.hall_desk.proofs.TablesLeft.{same_at, table_left}
 
 -- ---- over a call that leaves the world
-table_kept : (old new : Content) (copied : Option TableCopy) → Kept old new → IsCopied old copied → IsCopied new copied
-table_kept old new None kept was = tt
-table_kept old new (Some copy) kept was = carried (λ w. IsTableAt w copy.round copy.text) old new kept was
+pub tables_kept : (old new : Content) (copied : Option (List TableCopy)) → Kept old new → AreTablesCopied old copied
+    → AreTablesCopied new copied
+tables_kept old new copied kept was copy there =
+    carried (λ w. IsTableAt w copy.round copy.text) old new kept (was copy there)
 
-round_kept : (old new : Content) (copied : Option RoundCopy) → Kept old new → IsRoundCopied old copied
+pub round_kept : (old new : Content) (copied : Option RoundCopy) → Kept old new → IsRoundCopied old copied
     → IsRoundCopied new copied
 round_kept old new None kept was = tt
 round_kept old new (Some copy) kept was = carried (λ w. IsShownAt w copy.round copy.shown) old new kept was
@@ -38,10 +43,60 @@ round_kept old new (Some copy) kept was = carried (λ w. IsShownAt w copy.round 
 pub copies_kept : (old new : Content) (copies : Copies) → Kept old new → AreCopied old copies → AreCopied new copies
 copies_kept old new copies kept was =
     record {
-      table = table_kept old new copies.table kept was.table;
-      round = round_kept old new copies.round kept
-          was.round;
+      tables = tables_kept old new copies.tables kept was.tables;
+      round = round_kept old new copies.round kept was.round;
     }
+
+-- ---- copies of tables
+-- those that pass a test
+pub kept_filtered : (passes : TableCopy → Bool) (copied : Option (List TableCopy)) (copies rows : List TableCopy)
+    → copied ≡ Some copies → rows ≡ filter passes copies → (copy : TableCopy) → IsKept (Some rows) copy
+    → IsKept copied copy × IsTrue (passes copy)
+kept_filtered passes copied copies rows is made copy (others, at, among) =
+    let one : rows ≡ others = cc in
+    let passed = filter-Contains passes copies copy (subst (λ (l : List TableCopy). Contains l copy) (sym one ∙ made)
+    among) in
+    ((copies, is, passed.0), passed.1)
+
+-- one more, of this round with this text, where there was memory for it
+pub kept_pushed : {R E : Type 0} (result : Result R E) (copied : Option (List TableCopy))
+    (copies rows : List TableCopy) (added : TableCopy) (round text : List ℕ)
+    → ((copy : TableCopy) → Contains copies copy → IsKept copied copy) → OnOk result (rows ≡ copies ++ added ∷ [])
+    → OnErr result (rows ≡ copies) → (added.round ≡ round) × (added.text ≡ text)
+    → (copy : TableCopy) → IsKept (Some rows) copy
+    → IsKept copied copy ⊎ ((copy.round ≡ round) × (copy.text ≡ text))
+kept_pushed (Ok done) copied copies rows added round text were more same told copy (others, at, among) =
+    let one : rows ≡ others = cc in
+    elim (Contains-push_cases copies added copy (subst (λ (l : List TableCopy). Contains l copy) (sym one ∙ more)
+    among)) [
+      | inl there ↦ inl (were copy there)
+      | inr itself ↦ inr (
+        ap (λ (c : TableCopy). c.round) (sym itself) ∙ told.0,
+        ap (λ (c : TableCopy). c.text) (sym itself) ∙ told.1,
+      )
+    ]
+kept_pushed (Err fault) copied copies rows added round text were more same told copy (others, at, among) =
+    let one : rows ≡ others = cc in
+    inl (were copy (subst (λ (l : List TableCopy). Contains l copy) (sym one ∙ same) among))
+
+-- so each text is its round's table, where this one is
+pub tables_more : (content : Content) (before after : Option (List TableCopy)) (round text : List ℕ)
+    → AreTablesCopied content before
+    → ((copy : TableCopy) → IsKept after copy → IsKept before copy ⊎ ((copy.round ≡ round) × (copy.text ≡ text)))
+    → Asks content (λ world. IsTableAt world round text) → AreTablesCopied content after
+tables_more content before after round text were more told copy there = elim (more copy there) [
+  | inl kept ↦ were copy kept
+  | inr (same, alike) ↦ λ h s. subst (λ (t : List ℕ). IsTableAt content.world copy.round t) (sym alike)
+      (subst (λ (r : List ℕ). IsTableAt content.world r text) (sym same) (told h s))
+]
+
+-- the text of a copy is the table of its round
+pub kept_table : (content : Content) (copied : Option (List TableCopy)) (copy : TableCopy) (round text : List ℕ)
+    → AreTablesCopied content copied → IsKept copied copy → copy.round ≡ round → copy.text ≡ text
+    → Asks content (λ world. IsTableAt world round text)
+kept_table content copied copy round text are there same alike h s =
+    subst (λ (t : List ℕ). IsTableAt content.world round t) alike
+    (subst (λ (r : List ℕ). IsTableAt content.world r copy.text) same (are copy there h s))
 
 -- ---- over a change of people, answers or protests
 -- two worlds with the same rounds and puzzles
@@ -63,18 +118,10 @@ module _ (world other : World) (rounds : other.rounds ≡ world.rounds) (places 
     puzzles_alike (number + 1) entries shown shows.1,
   )
 
-  round_alike : (id : List ℕ) (row : RoundRow) → IsRoundAt world id row → IsRoundAt other id row
-  round_alike id row at = record {
-    head = ap (λ kept. get kept id) rounds ∙ at.head;
-    list = λ number. ap (λ kept. get kept (record { round = id; number = number })) places ∙ at.list number;
-    testers = λ name. subst (λ kept. (get kept (record { round = id; name = name }) ≡ Some tt)
-        ↔ Contains row.testers name) (sym testers) (at.testers name);
-  }
-
   shown_alike : (id : List ℕ) (shown : ShownRound) → IsShownAt world id shown → IsShownAt other id shown
   shown_alike id shown (row, at, shows) = (
     row,
-    round_alike id row at,
+    same_at world other rounds places testers id row at,
     record {
       bonus = shows.bonus;
       id = shows.id;
@@ -106,29 +153,32 @@ changed_alike (change.PutRound row) world id shown leaves is = absurd leaves
 changed_alike (change.SetRoundFlag round flag) world id shown leaves is = absurd leaves
 changed_alike (change.AddAnswer row) world id shown leaves is = shown_alike world (changed (change.AddAnswer row) world)
     refl refl refl refl id shown is
+changed_alike (change.AddAnswers rows) world id shown leaves is = shown_alike world
+    (changed (change.AddAnswers rows) world) refl refl refl refl id shown is
 changed_alike (change.AddProtest row) world id shown leaves is = shown_alike world
     (changed (change.AddProtest row) world) refl refl refl refl id shown is
 changed_alike (change.RuleProtest key ruling) world id shown leaves is = ruled_alike world key ruling
     (get world.protests key) id shown is
 
--- so the round is shown alike whether the change was made or refused
-made_alike : {R E : Type 0} (made : Change) (old new : Content) (result : Result R E) (id : List ℕ) (shown : ShownRound)
-    → LeavesRounds made → Leads old new →
-    MakesInWorld made old new result → (old.honest → old.serves → IsShownAt old.world id shown) → new.honest
-    → new.serves → IsShownAt new.world id shown
-made_alike made old new (Ok done) id shown leaves leads did was h s =
-    subst (λ (w : World). IsShownAt w id shown) (sym (did h).1)
-    (changed_alike made old.world id shown leaves (was (leads.honest h) (leads.serves h s)))
-made_alike made old new (Err fault) id shown leaves leads did was h s =
-    subst (λ (w : World). IsShownAt w id shown) (sym (did h s)) (was (leads.honest h) (leads.serves h s))
+-- what a change leaves true holds whether it was made or refused
+made_alike : {R E : Type 0} (made : Change) (old new : Content) (result : Result R E) (Holds : World → Type 0)
+    → (old.honest → old.serves → Holds old.world → Holds (changed made old.world)) → Leads old new
+    → MakesInWorld made old new result → Asks old Holds → Asks new Holds
+made_alike made old new (Ok done) Holds leaves leads did was h s =
+    let before = leads.honest h in
+    let served = leads.serves h s in
+    subst Holds (sym (did h).1) (leaves before served (was before served))
+made_alike made old new (Err fault) Holds leaves leads did was h s =
+    subst Holds (sym (did h s)) (was (leads.honest h) (leads.serves h s))
 
 -- what is left of the copy of a round, once the change was made or refused
 left_copied : {R E : Type 0} (made : Change) (old new : Content) (result : Result R E) (copied : Option RoundCopy)
     → LeavesRounds made → Leads old new →
     MakesInWorld made old new result → IsRoundCopied old copied → IsRoundCopied new copied
 left_copied made old new result None leaves leads did was = tt
-left_copied made old new result (Some copy) leaves leads did was = made_alike made old new result copy.round copy.shown
-    leaves leads did was
+left_copied made old new result (Some copy) leaves leads did was =
+    made_alike made old new result (λ w. IsShownAt w copy.round copy.shown)
+    (λ h s. changed_alike made old.world copy.round copy.shown leaves) leads did was
 
 round_left : {S R E : Type 0} (content : S → Content) (old new : S) (made : Change) (result : Result R E)
     (copied left : Option RoundCopy) →
@@ -145,30 +195,35 @@ round_left content old new made result copied left leads (inr did) nothing (inl 
     subst (λ (kept : Option RoundCopy). IsRoundCopied (content new) kept) (sym same)
     (left_copied made (content old) (content new) result copied leaves leads did was)
 
--- a table's copy stays where nothing is changed
-table_left : {S : Type 0} (content : S → Content) (old new : S) (made : Change) (copied left : Option TableCopy)
-    → (made ≡ change.Nothing → new ≡ old) →
-    ((made ≡ change.Nothing) × (left ≡ copied)) ⊎ (left ≡ None) → IsCopied (content old) copied
-    → IsCopied (content new) left
-table_left content old new made copied left nothing (inr none) was = subst
-    (λ (kept : Option TableCopy). IsCopied (content new) kept) (sym none) tt
-table_left content old new made copied left nothing (inl (idle, same)) was =
-    subst (λ (kept : Option TableCopy). IsCopied (content new) kept) (sym same)
-    (subst (λ s. IsCopied (content s) copied) (sym (nothing idle)) was)
+-- each table's copy that is left was there, and the change leaves it
+tables_left : {S R E : Type 0} (content : S → Content) (old new : S) (made : Change) (result : Result R E)
+    (copied left : Option (List TableCopy)) → Asks (content old) (CanMake made) → Leads (content old) (content new)
+    → (made ≡ change.Nothing) ⊎ MakesInWorld made (content old) (content new) result
+    → (made ≡ change.Nothing → new ≡ old)
+    → ((copy : TableCopy) → IsKept left copy → IsKept copied copy × IsTrue (leaves_table made copy.round))
+    → AreTablesCopied (content old) copied → AreTablesCopied (content new) left
+tables_left content old new made result copied left can leads (inl idle) nothing stays was copy there =
+    subst (λ s. Asks (content s) (λ w. IsTableAt w copy.round copy.text)) (sym (nothing idle))
+    (was copy (stays copy there).0)
+tables_left content old new made result copied left can leads (inr did) nothing stays was copy there =
+    made_alike made (content old) (content new) result (λ w. IsTableAt w copy.round copy.text)
+    (λ h s. table_left copy.round copy.text made (content old).world (stays copy there).1 (can h s)) leads did
+    (was copy (stays copy there).0)
 
 -- so each copy that is left is what the store's world says
 pub copies_left : {S R E : Type 0} (content : S → Content) (old new : S) (made : Change) (result : Result R E)
-    (copies : Copies) (table other_table : Option TableCopy)
-    (round other_round : Option RoundCopy) → table ≡ copies.table → round ≡ copies.round
-    → Leads (content old) (content new) →
-    (made ≡ change.Nothing) ⊎ MakesInWorld made (content old) (content new) result → (made ≡ change.Nothing → new ≡ old)
-    → ((made ≡ change.Nothing) × (other_table ≡ table)) ⊎ (other_table ≡ None) →
-    (LeavesRounds made × (other_round ≡ round)) ⊎ (other_round ≡ None) → AreCopied (content old) copies
-    → AreCopied (content new) (record { table = other_table; round = other_round })
-copies_left content old new made result copies table other_table round other_round same_table same_round leads did
-    nothing tables rounds was = record {
-      table = table_left content old new made table other_table nothing tables
-          (subst (λ (kept : Option TableCopy). IsCopied (content old) kept) (sym same_table) was.table);
+    (copies : Copies) (tables other_tables : Option (List TableCopy)) (round other_round : Option RoundCopy)
+    → tables ≡ copies.tables → round ≡ copies.round → Asks (content old) (CanMake made)
+    → Leads (content old) (content new)
+    → (made ≡ change.Nothing) ⊎ MakesInWorld made (content old) (content new) result
+    → (made ≡ change.Nothing → new ≡ old)
+    → ((copy : TableCopy) → IsKept other_tables copy → IsKept tables copy × IsTrue (leaves_table made copy.round))
+    → (LeavesRounds made × (other_round ≡ round)) ⊎ (other_round ≡ None) → AreCopied (content old) copies
+    → AreCopied (content new) (record { tables = other_tables; round = other_round })
+copies_left content old new made result copies tables other_tables round other_round same_tables same_round can leads
+    did nothing stays rounds was = record {
+      tables = tables_left content old new made result tables other_tables can leads did nothing stays
+          (subst (AreTablesCopied (content old)) (sym same_tables) was.tables);
       round = round_left content old new made result round other_round leads did nothing rounds
           (subst (λ (kept : Option RoundCopy). IsRoundCopied (content old) kept) (sym same_round) was.round);
     }

@@ -5,8 +5,7 @@ use Rattle.std.specs.Prelude.{◌&&◌, All}
 use Rattle.std.specs.FinMap.{FinMap, get}
 use Rattle.std.proofs.lemmas.Bool.{false≢true}
 use Rattle.std.proofs.lemmas.List.Elements.{All-head, All-tail}
-use Rattle.hall_score.specs.Total.{total_of}
-use Rattle.hall_policy.specs.World.{World, IsRoundAt, end_of, same_text, answer_cmp, protest_cmp}
+use Rattle.hall_policy.specs.World.{World, end_of, same_text, answer_cmp, protest_cmp}
 use Rattle.hall_policy.specs.Rules.{is_director}
 use Rattle.hall_policy.specs.Actions.{rules_asked}
 use Rattle.hall_policy.specs.First.{Forbids, NoneDecides}
@@ -19,7 +18,6 @@ use Rattle.hall_policy.specs.declared.record.Person.{Person}
 use Rattle.hall_policy.specs.declared.record.ProtestKey.{ProtestKey}
 use Rattle.hall_policy.specs.declared.record.ProtestRow.{ProtestRow}
 use Rattle.hall_policy.specs.declared.record.Round.{Round}
-use Rattle.hall_policy.specs.declared.record.RoundRow.{RoundRow}
 use Rattle.hall_policy.specs.declared.record.Ruling.{Ruling}
 use Rattle.hall_policy.specs.declared.request.Action.{Action}
 use Rattle.hall_policy.specs.declared.request.Action.TheVariants as action
@@ -32,7 +30,7 @@ use Rattle.hall_store.specs.Store.{is_of}
 use Rattle.hall_store.proofs.Inserts.{found_after}
 use Rattle.hall_store.proofs.Tests.{not_true}
 use Rattle.hall_desk.specs.Lookups.{IsReleasedRound}
-use Rattle.hall_desk.specs.Totals.{round_answers_by, round_protests_by, AreTotals, IsTableAt}
+use Rattle.hall_desk.specs.Totals.{round_answers_by, round_protests_by}
 use Rattle.hall_desk.specs.Sane.{Sane}
 use Rattle.hall_desk.specs.Step.{Step, IsTableStep, answer_row, open_protest}
 use Rattle.hall_desk.specs.History.{Event, requested, seeded, History, IsTyped}
@@ -49,6 +47,7 @@ use Rattle.hall_desk.proofs.Remaining.{records_stay, event_remains, released_puz
 use Rattle.hall_desk.proofs.RepliesAlike.{le_unless, true_unless}
 use Rattle.hall_desk.proofs.Authored.{lt_unless, same_times}
 use Rattle.hall_desk.proofs.Bringing.{allowed_person}
+use Rattle.hall_desk.proofs.TablesLeft.{table_moved}
 use Rattle.hall_desk.proofs.Touching.{Changes, happened}
 
 -- a round that is there, released and published
@@ -230,33 +229,6 @@ module _ (world later : World) (events : List Event) (id : List ℕ) (sane : San
       (retyped.protests k r here))
       (λ k passes. sym (same_protests k ((text_decides k.round id).0 (and_first _ _ passes))))
 
--- the same rows make the same table
-table_moved : (world other : World) (id text : List ℕ) → get other.rounds id ≡ get world.rounds id
-    → ((row : RoundRow) → IsRoundAt world id row → IsRoundAt other id row) →
-    ((entrant : List ℕ) → round_answers_by world id entrant ≡ round_answers_by other id entrant)
-    → ((entrant : List ℕ) → round_protests_by world id entrant ≡ round_protests_by other id entrant) →
-    IsTableAt world id text → IsTableAt other id text
-table_moved world other id text round moved answers protests (row, at, (totals, are, written)) =
-    (row, moved row at, (totals, of_other, written))
-  where
-    of_other : AreTotals other id row totals
-    of_other = record {
-      each_once = are.each_once;
-      listed = λ entrant. (
-        (λ has. (are.listed entrant).0 (
-          has.0,
-          subst (λ (rows : List AnswerRow). Contains rows has.0)
-              (sym (answers entrant)) has.1,
-        )),
-        (λ listed. let has = (are.listed entrant).1 listed in
-            (has.0, subst (λ (rows : List AnswerRow). Contains rows has.0) (answers entrant) has.1)),
-      );
-      right = λ entrant total among.
-          are.right entrant total among
-          ∙ ap (λ (rows : List AnswerRow). total_of row rows (round_protests_by world id entrant)) (answers entrant)
-          ∙ ap (λ (rows : List ProtestRow). total_of row (round_answers_by other id entrant) rows) (protests entrant);
-    }
-
 pub published_rounds_stay : PublishedRoundsStay
 published_rounds_stay world later events id round sane typed life at published =
     let shut : IsShut world id = record {
@@ -277,7 +249,7 @@ published_rounds_stay world later events id round sane typed life at published =
       answers = same_answers world later events id sane typed life shut;
       protests = same_protests world later events id sane typed life shut;
       table = λ text. (
-        (λ told. table_moved later world id text (sym head)
+        (λ told. table_moved later world id text
             (λ row is. record {
               head = sym head ∙ is.head;
               list = λ number. sym (stays.places number) ∙ is.list number;
@@ -288,7 +260,7 @@ published_rounds_stay world later events id round sane typed life at published =
               );
             })
             (λ entrant. sym (answers entrant)) (λ entrant. sym (protests entrant)) told),
-        (λ told. table_moved world later id text head
+        (λ told. table_moved world later id text
             (λ row is. record {
               head = head ∙ is.head;
               list = λ number. stays.places number ∙ is.list number;

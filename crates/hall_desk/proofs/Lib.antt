@@ -39,8 +39,10 @@ pub mod ProtestRetries
 pub mod ProtestAnswered
 pub mod Stepping
 pub mod Touching
+pub mod Beside
 pub mod Bringing
 pub mod Authored
+pub mod TablesLeft
 pub mod Finality
 pub mod Seeding
 pub mod Rising
@@ -67,8 +69,11 @@ pub mod GoingOn
 pub mod Wants
 pub mod Places
 pub mod Scans
+pub mod Halving
+pub mod Dividing
 pub mod Asking
 pub mod Counting
+pub mod JoinLemmas
 pub mod Judging
 pub mod Standing
 pub mod RoundLists

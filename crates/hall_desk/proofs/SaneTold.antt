@@ -40,7 +40,7 @@ use Rattle.hall_desk.specs.Whole.{world_of_whole}
 use Rattle.hall_desk.specs.declared.sentence.Breaches.{Breaches}
 use Rattle.hall_desk.specs.declared.sentence.Sentence.{Sentence}
 use Rattle.hall_desk.specs.declared.sentence.Sentence.TheVariants as sentence
-use Rattle.hall_desk.specs.declared.states.States.{States}
+use Rattle.hall_desk.specs.declared.puzzle_states.States.{States}
 use Rattle.hall_desk.specs.declared.whole.Whole.{Whole}
 use Rattle.hall_desk.proofs.Asking.{all_true}
 use Rattle.hall_desk.proofs.OwnRows.{own_row}

@@ -1,20 +1,16 @@
 -- What a scan from the front finds is what the world has.
-use Rattle.std.proofs.Common.{◌≡◌, ◌≢◌, ◌↔◌, ◌&&◌, ◌==◌, IsTrue, is_some, ℕ, Bool, true, false, cond, List, [], ◌∷◌}
+use Rattle.std.proofs.Common.{◌≡◌, ◌≢◌, ◌↔◌, IsTrue, is_some, Bool, true, false, cond, List, [], ◌∷◌}
 use Rattle.std.proofs.Common.{map, find, Option, Some, None, Decides, refl, sym, ap, ◌∙◌, subst}
-use Rattle.std.specs.Cmp.{IsTotalOrder, tied_itself, unsigned_Decides}
+use Rattle.std.specs.Cmp.{IsTotalOrder, tied_itself}
 use Rattle.std.specs.Ordering.{is_eq}
 use Rattle.std.specs.declared.cmp.Ordering.{Ordering}
 use Rattle.std.specs.FinMap.{get, from_entries, IsAntisymmetric}
 use Rattle.std.specs.Map.{lookup}
 use Rattle.std.specs.BTreeMap.{is_at}
 use Rattle.std.specs.Option.{option_map}
-use Rattle.hall_policy.specs.World.{same_text}
-use Rattle.hall_policy.specs.declared.record.PlaceKey.{PlaceKey}
-use Rattle.hall_policy.specs.declared.record.TesterKey.{TesterKey}
-use Rattle.hall_policy.proofs.Texts.{text_decides, and_first, and_second}
 use Rattle.hall_store.proofs.MapWorlds.{get_found}
 use Rattle.hall_store.proofs.Ranges.{equal_from_test}
-use Rattle.hall_store.proofs.Tests.{not_true, true_not_false, and_both}
+use Rattle.hall_store.proofs.Tests.{not_true}
 
 module _ {K : Type 0} {R : K → K → Ordering} (o : IsTotalOrder R) (same : IsAntisymmetric R) where
   -- keys tie where they are one
@@ -22,6 +18,13 @@ module _ {K : Type 0} {R : K → K → Ordering} (o : IsTotalOrder R) (same : Is
   tied a q true d = subst (λ (x : K). is_eq (R q x) ≡ true) (sym (d.0 refl)) (ap is_eq (tied_itself o q))
   tied a q false d = not_true (is_eq (R q a)) (λ tie. let no : false ≡ true = d.1
       (sym (same q a (equal_from_test (R q a) tie))) in absurd (cc))
+
+  -- so a tie decides whether they are one
+  pub tie_decides : (a q : K) → Decides (is_eq (R a q)) (a ≡ q)
+  tie_decides a q = (
+    (λ tie. same a q (equal_from_test (R a q) tie)),
+    (λ is. subst (λ (x : K). is_eq (R a x) ≡ true) is (ap is_eq (tied_itself o a))),
+  )
 
 module _ {K X : Type 0} {R : K → K → Ordering} (o : IsTotalOrder R) (same : IsAntisymmetric R) where
   scanned : (key_of : X → K) (test : X → Bool) (q : K) → ((x : X) → Decides (test x) (key_of x ≡ q)) → (xs : List X)
@@ -51,34 +54,6 @@ module _ {K X : Type 0} {R : K → K → Ordering} (o : IsTotalOrder R) (same : 
   pub scan_entries : (test : K × X → Bool) (q : K) → ((e : K × X) → Decides (test e) (e.0 ≡ q)) → (es : List (K × X))
       → option_map (λ e. e.1) (find test es) ≡ get (from_entries {R = R} es) q
   scan_entries test q d es = scanned_entries test q d es ∙ sym (get_found o es q)
-
--- two places are one where their rounds and their numbers are
-pub place_decides : (a b : PlaceKey) → Decides (same_text a.round b.round && (a.number == b.number)) (a ≡ b)
-place_decides a b = (
-  (λ h.
-      let round : a.round ≡ b.round = (text_decides a.round b.round).0
-      (and_first (same_text a.round b.round) (a.number == b.number) h) in
-      let number : a.number ≡ b.number = (unsigned_Decides a.number b.number).0
-      (and_second (same_text a.round b.round) (a.number == b.number) h) in
-      λ i. record { round = round i; number = number i }),
-  (λ e. and_both (same_text a.round b.round) (a.number == b.number)
-      ((text_decides a.round b.round).1 (ap (λ (k : PlaceKey). k.round) e))
-      ((unsigned_Decides a.number b.number).1 (ap (λ (k : PlaceKey). k.number) e))),
-)
-
--- so are two testers, where their rounds and their names are
-pub tester_decides : (a b : TesterKey) → Decides (same_text a.round b.round && same_text a.name b.name) (a ≡ b)
-tester_decides a b = (
-  (λ h.
-      let round : a.round ≡ b.round = (text_decides a.round b.round).0
-      (and_first (same_text a.round b.round) (same_text a.name b.name) h) in
-      let name : a.name ≡ b.name = (text_decides a.name b.name).0
-      (and_second (same_text a.round b.round) (same_text a.name b.name) h) in
-      λ i. record { round = round i; name = name i }),
-  (λ e. and_both (same_text a.round b.round) (same_text a.name b.name)
-      ((text_decides a.round b.round).1 (ap (λ (k : TesterKey). k.round) e))
-      ((text_decides a.name b.name).1 (ap (λ (k : TesterKey). k.name) e))),
-)
 
 -- a look-up answers something exactly where there is something
 pub some_is_there : {X : Type 0} (found kept : Option X) → found ≡ kept → IsTrue (is_some found) ↔ (kept ≢ None)

@@ -13,7 +13,7 @@ use Rattle.hall_desk.specs.States.{AreStatesTold, IsStateTold, IsUndecided}
 use Rattle.hall_desk.specs.Step.{is_open}
 use Rattle.hall_desk.specs.declared.sentence.Breaches.{Breaches}
 use Rattle.hall_desk.specs.declared.sentence.Sentence.TheVariants.{StateTrue}
-use Rattle.hall_desk.specs.declared.states.States.{States}
+use Rattle.hall_desk.specs.declared.puzzle_states.States.{States}
 use Rattle.hall_desk.proofs.Asking.{all_first, all_true, every_more, every_none, finds_more, finds_none, first_more}
 use Rattle.hall_desk.proofs.Asking.{none_mapped, second_more}
 

@@ -20,7 +20,7 @@ use Rattle.hall_store.specs.Caller.{caller_of}
 use Rattle.hall_store.specs.Store.{Content, Told}
 use Rattle.hall_store.specs.declared.fault.StoreFault.{StoreFault}
 use Rattle.hall_desk.specs.Lookups.{IsCaller}
-use Rattle.hall_desk.specs.declared.wanted.Wanted.{Wanted}
+use Rattle.hall_desk.specs.declared.wanted_search.Wanted.{Wanted}
 use Rattle.hall_desk.specs.Wanted.{IsSearchOfFound, IsSearchFor}
 
 -- no rule that a Certify is asked speaks of the moment, since it names no round

@@ -11,7 +11,7 @@ use Rattle.hall_desk.specs.declared.sanity.Checked.{Checked}
 use Rattle.hall_desk.specs.declared.sentence.Breaches.{Breaches}
 use Rattle.hall_desk.specs.declared.sentence.Sentence.{Sentence}
 use Rattle.hall_desk.specs.declared.sentence.Sentence.TheVariants as sentence
-use Rattle.hall_desk.specs.declared.states.States.{States}
+use Rattle.hall_desk.specs.declared.puzzle_states.States.{States}
 
 -- all sentences but that of puzzles' states, in the order in which they are told
 abbrev pub all_sentences : List Sentence

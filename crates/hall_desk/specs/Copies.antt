@@ -1,10 +1,10 @@
 -- What the copies that a desk keeps say of its store.
 use Rattle.hall_store.specs.Store.{Content}
 use Rattle.hall_desk.specs.RoundCopy.{IsRoundCopied}
-use Rattle.hall_desk.specs.TableCopy.{IsCopied}
+use Rattle.hall_desk.specs.TableCopy.{AreTablesCopied}
 use Rattle.hall_desk.specs.declared.copies.Copies.{Copies}
 
 -- each copy is what the store's world says
 pub record AreCopied (content : Content) (copies : Copies) : Type 0 where
-  pub table : IsCopied content copies.table
+  pub tables : AreTablesCopied content copies.tables
   pub round : IsRoundCopied content copies.round

@@ -4,9 +4,9 @@ use Rattle.std.specs.declared.cmp.Ordering.{Ordering}
 use Rattle.hall_policy.specs.Text.{text_cmp}
 use Rattle.hall_policy.specs.declared.record.AnswerRow.{AnswerRow}
 use Rattle.hall_policy.specs.declared.record.ProtestRow.{ProtestRow}
-use Rattle.hall_desk.specs.declared.group.ToPuzzle.{ToPuzzle}
-use Rattle.hall_desk.specs.declared.group.WithNumber.{WithNumber}
-use Rattle.hall_desk.specs.declared.group.InRound.{InRound}
+use Rattle.hall_desk.specs.declared.counting_keys.ToPuzzle.{ToPuzzle}
+use Rattle.hall_desk.specs.declared.counting_keys.WithNumber.{WithNumber}
+use Rattle.hall_desk.specs.declared.counting_keys.InRound.{InRound}
 
 -- whose answer to which puzzle
 abbrev pub to_puzzle : AnswerRow → ToPuzzle

@@ -21,6 +21,7 @@ pub mod Plan
 pub mod Handler
 pub mod Plans
 pub mod Agreement
+pub mod Together
 pub mod Without
 pub mod Exchanged
 pub mod Secrecy
@@ -33,6 +34,7 @@ pub mod Certifying
 pub mod Memo
 pub mod Wanted
 pub mod Searches
+pub mod Halves
 pub mod Whole
 pub mod Sentences
 pub mod Spots

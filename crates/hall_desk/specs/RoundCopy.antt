@@ -4,7 +4,8 @@ use Rattle.hall_policy.specs.World.{World, IsRoundAt}
 use Rattle.hall_policy.specs.declared.record.RoundRow.{RoundRow}
 use Rattle.hall_store.specs.Store.{Content, Asks}
 use Rattle.hall_store.specs.declared.change.Change.{Change}
-use Rattle.hall_store.specs.declared.change.Change.TheVariants.{Nothing, Import, AddAnswer, AddProtest, RuleProtest}
+use Rattle.hall_store.specs.declared.change.Change.TheVariants.{Nothing, Import, AddAnswer, AddAnswers, AddProtest}
+use Rattle.hall_store.specs.declared.change.Change.TheVariants.{RuleProtest}
 use Rattle.hall_desk.specs.Shown.{ShowsRound}
 use Rattle.hall_desk.specs.declared.reply.ShownRound.{ShownRound}
 use Rattle.hall_desk.specs.declared.round_copy.RoundCopy.{RoundCopy}
@@ -23,6 +24,7 @@ abbrev pub LeavesRounds : Change → Type 0
 LeavesRounds Nothing = Unit {0}
 LeavesRounds (Import people) = Unit {0}
 LeavesRounds (AddAnswer row) = Unit {0}
+LeavesRounds (AddAnswers rows) = Unit {0}
 LeavesRounds (AddProtest row) = Unit {0}
 LeavesRounds (RuleProtest key ruling) = Unit {0}
 LeavesRounds _ = ⊥

@@ -3,7 +3,7 @@ use Rattle.std.specs.Prelude.{◌≡◌, ℕ, List, Option, Some, None, length, 
 use Rattle.hall_policy.specs.declared.record.PuzzleKey.{PuzzleKey}
 use Rattle.hall_desk.specs.Underway.{SearchOf}
 use Rattle.hall_desk.specs.declared.under_way.Underway.{Underway}
-use Rattle.hall_desk.specs.declared.wanted.Wanted.{Wanted}
+use Rattle.hall_desk.specs.declared.wanted_search.Wanted.{Wanted}
 
 -- the search is under way at the place
 abbrev pub IsAt : List (Option Underway) → ℕ → Underway → Type 0

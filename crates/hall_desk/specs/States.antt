@@ -10,9 +10,9 @@ use Rattle.hall_desk.specs.Sane.{IsTrueState}
 use Rattle.hall_desk.specs.Spots.{puzzle_spot}
 use Rattle.hall_desk.specs.Step.{is_open}
 use Rattle.hall_desk.specs.declared.sentence.Sentence.TheVariants.{StateTrue}
-use Rattle.hall_desk.specs.declared.states.Judged.{Judged}
-use Rattle.hall_desk.specs.declared.states.Judged.TheVariants.{True, False, Undecided}
-use Rattle.hall_desk.specs.declared.states.States.{States}
+use Rattle.hall_desk.specs.declared.puzzle_states.Judged.{Judged}
+use Rattle.hall_desk.specs.declared.puzzle_states.Judged.TheVariants.{True, False, Undecided}
+use Rattle.hall_desk.specs.declared.puzzle_states.States.{States}
 
 -- the state says something of the puzzle, and a search of it may give up within the budget
 abbrev pub IsUndecided : ℕ → Board → PuzzleState → Type 0

@@ -11,7 +11,7 @@ use Rattle.hall_policy.specs.declared.rule.Decision.TheVariants.{Allow}
 use Rattle.hall_desk.specs.Step.{is_open}
 use Rattle.hall_store.specs.Caller.{caller_of}
 use Rattle.hall_store.specs.Store.{Content}
-use Rattle.hall_desk.specs.declared.wanted.Wanted.{Wanted}
+use Rattle.hall_desk.specs.declared.wanted_search.Wanted.{Wanted}
 
 -- The request certifies a puzzle that the world keeps, and of which no search came to an end yet; and the rules allow
 -- it to whoever has its key, at whatever moment it is asked.

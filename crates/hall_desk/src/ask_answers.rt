@@ -4,7 +4,7 @@ ghost use Rattle.hall_desk.specs.Sane.{IsPlaceThere, MayTakePart, IsVerdictAt};
 ghost use Rattle.hall_desk.specs.Sentences.{IsAuthorIn, IsBy};
 ghost use Rattle.hall_desk.specs.Whole.{IsInOrder, world_of_whole};
 
-use crate::ask::Asked;
+use crate::ask_rows::Asked;
 use crate::counts::Asking;
 use crate::sentence::Sentence;
 use crate::verdict::judge;

@@ -1,5 +1,5 @@
 //! What is asked of people.
-use crate::ask::Asked;
+use crate::ask_rows::Asked;
 use crate::counts::Asking;
 use crate::sentence::Sentence;
 use hall_policy::Person;

@@ -3,7 +3,7 @@ ghost use Rattle.std.specs.Prelude.{◌↔◌, IsTrue};
 ghost use Rattle.hall_desk.specs.Sentences.{IsCertifiedFirst, IsElsewhere, IsInAnother, IsInNoOther};
 ghost use Rattle.hall_desk.specs.Whole.{IsInOrder, world_of_whole};
 
-use crate::ask::Asked;
+use crate::ask_rows::Asked;
 use crate::counts::Asking;
 use crate::release_faults::is_one;
 use crate::sentence::Sentence;

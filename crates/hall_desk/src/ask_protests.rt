@@ -3,8 +3,8 @@ ghost use Rattle.std.specs.Prelude.{◌↔◌, IsTrue};
 ghost use Rattle.hall_desk.specs.Sentences.{IsRuledFirst};
 ghost use Rattle.hall_desk.specs.Whole.{world_of_whole};
 
-use crate::ask::Asked;
 use crate::ask_answers::{has_place, may_take_part};
+use crate::ask_rows::Asked;
 use crate::counts::Asking;
 use crate::sentence::Sentence;
 use crate::whole::Whole;

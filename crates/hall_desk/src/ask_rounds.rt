@@ -4,7 +4,7 @@ ghost use Rattle.hall_policy.specs.Lists.{AreEntries};
 ghost use Rattle.hall_desk.specs.Asking.{CanAsk, asked_world};
 ghost use Rattle.hall_desk.specs.Sentences.{HasList, IsListTold};
 
-use crate::ask::Asked;
+use crate::ask_rows::Asked;
 use crate::counts::Asking;
 use crate::rows::push;
 use crate::sentence::Sentence;

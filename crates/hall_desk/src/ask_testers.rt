@@ -1,5 +1,5 @@
 //! What is asked of the testers of rounds.
-use crate::ask::Asked;
+use crate::ask_rows::Asked;
 use crate::counts::Asking;
 use crate::sentence::Sentence;
 use hall_store::Tester;

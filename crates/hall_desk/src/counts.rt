@@ -6,8 +6,8 @@ ghost use Rattle.hall_policy.specs.World.{same_text};
 ghost use Rattle.hall_desk.specs.Asking.{AreCounted, CanAsk, asked_world};
 ghost use Rattle.hall_desk.specs.Sentences.{is_numbered_alike};
 
-use crate::group::{InRound, ToPuzzle, WithNumber};
-use crate::tally::{KeyOf, count_at, tally};
+use crate::counting_keys::{InRound, ToPuzzle, WithNumber};
+use crate::row_counts::{KeyOf, count_at, tally};
 use crate::whole::Whole;
 use hall_policy::{AnswerRow, Key, Name, ProtestRow, RoundId};
 use std::alloc::{AllocError, Global};

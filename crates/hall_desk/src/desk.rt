@@ -1,5 +1,5 @@
 //! The desk: requests, answered over the world of a store.
-ghost use Rattle.std.specs.Prelude.{◌≡◌, ◌⊎◌, ◌≤◌, ◌+◌, length, IfOk, IfSome, IsOk, IsTrue, OnErr, false};
+ghost use Rattle.std.specs.Prelude.{◌≡◌, ◌⊎◌, ◌≤◌, ◌+◌, [], length, IfOk, IfSome, IsOk, IsTrue, OnErr, false};
 ghost use Rattle.hall_store.specs.Store.{Kept, Served, KeptWorld, Leads, LeavesOneOf, IsSettled, MakesInWorld};
 ghost use Rattle.hall_store.specs.Store.{WritesOnce, Asks};
 ghost use Rattle.hall_store.specs.Store.{Told, Fails};
@@ -14,6 +14,7 @@ ghost use Rattle.hall_desk.specs.Plans.{Planned, IsStepOver, Seeds, Runs, FailsI
 ghost use Rattle.hall_desk.specs.Wanted.{MayWait};
 ghost use Rattle.hall_desk.specs.Plans.{IsQuietPlan, IsSeedReply, AreStepped, NobodysAreAnswered, WritesIfAny};
 ghost use Rattle.hall_desk.specs.Plans.{StopsWithin, StopsInSeed, LeavesRun, SeedCanFail};
+ghost use Rattle.hall_desk.specs.Together.{IsPlanBeside};
 
 use crate::census::Census;
 use crate::copies::Copies;
@@ -23,18 +24,19 @@ use crate::planning::make_plan;
 use crate::reply::Reply;
 use crate::seed::seed;
 use crate::serving::still_serves;
-use crate::step::{commit, run, step};
+use crate::step::{make, run, step};
+use crate::together::plan_beside;
 use crate::under_way::{Searches, search_on};
-use crate::wanted::search_for;
+use crate::wanted_search::search_for;
 use crate::{round_copy, table_copy};
 use hall_policy::{Moment, People, Request};
-use hall_store::{Change, ReadStore, Store, StoreFault};
+use hall_store::{Change, JointAnswers, ReadStore, Store, StoreFault};
 use std::alloc::{AllocError, Global};
 use std::marker::Model;
 
 /// What answers requests to the hall, one after another, over the world of its store; a contract sees the store.
 ///
-/// It keeps copies of the table that it made last and of the round that was read last, until what they tell of is
+/// It keeps copies of the tables that it made last and of the round that was read last, until what they tell of is
 /// changed, the searches that requests wait for, and what a search found last.
 #[derive(Drop)]
 pub struct Desk<S: ReadStore> {
@@ -102,6 +104,23 @@ impl<S: ReadStore> Desk<S> {
         )
     }
 
+    /// The plan for an answer after these answers, which aren't stored yet, if it may join them: none of them is of the
+    /// same person. Reads only.
+    pub fn plan_beside(
+        &mut self,
+        alloc: Global,
+        joint: &JointAnswers,
+        t: Moment,
+        request: &Request,
+    ) -> Result<Option<Plan>, StoreFault>
+        ensures kept { Kept (S.content (kept_by self.old)) (S.content (kept_by self.new)) }
+        ensures untouched { IsNobodys request.now → kept_by self.new ≡ kept_by self.old }
+        ensures planned { IfOk result (λ found. IfSome found
+            (IsPlanBeside (S.content (kept_by self.new)) t request.now joint.now)) }
+    {
+        plan_beside(alloc, &mut self.store, joint, t, request)
+    }
+
     /// Works for a while on what a plan of the request needs, and tells whether to answer it now, or to ask so again.
     /// An allowed Certify waits until its puzzle has been searched, some visits a time, and no other request does; one
     /// that wants the puzzle and budget of a search under way joins it. At most eight are, one for each key; others
@@ -151,6 +170,27 @@ impl<S: ReadStore> Desk<S> {
 }
 
 impl<S: Store> Desk<S> {
+    /// Stores the answers by one write, all of them or none; and makes no write where there are none. Refused, it has
+    /// left the world while the store serves. Unless out of memory, it is refused only by a store that can refuse this
+    /// change.
+    pub fn commit_all(&mut self, alloc: Global, joint: JointAnswers) -> Result<(), StoreFault>
+        requires { Asks (S.content (kept_by self.old)) (CanMake (Change.AddAnswers joint)) }
+        ensures leads { Leads (S.content (kept_by self.old)) (S.content (kept_by self.new)) }
+        ensures once { WritesOnce (S.content (kept_by self.old)) (S.content (kept_by self.new)) }
+        ensures stops { (S.content (kept_by self.old)).serves
+            → LeavesOneOf (λ before left. left ≡ changed (Change.AddAnswers joint) before)
+            (S.content (kept_by self.old)) (S.content (kept_by self.new)) }
+        ensures made { (joint ≡ []) ⊎ MakesInWorld (Change.AddAnswers joint)
+            (S.content (kept_by self.old)) (S.content (kept_by self.new)) result }
+        ensures fault { Fails ((S.content (kept_by self.new)).can_refuse (Change.AddAnswers joint)) result }
+        ensures nothing { joint ≡ [] → IsOk result × (kept_by self.new ≡ kept_by self.old) }
+    {
+        if joint.as_slice().is_empty() {
+            return Ok(());
+        }
+        self.make(alloc, Change::AddAnswers(joint))
+    }
+
     /// Makes the plan's change by one write at most, and answers its reply. Refused, it has consumed the plan and,
     /// while the store serves, left the world; a plan without a change is never refused, and makes no write. Unless
     /// out of memory, it is refused only by a store that can refuse this change.
@@ -167,13 +207,32 @@ impl<S: Store> Desk<S> {
         ensures nothing { planned_change plan ≡ Change.Nothing → IsOk result × (kept_by self.new ≡ kept_by self.old) }
         ensures reply { IfOk result (λ reply. reply ≡ planned_reply plan) }
     {
-        self.copies.table = table_copy::left_by(&plan, self.copies.table.take());
-        self.copies.round = round_copy::left_by(&plan, self.copies.round.take());
-        let writes = is_change(&plan.change);
-        let made = commit(alloc, &mut self.store, plan);
+        let Plan { reply, change, .. } = plan;
+        self.make(alloc, change)?;
+        Ok(reply)
+    }
+
+    /// Makes the change by one write, of nothing by none. It lets go the copies that the change may spoil, and notes
+    /// whether writes are refused.
+    fn make(&mut self, alloc: Global, change: Change) -> Result<(), StoreFault>
+        requires { Asks (S.content (kept_by self.old)) (CanMake change) }
+        ensures leads { Leads (S.content (kept_by self.old)) (S.content (kept_by self.new)) }
+        ensures once { WritesOnce (S.content (kept_by self.old)) (S.content (kept_by self.new)) }
+        ensures stops { (S.content (kept_by self.old)).serves
+            → LeavesOneOf (λ before left. left ≡ changed change before)
+            (S.content (kept_by self.old)) (S.content (kept_by self.new)) }
+        ensures made { (change ≡ Change.Nothing)
+            ⊎ MakesInWorld change (S.content (kept_by self.old)) (S.content (kept_by self.new)) result }
+        ensures fault { Fails ((S.content (kept_by self.new)).can_refuse change) result }
+        ensures nothing { change ≡ Change.Nothing → IsOk result × (kept_by self.new ≡ kept_by self.old) }
+    {
+        self.copies.tables = table_copy::left_by(&change, self.copies.tables.take());
+        self.copies.round = round_copy::left_by(&change, self.copies.round.take());
+        let writes = is_change(&change);
+        let made = make(alloc, &mut self.store, change);
         if writes {
             self.refuses_writes = match &made {
-                Ok(_) => false,
+                Ok(()) => false,
                 Err(StoreFault::Failed) => true,
                 Err(StoreFault::Memory) => self.refuses_writes,
             };

@@ -14,6 +14,7 @@ ghost use Rattle.hall_desk.specs.Secrecy.{OthersHidden, LivesHideOthers, BeforeS
 ghost use Rattle.hall_desk.specs.Secrecy.{SealedVerdicts, SealedRuns, LivesHideAnswers};
 ghost use Rattle.hall_desk.specs.AnsweredRun.{OthersHiddenInAnswers, SealedAnswers, RunsAreAnswered};
 ghost use Rattle.hall_desk.specs.AnsweredRun.{CertifiedWithoutOthers, CertifiedExchanged};
+ghost use Rattle.hall_desk.specs.Together.{PlansBesideAreAnswers, PlansStandBeside};
 
 /// A sane world has one answer to a request, with what a search finds.
 pub fn law_steps_agree()
@@ -82,6 +83,12 @@ pub fn law_accepted_protests()
 pub fn law_rulings()
     ensures stay { RulingsStay }
     ensures answered { RulingRetriesAreAnswered }
+{}
+
+/// What an answer is planned to be told and to change over one world holds after another's answer is stored too.
+pub fn law_together()
+    ensures stand { PlansStandBeside }
+    ensures answer { PlansBesideAreAnswers }
 {}
 
 /// Of what others do who are entrants alone, an entrant alone learns nothing: where no publication is granted, the

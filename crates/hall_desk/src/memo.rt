@@ -3,7 +3,7 @@ ghost use Rattle.std.specs.Prelude.{◌≡◌, ◌↔◌, IfOk, IsTrue};
 ghost use Rattle.hall_desk.specs.Memo.{HasFound, Remembers};
 
 use crate::certify_puzzle::{FoundState, state_of};
-use crate::finding::Finding;
+use crate::search_outcome::Finding;
 use hall_grid::Puzzle;
 use hall_policy::PuzzleState;
 use hall_solve::Visits;

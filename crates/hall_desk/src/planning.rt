@@ -9,7 +9,7 @@ ghost use Rattle.hall_store.specs.Store.{Asks, Kept, Told};
 ghost use Rattle.hall_store.specs.declared.change.Change.{Change};
 ghost use Rattle.hall_desk.specs.Copies.{AreCopied};
 ghost use Rattle.hall_desk.specs.RoundCopy.{IsRoundCopied};
-ghost use Rattle.hall_desk.specs.TableCopy.{IsCopied};
+ghost use Rattle.hall_desk.specs.TableCopy.{AreTablesCopied};
 ghost use Rattle.hall_desk.specs.Lookups.{IsCaller};
 ghost use Rattle.hall_desk.specs.Plans.{IsPlanFor, Planned, FailsIn, IsAvailable, IsNobodys, IsQuietPlan};
 
@@ -32,6 +32,7 @@ use crate::read_round::plan_round;
 use crate::release::Release;
 use crate::reply::Reply;
 use crate::round_copy::RoundCopy;
+use crate::rows::Rows;
 use crate::rule_protest::RuleProtest;
 use crate::solutions::Solutions;
 use crate::submit::Submit;
@@ -51,7 +52,7 @@ pub(crate) struct RequestAt<'a> {
 }
 
 /// What the request will be answered, and what it will change. Reads only, and for a denial nothing that a later rule
-/// asks. A table, or a round that is read, is the copy where that is the round's; and what a search would find is what
+/// asks. A table, or a round that is read, is the copy where the round has one; and what a search would find is what
 /// is remembered, where that is of the same puzzle and budget.
 pub(crate) fn make_plan<S: ReadStore>(
     alloc: Global,
@@ -78,7 +79,7 @@ pub(crate) fn make_plan<S: ReadStore>(
     };
     let plan = match &request.action {
         Action::Table { round } => {
-            plan_for_anyone(&asked, store, round, &mut facts, &mut copies.table)
+            plan_for_anyone(&asked, store, round, &mut facts, &mut copies.tables)
         }
         _ => plan_by_key(&asked, store, &mut facts, &mut copies.round),
     };
@@ -113,15 +114,15 @@ fn plan_for_anyone<S: ReadStore>(
     store: &mut S,
     round: &RoundId,
     facts: &mut Facts,
-    copied: &mut Option<TableCopy>,
+    copied: &mut Option<Rows<TableCopy>>,
 ) -> Result<Plan, StoreFault>
     requires facts { facts.old.caller ≡ None }
     requires action { asked.now.request.now.action ≡ Table round.now }
-    requires copied { IsCopied (S.content store.old) copied.old }
+    requires copied { AreTablesCopied (S.content store.old) copied.old }
     ensures kept { Kept (S.content store.old) (S.content store.new) }
     ensures fault { FailsIn (S.content store.new) result }
     ensures planned { Planned (S.content store.new) asked.now.t asked.now.request.now result }
-    ensures copied { IsCopied (S.content store.new) copied.new }
+    ensures copied { AreTablesCopied (S.content store.new) copied.new }
 {
     if let Some(key) = &asked.request.key {
         facts.caller = store.person_by_key(asked.alloc, key)?;
@@ -183,7 +184,7 @@ pub(crate) fn caller_rule(facts: &Facts, action: &Action, t: Moment) -> Option<u
 }
 
 /// The plan where the caller was looked up. The rules on the caller are asked before anything else is read.
-fn plan_for_caller<S: ReadStore>(
+pub(crate) fn plan_for_caller<S: ReadStore>(
     asked: &RequestAt,
     store: &mut S,
     facts: &mut Facts,

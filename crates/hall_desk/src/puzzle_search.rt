@@ -4,7 +4,7 @@ ghost use Rattle.hall_desk.specs.Certifying.{IsGoneOn};
 ghost use Rattle.hall_desk.specs.Underway.{IsUnderWayOf, visits_of_kind};
 ghost use Rattle.hall_desk.specs.Finding.{IsFoundBy};
 
-use crate::finding::Finding;
+use crate::search_outcome::Finding;
 use hall_grid::{Kind, Puzzle};
 use hall_nurikabe::NurikabeRules;
 use hall_slither::SlitherRules;

@@ -1,10 +1,8 @@
 //! A copy of the round that was read last.
 ghost use Rattle.std.specs.Prelude.{◌≡◌, ◌⊎◌, IfOk, IfSome, Some, None};
-ghost use Rattle.hall_desk.specs.Plan.{planned_change};
 ghost use Rattle.hall_desk.specs.RoundCopy.{LeavesRounds};
 ghost use Rattle.hall_desk.specs.declared.round_copy.RoundCopy.{RoundCopy};
 
-use crate::plan::Plan;
 use crate::reply::{ShownPuzzle, ShownRound};
 use crate::rows::{Rows, push};
 use hall_policy::RoundId;
@@ -94,14 +92,15 @@ fn copy_puzzle(line: &ShownPuzzle) -> Result<ShownPuzzle, AllocError>
     })
 }
 
-/// What is left of the copy by a plan: nothing where it changes a round or a puzzle.
-pub(crate) fn left_by(plan: &Plan, copied: Option<RoundCopy>) -> Option<RoundCopy>
-    ensures { LeavesRounds (planned_change plan.now) × (result ≡ copied) ⊎ (result ≡ None) }
+/// What is left of the copy by a change: nothing where it changes a round or a puzzle.
+pub(crate) fn left_by(change: &Change, copied: Option<RoundCopy>) -> Option<RoundCopy>
+    ensures { LeavesRounds change.now × (result ≡ copied) ⊎ (result ≡ None) }
 {
-    match plan.change {
+    match change {
         Change::Nothing
         | Change::Import(_)
         | Change::AddAnswer(_)
+        | Change::AddAnswers(_)
         | Change::AddProtest(_)
         | Change::RuleProtest { .. } => copied,
         Change::PutPuzzle(_)

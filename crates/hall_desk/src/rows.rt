@@ -29,6 +29,13 @@ impl<T> Rows<T> {
         Rows { list }
     }
 
+    /// The rows as a list that can be changed.
+    pub(crate) fn into_vec(self) -> Vec<T>
+        ensures { result.items ≡ self }
+    {
+        self.list
+    }
+
     /// Puts the row at the end; refused, it leaves the others.
     pub(crate) fn push(&mut self, row: T) -> Result<(), AllocError>
     where

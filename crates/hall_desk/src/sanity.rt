@@ -5,11 +5,11 @@ ghost use Rattle.hall_desk.specs.Checked.{IsChecked, IsNothingFound, AreStatesAs
 ghost use Rattle.hall_desk.specs.Finds.{EveryRow};
 ghost use Rattle.hall_desk.specs.Whole.{IsInOrder, IsWholeOf, world_of_whole};
 
+use crate::puzzle_states::{States, ask_states};
 use crate::ranges::in_range;
 use crate::sentence::Breaches;
 use crate::sentences::tell_all;
-use crate::states::{States, ask_states};
-use crate::whole::Whole;
+use crate::whole::{Whole, are_in_order};
 use hall_policy::PuzzleRow;
 use hall_store::{StoreFault, WholeStore};
 use std::alloc::{AllocError, Global};
@@ -96,6 +96,7 @@ fn read_whole<S: WholeStore>(alloc: Global, store: &mut S) -> Result<Whole, Stor
     let answers = store.all_answers(alloc)?;
     let protests = store.all_protests(alloc)?;
     store.under_own_keys();
+    let in_order = are_in_order(&people, &puzzles, &rounds, &places, &testers);
     Ok(Whole {
         people,
         puzzles,
@@ -104,6 +105,7 @@ fn read_whole<S: WholeStore>(alloc: Global, store: &mut S) -> Result<Whole, Stor
         testers,
         answers,
         protests,
+        in_order,
     })
 }
 

@@ -5,7 +5,7 @@ ghost use Rattle.hall_desk.specs.Checked.{AreAllTold};
 ghost use Rattle.hall_desk.specs.Checks.{AreTold, TellsSentence};
 ghost use Rattle.hall_desk.specs.Whole.{IsInOrder, world_of_whole};
 
-use crate::ask::ask_each;
+use crate::ask_rows::ask_each;
 use crate::counts::{Asking, Counts};
 use crate::rows::push;
 use crate::sentence::{Breaches, Sentence};

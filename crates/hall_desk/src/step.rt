@@ -41,7 +41,7 @@ pub(crate) fn commit<S: Store>(
 }
 
 /// Makes the change by its one call of the store.
-fn make<S: Store>(alloc: Global, store: &mut S, change: Change) -> Result<(), StoreFault>
+pub(crate) fn make<S: Store>(alloc: Global, store: &mut S, change: Change) -> Result<(), StoreFault>
     requires { Asks (S.content store.old) (CanMake change) }
     ensures leads { Leads (S.content store.old) (S.content store.new) }
     ensures once { WritesOnce (S.content store.old) (S.content store.new) }
@@ -59,6 +59,7 @@ fn make<S: Store>(alloc: Global, store: &mut S, change: Change) -> Result<(), St
         Change::PutRound(row) => store.put_round(alloc, row),
         Change::SetRoundFlag { round, flag } => store.set_round_flag(alloc, &round, flag),
         Change::AddAnswer(row) => store.add_answer(alloc, row),
+        Change::AddAnswers(rows) => store.add_answers(alloc, &rows),
         Change::AddProtest(row) => store.add_protest(alloc, row),
         Change::RuleProtest { key, ruling } => store.rule_protest(alloc, &key, ruling),
     }

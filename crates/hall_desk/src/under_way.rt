@@ -4,10 +4,10 @@ ghost use Rattle.hall_desk.specs.Memo.{Remembers};
 ghost use Rattle.hall_desk.specs.Searches.{IsAt, IsFreeFor, IsPutAt, IsWanted};
 ghost use Rattle.hall_desk.specs.declared.under_way.Underway.{Underway};
 
-use crate::finding::Finding;
 use crate::memo::Memo;
 use crate::puzzle_search::{Certifying, PuzzleSearch};
-use crate::wanted::Wanted;
+use crate::search_outcome::Finding;
+use crate::wanted_search::Wanted;
 use hall_grid::{Kind, Puzzle};
 use hall_policy::{Key, PuzzleKey};
 use std::alloc::{AllocError, Global};
