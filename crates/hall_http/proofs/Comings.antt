@@ -142,19 +142,19 @@ module _ {P : Type 0} (traffic : P → Traffic) where
     most = done.most;
   }
 
-  -- the last was a turn
-  pub done_turn : (before after : Said P) (count : ℕ) → DoneSoFar before after count → (place : ℕ) (then : Said P)
-      → then.count ≡ after.count + 0 → then.nexts ≡ after.nexts ++ next.Turn place ∷ [] → then.most ≡ after.most
+  -- the last was that requests were answered
+  pub done_answer : (before after : Said P) (count : ℕ) → DoneSoFar before after count → (then : Said P)
+      → then.count ≡ after.count + 0 → then.nexts ≡ after.nexts ++ next.Answer ∷ [] → then.most ≡ after.most
       → AreDone traffic end.Shut before then
   unfolding done_step
-  done_turn before after count done place then many said stays =
-      let all = done_step before after count done (next.Turn place) then tt many said stays tt in
+  done_answer before after count done then many said stays =
+      let all = done_step before after count done next.Answer then tt many said stays tt in
       record {
         steps = all.steps;
         last = [];
         said = all.said ∙ sym (append-nil (before.nexts ++ all.steps));
         each = all.each;
         came = all.came;
-        ended = (refl, done.steps, place, refl);
+        ended = (refl, done.steps, refl);
         most = all.most;
       }

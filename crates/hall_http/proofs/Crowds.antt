@@ -8,23 +8,23 @@ use Rattle.std.proofs.lemmas.Option.{same_Some}
 use Rattle.std.proofs.lemmas.List.{append-nil, take-append-drop, set-get_or}
 use Rattle.std.proofs.lemmas.List.Elements.{All-nil, All-push, All-append}
 use Rattle.hall_http.specs.Served.{refusal}
-use Rattle.hall_http.specs.Connection.{Exchange, AreMoments, LeavesOpen, requests_of}
+use Rattle.hall_http.specs.Connection.{Exchange, LeavesOpen, requests_of}
 use Rattle.hall_http.specs.Peer.{Traffic, IsLater, IsUntouched}
-use Rattle.hall_http.specs.Resting.{RestingSession}
 use Rattle.hall_http.specs.Crowd.{AreApart, AreKept, AreThose, AreConnectionsTold, HasGone, IsAt, AreGone, IsPast}
-use Rattle.hall_http.specs.Crowd.{IsHandedOut, AnswersNoMore, AreOf, AreStill, ComesTo, MayGo, Past, Serves}
-use Rattle.hall_http.specs.Crowd.{number_past, traffic_past}
+use Rattle.hall_http.specs.Crowd.{IsHandedOut, AnswersNoMore, AreAnsweredOf, AreStill, ComesTo, HasAt, IsHeldAt, MayGo}
+use Rattle.hall_http.specs.Crowd.{Past, Serves, number_past, traffic_past}
 use Rattle.hall_http.specs.Head.{HasNoWholeRequest, IsWholeRequest}
 use Rattle.hall_http.specs.History.{ConnectionHistory, Stands, IsReplying, Ends}
+use Rattle.hall_http.specs.Turns.{GroupedSession}
 use Rattle.hall_http.specs.Turns.{Turn, Service, of, AreOpenButLast, AreSent, HasEnded, IsConnectionTold, IsClient}
-use Rattle.hall_http.specs.Turns.{IsRefusedAfter, IsRefusedRightly, IsOverRightly, IsPlaceKept, IsPlaceTurned}
+use Rattle.hall_http.specs.Turns.{IsOneAt, IsRefusedAfter, IsRefusedRightly, IsPlaceAnswered, IsPlaceKept}
 use Rattle.hall_http.specs.Reading.{at_first}
 use Rattle.hall_http.specs.declared.client.Client.{Client}
-use Rattle.hall_http.specs.declared.client.Step.{Step}
 use Rattle.hall_http.specs.declared.clients.Away.{Away}
 use Rattle.hall_http.specs.declared.clients.Clients.{Clients}
 use Rattle.hall_http.specs.declared.clients.Departure.{Departure}
 use Rattle.hall_http.specs.declared.clients.Departure.TheVariants as departure
+use Rattle.hall_http.specs.declared.clients.HeldRequest.{HeldRequest}
 use Rattle.hall_http.specs.declared.peer.Closed.{Closed}
 use Rattle.hall_http.specs.declared.connection.Connection.{Connection}
 use Rattle.hall_http.specs.declared.connection.ServeEnd.{ServeEnd}
@@ -34,6 +34,7 @@ use Rattle.hall_http.specs.declared.connection.State.TheVariants as state
 use Rattle.hall_http.proofs.Histories.{stands_at}
 use Rattle.hall_http.proofs.Numbers.{numbered, exchanges_numbered, of_none, own_more, others_same, known_more, read_at}
 use Rattle.hall_http.proofs.Numbers.{where_is, is_there, is_still}
+use Rattle.hall_http.proofs.Grouped.{grouped_alone}
 use Rattle.hall_http.proofs.Heard.{handled_none}
 use Rattle.hall_http.proofs.Peers.{later_same}
 use Rattle.hall_http.proofs.SoFar.{still_same}
@@ -642,47 +643,40 @@ module _ {P : Type 0} (traffic : P → Traffic) where
     pub keep_place : IsPlaceKept traffic old new → AnswersNoMore traffic s after
     keep_place keeps = (kept_still keeps, keep_one keeps)
 
-    -- whoever stands at the place goes one step
-    pub turn_place : {H C : Type 0} (service : Service H C) (before at : H × C) (step : Step)
-        → IsPlaceTurned service traffic before old at new step → Serves service traffic place before s at after
-    turn_place service before at result (inl (none, still, same)) = (
+    one_answered : (one : HeldRequest) (more : List Exchange) (n : ℕ) → HasAt traffic s one.place n
+        → IsOneAt one.moment more → AreAnsweredOf (IsHeldAt traffic s) (one ∷ []) (numbered n more)
+    one_answered one more n there (inl none) = inl (ap (numbered n) none)
+    one_answered one more n there (inr (x, only, at)) = inr (n, x, [], (there, at), ap (numbered n) only, refl)
+
+    -- whoever stands at the place is answered, at the moment
+    pub answer_place : {H : Type 0} (service : Service H) (before at : H) (one : HeldRequest) → one.place ≡ place
+        → IsPlaceAnswered service traffic one.moment before old at new → Serves service traffic (one ∷ []) before s at after
+    answer_place service before at one here (inl (none, still, same)) = (
       still_free after refl still,
       λ few many turns kept.
           rw same
           (handled_none service before
-          (λ more. AreOf traffic s place more × AreKept traffic few many (turns ++ more) after) (
+          (λ more. AreAnsweredOf (IsHeldAt traffic s) (one ∷ []) more × AreKept traffic few many (turns ++ more) after) (
             inl refl,
             subst (λ (all : List Turn). AreKept traffic few many all after) (sym (append-nil turns))
                 (none_changed none still few many turns kept),
           )),
     )
-    turn_place service before at result (inr (k, l, was, now, step)) = (
+    answer_place service before at one here (inr (k, l, was, now, step)) = (
       still_one k l was now step.later,
       λ few many turns kept.
           let stood : IsAt s place k = read_at s.places.items place old (Some k) inside is was in
-          let (more, session, moments, client) = step.turned (of (number k) turns) (kept.here place k stood) in
+          let (more, few_more, session, client) = step.answered (of (number k) turns) (kept.here place k stood) in
           record {
             turns = numbered (number k) more;
-            session = subst (λ (xs : List Exchange). RestingSession service.answers service.rests before.0 xs at.0)
-                (sym (exchanges_numbered (number k) more)) session;
-            moments = subst (λ (xs : List Exchange). AreMoments service.now_gives before.1 xs at.1)
-                (sym (exchanges_numbered (number k) more)) moments;
+            session = subst (λ (xs : List Exchange). GroupedSession service before xs at)
+                (sym (exchanges_numbered (number k) more)) (grouped_alone service more before at session);
             holds = (
-              inr (number k, (k, stood, refl), known_more (λ (n : ℕ). n ≡ number k) (number k) more refl),
+              one_answered one more (number k) (k, rw here stood, refl) few_more,
               rw now (kept_turned few many turns s kept place inside k l stood step.later.number more client),
             );
           },
     )
-
-    -- where it is over after its turn, it is so rightly
-    pub turn_over : {H C : Type 0} (service : Service H C) (before at : H × C) (step : Step)
-        → IsPlaceTurned service traffic before old at new step → (w : Client P) → IsAt after place w
-        → IsOverRightly step (traffic w.peer)
-    turn_over service before at result (inl (none, still, same)) w there =
-        let clash = sym still ∙ sym (is_there s.places.items place new inside) ∙ there in absurd cc
-    turn_over service before at result (inr (k, l, was, now, step)) w there =
-        subst (λ (w : Client P). IsOverRightly result (traffic w.peer))
-        (same_Some l w (sym now ∙ sym (is_there s.places.items place new inside) ∙ there)) step.over
 
   -- a newcomer is at the place
   pub comes_seated : (s : Clients P) (place : ℕ) (inside : place < length s.places.items) (k : Client P) (peer : P)
@@ -695,12 +689,13 @@ module _ {P : Type 0} (traffic : P → Traffic) where
         | inr x ↦ inl (l, x.1, later_same (traffic l.peer))
       ]
 
-  -- nobody goes a step
-  pub serves_none : {H C : Type 0} (service : Service H C) (place : ℕ) (at : H × C) (s : Clients P)
-      → Serves service traffic place at s at s
-  serves_none service place at s = (
+  -- nobody is answered
+  pub serves_none : {H : Type 0} (service : Service H) (held : List HeldRequest) (at : H) (s : Clients P)
+      → AreAnsweredOf (IsHeldAt traffic s) held [] → Serves service traffic held at s at s
+  serves_none service held at s none = (
     still_same traffic s,
     λ few many turns kept.
-        handled_none service at (λ more. AreOf traffic s place more × AreKept traffic few many (turns ++ more) s)
-        (inl refl, subst (λ (all : List Turn). AreKept traffic few many all s) (sym (append-nil turns)) kept),
+        handled_none service at
+        (λ more. AreAnsweredOf (IsHeldAt traffic s) held more × AreKept traffic few many (turns ++ more) s)
+        (none, subst (λ (all : List Turn). AreKept traffic few many all s) (sym (append-nil turns)) kept),
   )

@@ -1,17 +1,17 @@
 -- What each step of a connection and its peer keeps.
-use Rattle.std.proofs.Common.{◌≡◌, ◌∙◌, sym, ap, subst, refl, arith, ℕ, ◌<◌, ◌≤◌, ◌+◌, ◌==◌, inl, inr, List, [], ◌∷◌}
+use Rattle.std.proofs.Common.{◌≡◌, ◌∙◌, sym, ap, subst, refl, arith, ℕ, ◌<◌, ◌≤◌, ◌+◌, ◌==◌, ◌⊎◌, inl, inr, List, [], ◌∷◌}
 use Rattle.std.proofs.Common.{◌++◌, length, take, drop, Option, append_assoc, true, false, if◌then◌else◌}
 use Rattle.std.specs.Prelude.{Bool}
 use Rattle.std.proofs.lemmas.Bool.{eqb-false}
 use Rattle.std.proofs.lemmas.List.{append-nil, length-append}
 use Rattle.hall_http.specs.Outgoing.{outgoing_text}
-use Rattle.hall_http.specs.Peer.{Traffic, IsLater, IsUntouched, over_after, reads_after, then_hung_up}
-use Rattle.hall_http.specs.Turns.{Service, IsClient, IsClientKept, IsOverRightly, IsTurned}
-use Rattle.hall_http.specs.Connection.{Exchange, AreMoments}
-use Rattle.hall_http.specs.Resting.{HasRested, RestingSession}
+use Rattle.hall_http.specs.Peer.{Calls, Traffic, IsLater, IsUntouched, over_after, reads_after, then_hung_up}
+use Rattle.hall_http.specs.Turns.{Service, IsClient, IsClientAnswered, IsClientKept}
+use Rattle.hall_http.specs.Connection.{Exchange}
+use Rattle.hall_http.specs.Resting.{HasRested}
 use Rattle.hall_http.specs.History.{nothing, then_heard, then_ended, then_answered, then_sent, HasHistory}
-use Rattle.hall_http.specs.Steps.{pending, fresh, IsAfterHearing, IsAfterEnd, IsAfterSending, Looks, StandsRightly}
-use Rattle.hall_http.specs.Steps.{WaitsRightly}
+use Rattle.hall_http.specs.Steps.{pending, fresh, gives, Answers, AnswersAt, IsAfterHearing, IsAfterEnd, IsAfterSending}
+use Rattle.hall_http.specs.Steps.{Refuses, StandsRightly, Waits, WaitsRightly}
 use Rattle.hall_http.specs.declared.client.Client.{Client}
 use Rattle.hall_http.specs.declared.client.Step.{Step}
 use Rattle.hall_http.specs.declared.client.Step.TheVariants as step
@@ -22,13 +22,7 @@ use Rattle.hall_http.specs.declared.connection.State.TheVariants as state
 use Rattle.hall_http.specs.declared.peer.Moved.{Moved}
 use Rattle.hall_http.specs.declared.peer.Moved.TheVariants as moved
 use Rattle.hall_http.proofs.Histories.{at_the_start, heard, ended, answered, waited, refused, sent}
-use Rattle.hall_http.proofs.Rested.{no_session, rest_session, one_session, resting_then}
-
-pub moments_then : {C : Type 0} (now_gives : C → Option ℕ → C → Type 0) (xs ys : List Exchange) (c n d : C)
-    → AreMoments now_gives c xs n → AreMoments now_gives n ys d → AreMoments now_gives c (xs ++ ys) d
-moments_then {C} now_gives [] ys c n d same rest = subst (λ (n : C). AreMoments now_gives n ys d) same rest
-moments_then now_gives (x ∷ xs) ys c n d (p, first, more) rest =
-    (p, first, moments_then now_gives xs ys p n d more rest)
+use Rattle.hall_http.proofs.Rested.{one_session, rest_session, rested_first}
 
 -- a read that gave bytes tells of no end
 pub over_some : (over : Bool) (count : ℕ) → 0 < count → over_after over (moved.Some count) ≡ over
@@ -73,8 +67,8 @@ over_by false over told = told
 -- the same connection later on, of which this came in between, and which was sent this
 later_by : (t u : Traffic) (came went : List ℕ) → u.number ≡ t.number → u.came ≡ t.came ++ came
     → t.reads ≤ u.reads → u.went ≡ t.went ++ went → (t.over ≡ true → u.over ≡ true) → (t.broke ≡ true → u.broke ≡ true)
-    → (t.hung_up ≡ true → u.hung_up ≡ true) → IsLater t u
-later_by t u came went number more_came reads more_went over broke hung_up = record {
+    → (t.hung_up ≡ true → u.hung_up ≡ true) → (more : Calls) × (u.calls ≡ t.calls ++ more) → IsLater t u
+later_by t u came went number more_came reads more_went over broke hung_up calls = record {
   number = number;
   came = (came, more_came);
   reads = reads;
@@ -82,7 +76,12 @@ later_by t u came went number more_came reads more_went over broke hung_up = rec
   over = over;
   broke = broke;
   hung_up = hung_up;
+  calls = calls;
 }
+
+-- no call was made
+no_calls : (t u : Traffic) → u.calls ≡ t.calls → (more : Calls) × (u.calls ≡ t.calls ++ more)
+no_calls t u same = ([], same ∙ sym (append-nil t.calls))
 
 -- a text that is the same has none more
 none_more : (xs ys : List ℕ) → ys ≡ xs → ys ≡ xs ++ []
@@ -92,7 +91,7 @@ none_more xs ys same = same ∙ sym (append-nil xs)
 pub later_same : (t : Traffic) → IsLater t t
 later_same t =
     later_by t t [] [] refl (none_more _ _ refl) (omega arith) (none_more _ _ refl) (λ told. told) (λ told. told)
-    (λ told. told)
+    (λ told. told) (no_calls t t refl)
 
 pub later_as : (t u : Traffic) → u ≡ t → IsLater t u
 later_as t u same = subst (IsLater t) (sym same) (later_same t)
@@ -111,24 +110,32 @@ later_then t u v first second = record {
   over = λ told. second.over (first.over told);
   broke = λ told. second.broke (first.broke told);
   hung_up = λ told. second.hung_up (first.hung_up told);
+  calls = (
+    first.calls.0 ++ second.calls.0,
+    second.calls.1 ∙ ap (λ (s : Calls). s ++ second.calls.0) first.calls.1
+        ∙ append_assoc t.calls first.calls.0 second.calls.0,
+  );
 }
 
 -- so it is after a read, a send, and once it was told that no more is sent
 pub later_read : (t u : Traffic) (piece : List ℕ) → u.number ≡ t.number → u.came ≡ t.came ++ piece → t.reads ≤ u.reads
-    → u.went ≡ t.went → (t.over ≡ true → u.over ≡ true) → u.broke ≡ t.broke → u.hung_up ≡ t.hung_up → IsLater t u
-later_read t u piece number came reads went over broke hung_up =
+    → u.went ≡ t.went → (t.over ≡ true → u.over ≡ true) → u.broke ≡ t.broke → u.hung_up ≡ t.hung_up
+    → (more : Calls) × (u.calls ≡ t.calls ++ more) → IsLater t u
+later_read t u piece number came reads went over broke hung_up calls =
     later_by t u piece [] number came reads (none_more _ _ went) over (λ told. broke ∙ told) (λ told. hung_up ∙ told)
+    calls
 
 pub later_sent : (t u : Traffic) (piece : List ℕ) → u.number ≡ t.number → u.came ≡ t.came → u.reads ≡ t.reads
     → u.went ≡ t.went ++ piece → u.over ≡ t.over → (t.broke ≡ true → u.broke ≡ true) → u.hung_up ≡ t.hung_up
-    → IsLater t u
-later_sent t u piece number came reads went over broke hung_up =
+    → (more : Calls) × (u.calls ≡ t.calls ++ more) → IsLater t u
+later_sent t u piece number came reads went over broke hung_up calls =
     later_by t u [] piece number (none_more _ _ came) (omega (arith, reads)) went (λ told. over ∙ told) broke
-    (λ told. hung_up ∙ told)
+    (λ told. hung_up ∙ told) calls
 
 pub later_hung_up : (t u : Traffic) → u ≡ then_hung_up t → IsLater t u
 later_hung_up t u is = subst (IsLater t) (sym is) (later_by t (then_hung_up t) [] [] refl (none_more _ _ refl)
-    (omega arith) (none_more _ _ refl) (λ told. told) (λ told. told) (λ told. refl))
+    (omega arith) (none_more _ _ refl) (λ told. told) (λ told. told) (λ told. refl)
+    (no_calls t (then_hung_up t) refl))
 
 -- who waits for what it is at stands rightly
 pub stands_so : {H : Type 0} (may_wait : H → List ℕ → Type 0) (k : Connection) (h : H) (s : Step) → WaitsRightly s k
@@ -137,8 +144,8 @@ stands_so may_wait k h step.Again so = so
 stands_so may_wait k h step.Leaves so = so
 stands_so may_wait k h (step.Waits what requests) so = so
 stands_so may_wait k h (step.Searches requests) so = absurd so
+stands_so may_wait k h step.Holds so = absurd so
 stands_so may_wait k h step.Over so = so
-stands_so may_wait k h step.Shut so = so
 
 module _ {P : Type 0} (traffic : P → Traffic) where
   abbrev client : Connection → P → Bool → Bool → Client P
@@ -350,143 +357,117 @@ module _ {P : Type 0} (traffic : P → Traffic) where
         sent = same ∙ is.sent;
       }
 
-      module _ {H C : Type 0} (service : Service H C) (h i : H) (c d : C) where
-        abbrev Turned : Type 0
-        Turned = (more : List Exchange) × RestingSession service.answers service.rests h more i
-            × AreMoments service.now_gives c more d × IsClient traffic (xs ++ more) (client l q f v)
+      same_heard : k.state ≡ state.Looking → q ≡ p → (traffic q).came ≡ is.history.came ++ []
+      same_heard at same =
+          ap (λ (p : P). (traffic p).came) same ∙ heard_all (looking_off at) ∙ sym (append-nil is.history.came)
 
-        client_idle : i ≡ h → d ≡ c → IsClient traffic xs (client l q f v) → Turned
-        client_idle same stood kept = (
-          [],
-          rw same (no_session service.rests service.answers h),
-          stood,
-          subst (λ (ys : List Exchange). IsClient traffic ys (client l q f v)) (sym (append-nil xs)) kept,
-        )
+      same_counted : k.state ≡ state.Looking → q ≡ p → (traffic q).reads ≡ is.history.pieces + 0
+      same_counted at same = omega (arith, ap (λ (p : P). (traffic p).reads) same, counted_all (looking_off at))
 
-        same_heard : k.state ≡ state.Looking → q ≡ p → (traffic q).came ≡ is.history.came ++ []
-        same_heard at same =
-            ap (λ (p : P). (traffic p).came) same ∙ heard_all (looking_off at) ∙ sym (append-nil is.history.came)
+      -- of what waits a request was answered
+      pub client_answered : {H : Type 0} (answers : H → Option ℕ → List ℕ → List ℕ → H → Type 0) (h i : H)
+          (moment : Option ℕ) → k.state ≡ state.Looking → q ≡ p
+          → (a : Answers answers (gives moment) (h, tt) k (i, tt) l)
+          → IsClient traffic (xs ++ a.exchange ∷ []) (client l q f v)
+      client_answered answers h i moment at same a = record {
+        history = then_answered is.history a.exchange;
+        has = answered is.history k is.has at answers (gives moment) h i tt tt l a;
+        answered = ap (λ ys. ys ++ a.exchange ∷ []) is.answered;
+        off = [];
+        quiet = inl refl;
+        over = is.over;
+        at_end = λ e. ap (λ (p : P). (traffic p).over) same ∙ is.at_end e;
+        read_over = λ e. ap (λ (p : P). (traffic p).over) same ∙ is.read_over e;
+        hung_up = ap (λ (p : P). (traffic p).hung_up) same ∙ is.hung_up;
+        leaving = λ e. let clash = sym (looking_open at) ∙ e in absurd cc;
+        heard = same_heard at same;
+        read_off = 0;
+        counted = same_counted at same;
+        some_off = omega arith;
+        sent = ap (λ (p : P). (traffic p).went) same ∙ is.sent;
+      }
 
-        same_counted : k.state ≡ state.Looking → q ≡ p → (traffic q).reads ≡ is.history.pieces + 0
-        same_counted at same = omega (arith, ap (λ (p : P). (traffic p).reads) same, counted_all (looking_off at))
+      -- none was found in it
+      pub client_looked : k.state ≡ state.Looking → q ≡ p → Waits k l ⊎ Refuses k l
+          → IsClient traffic xs (client l q f v)
+      client_looked at same unanswered = record {
+        history = is.history;
+        has = elim unanswered [
+          | inl x ↦ waited is.history k is.has at l x
+          | inr x ↦ refused is.history k is.has at l x
+        ];
+        answered = is.answered;
+        off = [];
+        quiet = inl refl;
+        over = is.over;
+        at_end = λ e. ap (λ (p : P). (traffic p).over) same ∙ is.at_end e;
+        read_over = λ e. ap (λ (p : P). (traffic p).over) same ∙ is.read_over e;
+        hung_up = ap (λ (p : P). (traffic p).hung_up) same ∙ is.hung_up;
+        leaving = λ e. let clash = sym (looking_open at) ∙ e in absurd cc;
+        heard = same_heard at same;
+        read_off = 0;
+        counted = same_counted at same;
+        some_off = omega arith;
+        sent = ap (λ (p : P). (traffic p).went) same ∙ is.sent;
+      }
 
-        pub client_looked : k.state ≡ state.Looking → q ≡ p → Looks service.answers service.now_gives (h, c) k (i, d) l
-            → Turned
-        client_looked at same (inl a) = (
-          a.exchange ∷ [],
-          one_session service.rests service.answers h a.exchange i a.exchanged.2,
-          (d, a.exchanged.1, refl),
-          record {
-            history = then_answered is.history a.exchange;
-            has = answered is.history k is.has at service.answers service.now_gives h i c d l a;
-            answered = ap (λ ys. ys ++ a.exchange ∷ []) is.answered;
-            off = [];
-            quiet = inl refl;
-            over = is.over;
-            at_end = λ e. ap (λ (p : P). (traffic p).over) same ∙ is.at_end e;
-            read_over = λ e. ap (λ (p : P). (traffic p).over) same ∙ is.read_over e;
-            hung_up = ap (λ (p : P). (traffic p).hung_up) same ∙ is.hung_up;
-            leaving = λ e. let clash = sym (looking_open at) ∙ e in absurd cc;
-            heard = same_heard at same;
-            read_off = 0;
-            counted = same_counted at same;
-            some_off = omega arith;
-            sent = ap (λ (p : P). (traffic p).went) same ∙ is.sent;
-          },
-        )
-        client_looked at same (inr (both, unanswered)) =
-            client_idle (ap (λ (z : H × C). z.0) both) (ap (λ (z : H × C). z.1) both) (record {
-              history = is.history;
-              has = elim unanswered [
-                | inl x ↦ waited is.history k is.has at l x
-                | inr x ↦ refused is.history k is.has at l x
-              ];
-              answered = is.answered;
-              off = [];
-              quiet = inl refl;
-              over = is.over;
-              at_end = λ e. ap (λ (p : P). (traffic p).over) same ∙ is.at_end e;
-              read_over = λ e. ap (λ (p : P). (traffic p).over) same ∙ is.read_over e;
-              hung_up = ap (λ (p : P). (traffic p).hung_up) same ∙ is.hung_up;
-              leaving = λ e. let clash = sym (looking_open at) ∙ e in absurd cc;
-              heard = same_heard at same;
-              read_off = 0;
-              counted = same_counted at same;
-              some_off = omega arith;
-              sent = ap (λ (p : P). (traffic p).went) same ∙ is.sent;
-            })
+  -- nothing changed
+  pub kept_same : (k : Client P) → IsClientKept traffic k k
+  kept_same k = record { later = later_same (traffic k.peer); kept = λ xs is. is }
 
-  module _ {H C : Type 0} (service : Service H C) where
+  pub kept_then : (k l u : Client P) → IsClientKept traffic k l → IsClientKept traffic l u → IsClientKept traffic k u
+  kept_then k l u one two = record {
+    later = later_then (traffic k.peer) (traffic l.peer) (traffic u.peer) one.later two.later;
+    kept = λ xs is. two.kept xs (one.kept xs is);
+  }
+
+  -- it was looked at what waits
+  pub kept_looked : (k l : Connection) (p : P) (f v : Bool) → k.state ≡ state.Looking → Waits k l ⊎ Refuses k l
+      → IsClientKept traffic (client k p f v) (client l p f v)
+  kept_looked k l p f v at unanswered =
+      record { later = later_same (traffic p); kept = λ xs is. client_looked k p f v xs is l p at refl unanswered }
+
+  module _ {H : Type 0} (service : Service H) (moment : Option ℕ) where
     -- none of its requests was answered
-    pub client_rests : (h i : H) (c : C) (xs : List Exchange) (k : Client P) → HasRested service.rests h i
-        → IsClient traffic xs k
-        → (more : List Exchange) × RestingSession service.answers service.rests h more i
-        × AreMoments service.now_gives c more c × IsClient traffic (xs ++ more) k
-    client_rests h i c xs k rested kept = (
-      [],
-      rest_session service.rests service.answers h i rested,
-      refl,
-      subst (λ (ys : List Exchange). IsClient traffic ys k) (sym (append-nil xs)) kept,
-    )
-
-    pub turned_rests : (h i : H) (c : C) (k : Client P) (step : Step) → HasRested service.rests h i
-        → IsOverRightly step (traffic k.peer) → IsTurned service traffic (h, c) k (i, c) k step
-    turned_rests h i c k step rested over =
-        record {
-          later = later_same (traffic k.peer);
-          over = over;
-          turned = λ xs kept. client_rests h i c xs k rested
-              kept;
-        }
-
-    -- nor did the responder rest
-    pub turned_kept : (at : H × C) (k l : Client P) (step : Step) → IsClientKept traffic k l
-        → IsOverRightly step (traffic l.peer) → IsTurned service traffic at k at l step
-    turned_kept at k l step keeps over = record {
-      later = keeps.later;
-      over = over;
-      turned = λ xs is. client_rests at.0 at.0 at.1 xs l ([], refl) (keeps.kept xs is);
-    }
-
-    pub turned_start : (at : H × C) (k : Client P) → IsTurned service traffic at k at k step.Again
-    turned_start at k = turned_kept at k k step.Again (record {
+    pub answered_none : (h i : H) (k : Client P) → HasRested service.rests h i
+        → IsClientAnswered service traffic moment h k i k
+    answered_none h i k rested = record {
       later = later_same (traffic k.peer);
-      kept = λ xs is. is;
-    }) tt
-
-    pub turned_then : (before at after : H × C) (k l u : Client P) (first second : Step)
-        → IsTurned service traffic before k at l first → IsTurned service traffic at l after u second
-        → IsTurned service traffic before k after u second
-    turned_then before at after k l u first second one two = record {
-      later = later_then (traffic k.peer) (traffic l.peer) (traffic u.peer) one.later two.later;
-      over = two.over;
-      turned = λ xs kept.
-          let (some, session, moments, between) = one.turned xs kept in
-          let (more, later, told, last) = two.turned (xs ++ some) between in (
-            some ++ more,
-            resting_then service.rests service.answers some more before.0 at.0 after.0 session later,
-            moments_then service.now_gives some more before.1 at.1 after.1 moments told,
-            subst (λ (ys : List Exchange). IsClient traffic ys u) (append_assoc xs some more) last,
-          );
+      answered = λ xs is. (
+        [],
+        inl refl,
+        rest_session service.rests service.answers h i rested,
+        subst (λ (ys : List Exchange). IsClient traffic ys k) (sym (append-nil xs)) is,
+      );
     }
 
-    -- the responder rested, and then it was looked at what waits
-    pub turned_looked : (h m i : H) (c d : C) (k l : Connection) (p : P) (f v : Bool) (step : Step)
-        → HasRested service.rests h m → k.state ≡ state.Looking → Looks service.answers service.now_gives (m, c) k
-        (i, d) l
-        → IsOverRightly step (traffic p)
-        → IsTurned service traffic (h, c) (client k p f v) (i, d) (client l p f v) step
-    turned_looked h m i c d k l p f v second rested at looks over =
-        turned_then (h, c) (m, c) (i, d) (client k p f v) (client k p f v) (client l p f v) step.Again second
-        (turned_rests h m c (client k p f v) step.Again rested tt)
-        (record {
-          later = later_same (traffic p);
-          over = over;
-          turned = λ xs is. client_looked k p f v xs is l p service m i c d at refl looks;
-        })
+    -- the responder rested, and then one was
+    pub answered_one : (h m i : H) (k l : Connection) (p : P) (f v : Bool) → HasRested service.rests h m
+        → k.state ≡ state.Looking → AnswersAt service.answers moment m k i l
+        → IsClientAnswered service traffic moment h (client k p f v) i (client l p f v)
+    answered_one h m i k l p f v rested at (inl a) = record {
+      later = later_same (traffic p);
+      answered = λ xs is. (
+        a.exchange ∷ [],
+        inr (a.exchange, refl, a.exchanged.1),
+        rested_first service.rests service.answers h m (a.exchange ∷ []) i rested
+            (one_session service.rests service.answers m a.exchange i a.exchanged.2),
+        client_answered k p f v xs is l p service.answers m i moment at refl a,
+      );
+    }
+    answered_one h m i k l p f v rested at (inr (same, still, none)) =
+        rw (same, still) (answered_none h m (client k p f v) rested)
 
-    pub turned_client : (before after : H × C) (k l : Client P) (step : Step)
-        → (xs : List Exchange) × IsClient traffic xs k → IsTurned service traffic before k after l step
-        → (xs : List Exchange) × IsClient traffic xs l
-    turned_client before after k l step (xs, kept) turned =
-        let (more, session, moments, last) = turned.turned xs kept in (xs ++ more, last)
+    -- and then some of its reply was sent
+    pub answered_sent : (h i : H) (k l u : Client P) → IsClientAnswered service traffic moment h k i l
+        → IsClientKept traffic l u → IsClientAnswered service traffic moment h k i u
+    answered_sent h i k l u one keeps = record {
+      later = later_then (traffic k.peer) (traffic l.peer) (traffic u.peer) one.later keeps.later;
+      answered = λ xs is.
+          let (more, few, session, last) = one.answered xs is in (more, few, session, keeps.kept (xs ++ more) last);
+    }
+
+    pub answered_client : (h i : H) (k l : Client P) → (xs : List Exchange) × IsClient traffic xs k
+        → IsClientAnswered service traffic moment h k i l → (xs : List Exchange) × IsClient traffic xs l
+    answered_client h i k l (xs, is) one =
+        let (more, few, session, last) = one.answered xs is in (xs ++ more, last)

@@ -1,14 +1,8 @@
 -- Sessions with rests, one after another.
-use Rattle.std.proofs.Common.{◌≡◌, ◌∙◌, ap, refl, sym, subst, ℕ, List, [], ◌∷◌, ◌++◌, Option}
+use Rattle.std.proofs.Common.{◌≡◌, ◌∙◌, ap, refl, sym, subst, ℕ, List, [], ◌∷◌, Option}
 use Rattle.std.specs.Prelude.{Bool}
-use Rattle.hall_http.specs.Connection.{Exchange, Session}
+use Rattle.hall_http.specs.Connection.{Exchange}
 use Rattle.hall_http.specs.Resting.{AreRests, HasRested, RestingSession, after_rests, still}
-
-pub session_then : {H : Type 0} (answers : H → Option ℕ → List ℕ → List ℕ → H → Type 0) (xs ys : List Exchange)
-    (h m i : H)
-    → Session answers h xs m → Session answers m ys i → Session answers h (xs ++ ys) i
-session_then {H} answers [] ys h m i same rest = subst (λ (m : H). Session answers m ys i) same rest
-session_then answers (x ∷ xs) ys h m i (p, first, more) rest = (p, first, session_then answers xs ys p m i more rest)
 
 module _ {H : Type 0} (rests : H → H → Type 0) where
   pub rests_never : (h : H) → HasRested rests h h
@@ -26,9 +20,6 @@ module _ {H : Type 0} (rests : H → H → Type 0) where
   rests_then h m i (left, first) second = rests_on h left m i first second
 
   module _ (answers : H → Option ℕ → List ℕ → List ℕ → H → Type 0) where
-    pub no_session : (h : H) → RestingSession answers rests h [] h
-    no_session h = (h, refl, rests_never h)
-
     pub rest_session : (h i : H) → HasRested rests h i → RestingSession answers rests h [] i
     rest_session h i rested = (h, refl, rested)
 
@@ -36,18 +27,12 @@ module _ {H : Type 0} (rests : H → H → Type 0) where
         → RestingSession answers rests h (x ∷ []) i
     one_session h x i says = (i, (i, (h, rests_never h, says), refl), rests_never i)
 
-    rested_first : (h m : H) (xs : List Exchange) (i : H) → HasRested rests h m → RestingSession answers rests m xs i
+    pub rested_first : (h m : H) (xs : List Exchange) (i : H) → HasRested rests h m → RestingSession answers rests m xs i
         → RestingSession answers rests h xs i
     rested_first h m [] i rested (n, same, after) =
         (h, refl, rests_then h m i rested (subst (λ (n : H). HasRested rests n i) same after))
     rested_first h m (x ∷ xs) i rested (n, (p, (q, between, says), more), after) =
         (n, (p, (q, rests_then h m q rested between, says), more), after)
-
-    pub resting_then : (xs ys : List Exchange) (h m i : H) → RestingSession answers rests h xs m
-        → RestingSession answers rests m ys i → RestingSession answers rests h (xs ++ ys) i
-    resting_then xs ys h m i (n, one, between) two =
-        let (k, more, after) = rested_first n m ys i between two in
-        (k, session_then (after_rests rests answers) xs ys h n k one more, after)
 
 -- a responder that rests goes on if it did
 pub still_on : {H : Type 0} (rests : H → H → Type 0) (h : H × Bool) (left : List (H × Bool)) (i : H × Bool)

@@ -4,7 +4,7 @@ use Rattle.std.specs.Prelude.{Ok}
 use Rattle.std.proofs.lemmas.List.Elements.{All-nil, All-cons, All-append}
 use Rattle.hall_policy.specs.World.{World}
 use Rattle.hall_policy.specs.declared.request.Request.{Request}
-use Rattle.hall_store.specs.Store.{Content, IsSettled, Kept, Leads, Over, WritesOnce}
+use Rattle.hall_store.specs.Store.{Content, IsSettled, Leads, Over, WritesOnce}
 use Rattle.hall_store.proofs.Knowing.{leads_same, leads_then}
 use Rattle.hall_desk.specs.Plans.{WritesIfAny}
 use Rattle.hall_desk.specs.Run.{IsTimed, Run}
@@ -40,7 +40,7 @@ not_made w v x xs last same other run = record {
 }
 
 -- the first exchange is a step of the hall, or none, and the others are a run
-before_run : (world : World) (x : Exchange) (moment : Option ℕ) (next : World) (xs : List Exchange) (last : World)
+pub before_run : (world : World) (x : Exchange) (moment : Option ℕ) (next : World) (xs : List Exchange) (last : World)
     → x.moment ≡ moment → AnswersAt world moment x.request x.reply next → IsRunOver next xs last
     → IsRunOver world (x ∷ xs) last
 before_run world x (Some t) next xs last at (inl step) run = record {
@@ -86,7 +86,7 @@ pub onward_runs : (old : Content) (xs : List Exchange) (new : Content) → Onwar
 onward_runs old xs new (last, more, stays) = (last, run_over old.world xs last more, stays)
 
 -- the first exchange, and then the others from whatever world it leaves
-pub further : (old new : Content) (x : Exchange) (xs : List Exchange) (last : Content) (world : World)
+further : (old new : Content) (x : Exchange) (xs : List Exchange) (last : Content) (world : World)
     → (old.serves → old.world ≡ world) → (new.serves → old.serves)
     → Over (λ before after. AnswersAt before x.moment x.request x.reply after) old new
     → ((world : World) → (new.serves → new.world ≡ world) → Onward world xs last)
@@ -158,24 +158,17 @@ one_before world x next xs left at (inr with) = inr (record {
 
 -- What a stop leaves of a store after these requests: what it could leave before them, which they leave; or the store
 -- served before them, and they leave it of its world.
-abbrev pub Leaves : Content → List Exchange → World → Type 0
+abbrev Leaves : Content → List Exchange → World → Type 0
 Leaves old xs left = (old.may_leave left × IsRunOver left xs left) ⊎ (old.serves × IsLeftOver old.world xs left)
 
 -- where it was settled before them, they leave it of its world
-pub leaves_over : (old : Content) (xs : List Exchange) (left : World) → IsSettled old → old.honest → old.serves
+leaves_over : (old : Content) (xs : List Exchange) (left : World) → IsSettled old → old.honest → old.serves
     → Leaves old xs left → IsLeftOver old.world xs left
 leaves_over old xs left settled honest serves (inl (may, run)) =
     inl (subst (λ (w : World). IsRunOver w xs left) (settled honest serves left may) run)
 leaves_over old xs left settled honest serves (inr (was, run)) = run
 
 -- a store that was only read before them
-pub leaves_read : (old new : Content) (xs : List Exchange) (left : World) → Kept old new → new.honest
-    → Leaves new xs left
-    → Leaves old xs left
-leaves_read old new xs left kept honest (inl (may, run)) = inl (kept.stops honest left may, run)
-leaves_read old new xs left kept honest (inr (serves, run)) =
-    inr (kept.serves honest serves, subst (λ (w : World). IsLeftOver w xs left) (kept.world honest serves) run)
-
 module _ {H : Type 0} (content : H → Content) where
   -- a request that is answered before them
   module _ (h m : H) (x : Exchange) (says : IsAnsweredOver content h x.moment x.request x.reply m)
@@ -212,7 +205,7 @@ module _ {H : Type 0} (content : H → Content) where
           run),
     )
 
-    pub leaves_one : Leaves there xs left → Leaves here (x ∷ xs) left
+    leaves_one : Leaves there xs left → Leaves here (x ∷ xs) left
     leaves_one (inr (serves, run)) = served (says.answers honest) serves run
     leaves_one (inl (may, run)) = elim (says.stops honest left may) [
       | inl before ↦ stayed (says.answers honest) before may run
@@ -259,7 +252,7 @@ module _ {H : Type 0} (content : H → Content) where
   session_parts h (x ∷ xs) ys i (m, says, rest) =
       let (n, first, second) = session_parts m xs ys i rest in (n, (m, says, first), second)
 
-  pub first_parts_last : FirstPartsLast content (AreAnswered content)
+  pub first_parts_last : FirstPartsLast content (AreAnswered content) LeavesRunOver
   first_parts_last old xs ys new settled session =
       let (mid, first, second) = session_parts old xs ys new session in
       (mid, first, second, session_stops old xs mid settled first)

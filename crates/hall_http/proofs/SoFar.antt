@@ -1,6 +1,6 @@
 -- What was served so far.
 use Rattle.std.proofs.Common.{◌≡◌, ◌∙◌, sym, ap, subst, refl, arith, inl, inr, ℕ, List, [], ◌∷◌, ◌++◌, ◌⊎◌, ◌≢◌}
-use Rattle.std.proofs.Common.{◌==◌, append_assoc, get_or, length, ◌≤◌, true, false}
+use Rattle.std.proofs.Common.{◌==◌, append_assoc, get_or, length, ◌≤◌, Option, true, false}
 use Rattle.std.specs.Prelude.{All, Bool}
 use Rattle.std.proofs.lemmas.Bool.{eqb-true, eqb-false}
 use Rattle.std.proofs.lemmas.List.{append-nil}
@@ -8,14 +8,16 @@ use Rattle.std.proofs.lemmas.List.Elements.{All-nil, All-push}
 use Rattle.http_server.specs.declared.log.Log.{Log}
 use Rattle.hall_http.specs.Peer.{Traffic}
 use Rattle.hall_http.specs.Coming.{Nexts, Said, since}
-use Rattle.hall_http.specs.Crowd.{AreKept, AreOf, AreStill}
+use Rattle.hall_http.specs.Crowd.{AreAnsweredOf, AreKept, AreStill, Holding, IsHeldFor}
 use Rattle.hall_http.specs.Crowd.{AnswersNoMore, ComesTo, HasAt, IsAt, IsFor, AllLeave, AreAsSaid, HasLeft}
 use Rattle.hall_http.specs.Crowd.{IsFree, KeepsPlace, MayLose, Past, Receives, WasHandedOut, WasHere, WasNext, WasToGo}
-use Rattle.hall_http.specs.Crowd.{WasTurnedAway, number_past, AreAtTurns, at_first, at_other, at_turn}
+use Rattle.hall_http.specs.Crowd.{WasTurnedAway, number_past, AreAtTurns, at_answer, at_first, at_newcomer, at_other}
+use Rattle.hall_http.specs.Crowd.{at_turn, at_visit}
 use Rattle.hall_http.specs.Crowd.{MayTurnAway}
 use Rattle.hall_http.specs.Crowd.{WasAt, WasStillHere, WasTaken}
 use Rattle.hall_http.specs.Turns.{Turn}
 use Rattle.hall_http.specs.declared.client.Client.{Client}
+use Rattle.hall_http.specs.declared.client.Step.{Step}
 use Rattle.hall_http.specs.declared.clients.Away.{Away}
 use Rattle.hall_http.specs.declared.clients.Away.TheVariants as away
 use Rattle.hall_http.specs.declared.clients.Clients.{Clients}
@@ -137,6 +139,7 @@ module _ {P : Type 0} (traffic : P → Traffic) where
   keeps_grown gone more grows place (next.Newcomer other peer) (inr away) =
       inr (away_grown gone more grows ((traffic peer).number) away)
   keeps_grown gone more grows place (next.Turn other) keeps = tt
+  keeps_grown gone more grows place next.Answer keeps = tt
   keeps_grown gone more grows place (next.Gone other) keeps = keeps
   keeps_grown gone more grows place next.End keeps = tt
   keeps_grown gone more grows place next.Refused keeps = tt
@@ -180,14 +183,44 @@ module _ {P : Type 0} (traffic : P → Traffic) where
       let it = get_or left i d in
       to_go_grown gone more grows steps it.1.0 it.1.1 (number_past traffic it) (each i d inside)
 
-  pub turns_grown : (gone more : List (Past P)) → Grows gone more → (steps : Nexts P) (turns : List Turn)
-      → AreAtTurns traffic gone steps turns → AreAtTurns traffic more steps turns
-  turns_grown gone more grows steps turns at_first = at_first
-  turns_grown gone more grows steps turns (at_other before same one at) =
-      at_other before same one (turns_grown gone more grows before same at)
-  turns_grown gone more grows steps turns (at_turn before some others place number at was all) =
-      at_turn before some others place number (turns_grown gone more grows before some at)
-      (for_grown gone more grows before place number was) all
+  -- what was answered of those that are held was so
+  answers_grown : (gone more : List (Past P)) → Grows gone more → (steps : Nexts P) (held : List Holding)
+      (turns : List Turn) → AreAnsweredOf (IsHeldFor traffic gone steps) held turns
+      → AreAnsweredOf (IsHeldFor traffic more steps) held turns
+  answers_grown gone more grows steps [] turns none = none
+  answers_grown gone more grows steps (one ∷ held) turns (inl later) =
+      inl (answers_grown gone more grows steps held turns later)
+  answers_grown gone more grows steps (one ∷ held) turns (inr (number, x, later, (is, was, moment), all, rest)) =
+      inr (
+        number,
+        x,
+        later,
+        (is, for_grown gone more grows steps one.1.place number was, moment),
+        all,
+        answers_grown gone more grows steps held later rest,
+      )
+
+  pub turns_grown : (gone more : List (Past P)) → Grows gone more → (steps : Nexts P) (heard : List (ℕ × Step))
+      (turns : List Turn) (held : List Holding) (moments : List (Option ℕ))
+      → AreAtTurns traffic gone steps heard turns held moments → AreAtTurns traffic more steps heard turns held moments
+  turns_grown gone more grows steps heard turns held moments at_first = at_first
+  turns_grown gone more grows steps heard turns held moments (at_other before told same some read one quiet none at) =
+      at_other before told same some read one quiet none (turns_grown gone more grows before told same some read at)
+  turns_grown gone more grows steps heard turns held moments
+      (at_newcomer before told same some read place peer at) =
+      at_newcomer before told same some read place peer (turns_grown gone more grows before told same some read at)
+  turns_grown gone more grows steps heard turns held moments
+      (at_visit before told same some read place how at over) =
+      at_visit before told same some read place how (turns_grown gone more grows before told same some read at) over
+  turns_grown gone more grows steps heard turns held moments
+      (at_turn before told same some read number one at was) =
+      at_turn before told same some read number one (turns_grown gone more grows before told same some read at)
+      (for_grown gone more grows before one.place number was)
+  turns_grown gone more grows steps heard turns held moments
+      (at_answer before told some others front rest read at answered) =
+      at_answer before told some others front rest read
+      (turns_grown gone more grows before told some (front ++ rest) read at)
+      (answers_grown gone more grows before front others answered)
 
   -- what was said before, and one thing more
   handed_more : (steps rest : Nexts P) (one : Next P) (place number : ℕ) → WasHandedOut traffic steps rest place number
@@ -248,7 +281,7 @@ module _ {P : Type 0} (traffic : P → Traffic) where
 
   -- one thing more is done, and others go
   module _ (steps : Nexts P) (s u : Clients P) (said : AreAsSaid traffic steps s) where
-    for_one : (place number : ℕ) → HasAt traffic s place number → IsFor traffic s.gone.items steps place number
+    pub for_one : (place number : ℕ) → HasAt traffic s place number → IsFor traffic s.gone.items steps place number
     for_one place number (k, there, same) =
         subst (IsFor traffic s.gone.items steps place) same (said.here place k there)
 
@@ -388,17 +421,6 @@ module _ {P : Type 0} (traffic : P → Traffic) where
         here = λ other l at. here_comes receives other l at (comes other l at);
         gone = left_comes receives;
       }
-
-    -- some more requests were answered, of the one at the place
-    pub turns_more : (turns more : List Turn) (place : ℕ) → AreOf traffic s place more
-        → AreAtTurns traffic s.gone.items steps turns
-        → AreAtTurns traffic s.gone.items (steps ++ next.Turn place ∷ []) (turns ++ more)
-    turns_more turns more place (inl none) so_far =
-        rw none
-        (subst (AreAtTurns traffic s.gone.items (steps ++ next.Turn place ∷ [])) (sym (append-nil turns))
-        (at_other steps turns (next.Turn place) so_far))
-    turns_more turns more place (inr (number, there, all)) so_far =
-        at_turn steps turns more place number so_far (for_one place number there) all
 
   module _ (old now : Said P) (s : Clients P) (then : Said P) (one : Next P)
       (more : since old then ≡ since old now ++ one ∷ []) (said : AreAsSaid traffic (since old now) s)

@@ -53,7 +53,7 @@ IsFreshPeer traffic number (next.Newcomer place peer) =
     ((traffic peer).number ≡ number) × IsUntouched (traffic peer)
 IsFreshPeer traffic number _ = Unit {0}
 
--- a newcomer comes, one has its turn, or one goes; and more may follow
+-- a newcomer comes, one has its turn, requests are answered, or one goes; and more may follow
 abbrev pub IsNextStep : {P : Type 0} → Next P → Type 0
 IsNextStep next.End = ⊥
 IsNextStep next.Refused = ⊥
@@ -71,11 +71,11 @@ AreCounted traffic few (one ∷ rest) many =
     IsFreshPeer traffic few one × AreCounted traffic (few + newcomer one) rest many
 
 -- why no more was done after these steps. `Served`: the sockets said that all have gone. `Refused`: they said that
--- none can come in, or 2^64 - 1 things were done. `Shut`: the last was a turn.
+-- none can come in, or 2^64 - 1 things were done. `Shut`: the last was that requests were answered.
 abbrev pub EndsBy : {P : Type 0} → ServeAllEnd → Nexts P → Nexts P → Type 0
 EndsBy end.Served steps last = last ≡ next.End ∷ []
 EndsBy end.Refused steps last = (last ≡ next.Refused ∷ []) ⊎ ((last ≡ []) × (length steps ≡ 18446744073709551615))
-EndsBy {P} end.Shut steps last = (last ≡ []) × (front : Nexts P) × (place : ℕ) × (steps ≡ front ++ next.Turn place ∷ [])
+EndsBy {P} end.Shut steps last = (last ≡ []) × (front : Nexts P) × (steps ≡ front ++ next.Answer ∷ [])
 
 -- others may be answered still
 abbrev pub stays_open : ServeAllEnd → Bool

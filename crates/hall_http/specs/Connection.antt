@@ -1,5 +1,5 @@
 -- Requests that are answered one after another, each with its reply.
-use Rattle.std.specs.Prelude.{◌≡◌, ℕ, List, [], ◌∷◌, true, false, flat_map, All, Option}
+use Rattle.std.specs.Prelude.{◌≡◌, ℕ, List, [], ◌∷◌, ◌++◌, true, false, flat_map, All, Option}
 use Rattle.httparse.specs.Grammar.{RequestHead}
 use Rattle.hall_http.specs.Head.{IsHeadAndBody, IsWholeRequest, closes}
 
@@ -25,6 +25,11 @@ requests_of xs = flat_map (λ x. x.request) xs
 abbrev pub replies_of : List Exchange → List ℕ
 replies_of xs = flat_map (λ x. x.reply) xs
 
+-- all requests of some groups
+abbrev pub of_groups : List (List Exchange) → List Exchange
+of_groups [] = []
+of_groups (xs ∷ groups) = xs ++ of_groups groups
+
 -- the connection stays open after each of these requests
 abbrev pub AreOpen : List Exchange → Type 0
 AreOpen xs = All (λ x. LeavesOpen x.request) xs
@@ -39,6 +44,12 @@ Exchanged answers now_gives h c x i d =
 abbrev pub Session : {H : Type 0} → (H → Option ℕ → List ℕ → List ℕ → H → Type 0) → H → List Exchange → H → Type 0
 Session answers h [] i = i ≡ h
 Session {H} answers h (x ∷ xs) i = (m : H) × answers h x.moment x.request x.reply m × Session answers m xs i
+
+-- the clock was asked so often, and gave these moments
+abbrev pub AreReadings : {C : Type 0} → (C → Option ℕ → C → Type 0) → C → List (Option ℕ) → C → Type 0
+AreReadings now_gives clock [] later = later ≡ clock
+AreReadings {C} now_gives clock (moment ∷ moments) later =
+    (next : C) × now_gives clock moment next × AreReadings now_gives next moments later
 
 -- the clock was asked once for each request, in their order
 abbrev pub AreMoments : {C : Type 0} → (C → Option ℕ → C → Type 0) → C → List Exchange → C → Type 0

@@ -1,22 +1,25 @@
 -- All connections that came, and what each was told.
 use Rattle.std.specs.Prelude.{◌≡◌, ◌≢◌, ◌<◌, ◌≤◌, ◌+◌, ◌⊎◌, ⊤, ℕ, List, [], ◌∷◌, ◌++◌, All, Option, Some, None}
-use Rattle.std.specs.Prelude.{Bool, true, false, length}
+use Rattle.std.specs.Prelude.{◌==◌, not, length, map}
+use Rattle.std.specs.List.{filter}
 use Rattle.std.proofs.Common.{get_or}
 use Rattle.hall_http.specs.Limits.{most_connections}
+use Rattle.hall_http.specs.Held.{HoldsNoMore}
 use Rattle.hall_http.specs.Answered.{IsUnavailable}
 use Rattle.hall_http.specs.Peer.{Traffic, IsLater, IsOver, IsUntouched}
+use Rattle.hall_http.specs.Progress.{TakesTurnAt}
 use Rattle.hall_http.specs.Request.{ReachesStore}
 use Rattle.hall_http.specs.Steps.{StandsRightly}
-use Rattle.hall_http.specs.Turns.{Turn, Service, exchanges_of, goes_on, of, IsConnectionTold, IsClient}
-use Rattle.hall_http.specs.Coming.{Nexts, Said, AreCounted, AreDone, since, stays_open}
+use Rattle.hall_http.specs.Turns.{GroupedSession, Turn, Service, exchanges_of, of, IsConnectionTold, IsClient}
+use Rattle.hall_http.specs.Coming.{Nexts, Said, AreCounted, AreDone, newcomer, since}
 use Rattle.hall_http.specs.declared.server.Next.TheVariants as next
 use Rattle.hall_http.specs.declared.server.Next.{Next}
 use Rattle.hall_http.specs.declared.server.ServeAllEnd.{ServeAllEnd}
 use Rattle.hall_http.specs.declared.server.ServeAllEnd.TheVariants as end
 use Rattle.hall_store.specs.Store.{Content, IsSettled, Leads}
-use Rattle.hall_http.specs.Connection.{Exchange, AreMoments}
-use Rattle.hall_http.specs.Resting.{RestingSession}
-use Rattle.hall_http.specs.Serving.{AreAnsweredWhileOpen, LeavesRunOver, RunsOver, WaitsForSearch}
+use Rattle.hall_http.specs.Connection.{Exchange, AreReadings, of_groups}
+use Rattle.hall_http.specs.Groups.{AreAnsweredInGroups, AreAnsweredWhileOpen, LeavesRunByGroups}
+use Rattle.hall_http.specs.Serving.{RunsOver, WaitsForSearch}
 use Rattle.hall_http.specs.declared.client.Client.{Client}
 use Rattle.hall_http.specs.declared.client.Step.{Step}
 use Rattle.hall_http.specs.declared.client.Step.TheVariants as step
@@ -25,6 +28,7 @@ use Rattle.hall_http.specs.declared.clients.Away.TheVariants as away
 use Rattle.hall_http.specs.declared.clients.Clients.{Clients}
 use Rattle.hall_http.specs.declared.clients.Departure.{Departure}
 use Rattle.hall_http.specs.declared.clients.Departure.TheVariants as departure
+use Rattle.hall_http.specs.declared.clients.HeldRequest.{HeldRequest}
 use Rattle.hall_http.specs.declared.peer.Closed.{Closed}
 
 -- the connection at a place
@@ -162,25 +166,33 @@ Receives {P} place peer s u =
     ⊎ ((closed : Closed P) × (why : Away) × (closed.peer ≡ peer) × MayTurnAway s place why
     × (u.gone.items ≡ s.gone.items ++ (closed, (departure.TurnedAway why, place)) ∷ []))
 
--- requests were answered one after another by a responder, at the clock's moments, and this is true of them
-pub record AreHandled {H C : Type 0} (service : Service H C) (Holds : List Turn → Type 0) (before after : H × C) :
-    Type 0 where
+-- requests were answered by a responder, in groups, one after another, and this is true of them
+pub record AreHandled {H : Type 0} (service : Service H) (Holds : List Turn → Type 0) (before after : H) : Type 0 where
   pub turns : List Turn
-  pub session : RestingSession service.answers service.rests before.0 (exchanges_of turns) after.0
-  pub moments : AreMoments service.now_gives before.1 (exchanges_of turns) after.1
+  pub session : GroupedSession service before (exchanges_of turns) after
   pub holds : Holds turns
 
--- each of these requests, if there are any, is of the connection at the place
-abbrev pub AreOf : {P : Type 0} → (P → Traffic) → Clients P → ℕ → List Turn → Type 0
-AreOf traffic s place more =
-    (more ≡ []) ⊎ ((number : ℕ) × HasAt traffic s place number × All (λ turn. turn.0 ≡ number) more)
+-- Some of those that are held were answered, or none, in their order, each at its moment. So each was of the connection
+-- that is there, and the others weren't answered.
+abbrev pub AreAnsweredOf : {X : Type 0} → (X → ℕ → Option ℕ → Type 0) → List X → List Turn → Type 0
+AreAnsweredOf There [] more = more ≡ []
+AreAnsweredOf There (one ∷ held) more =
+    AreAnsweredOf There held more
+    ⊎ ((number : ℕ) × (x : Exchange) × (later : List Turn) × There one number x.moment × (more ≡ (number, x) ∷ later)
+    × AreAnsweredOf There held later)
 
--- some more requests of the connection at the place were answered, one after another
-abbrev pub Serves : {H C P : Type 0} → Service H C → (P → Traffic) → ℕ → H × C → Clients P → H × C → Clients P → Type 0
-Serves service traffic place before s after u =
+-- a request that is held for the moment is of the connection of this number, which is at its place
+abbrev pub IsHeldAt : {P : Type 0} → (P → Traffic) → Clients P → HeldRequest → ℕ → Option ℕ → Type 0
+IsHeldAt traffic s one number moment = HasAt traffic s one.place number × (moment ≡ one.moment)
+
+-- some requests that are held were answered, one after another
+abbrev pub Serves : {H P : Type 0} → Service H → (P → Traffic) → List HeldRequest → H → Clients P → H → Clients P
+    → Type 0
+Serves service traffic held before s after u =
     AreStill traffic s u
     × ((few many : ℕ) (turns : List Turn) → AreKept traffic few many turns s
-    → AreHandled service (λ more. AreOf traffic s place more × AreKept traffic few many (turns ++ more) u) before after)
+    → AreHandled service
+    (λ more. AreAnsweredOf (IsHeldAt traffic s) held more × AreKept traffic few many (turns ++ more) u) before after)
 
 -- the connection of this number was turned away
 abbrev pub WasTurnedAway : {P : Type 0} → (P → Traffic) → List (Past P) → ℕ → Type 0
@@ -269,23 +281,80 @@ abbrev pub AllLeave : {P : Type 0} → (P → Traffic) → Clients P → Clients
 AllLeave {P} traffic s u =
     (last : List (Past P)) × (u.gone.items ≡ s.gone.items ++ last) × All (WasHere traffic s) last
 
--- While these things were done, one after another, these requests were answered, each at a turn: at the turn of a place
--- some, or none, of one newcomer that was handed out for the place before and kept it since.
-pub data AreAtTurns {P : Type 0} (traffic : P → Traffic) (gone : List (Past P)) : Nexts P → List Turn → Type 0 where
-  at_first : AreAtTurns traffic gone [] []
-  at_other : (steps : Nexts P) (turns : List Turn) (one : Next P) → AreAtTurns traffic gone steps turns
-      → AreAtTurns traffic gone (steps ++ one ∷ []) turns
-  at_turn : (steps : Nexts P) (turns more : List Turn) (place number : ℕ) → AreAtTurns traffic gone steps turns
-      → IsFor traffic gone steps place number → All (λ turn. turn.0 ≡ number) more
-      → AreAtTurns traffic gone (steps ++ next.Turn place ∷ []) (turns ++ more)
+-- a request that is held, and the number of its connection
+abbrev pub Holding : Type 0
+Holding = ℕ × HeldRequest
 
--- How whoever is at the place stands after these requests, where others may be answered still: none is there, and that
--- it is over is told; or one is, and it isn't told that it is over, and it stands as is told.
+-- those that are held at other places
+abbrev pub without : ℕ → List HeldRequest → List HeldRequest
+without place held = filter (λ one. not (one.place == place)) held
+
+abbrev pub without_holding : ℕ → List Holding → List Holding
+without_holding place held = filter (λ one. not (one.1.place == place)) held
+
+-- a request that is held for the moment is of a newcomer of this number that was handed out for its place by these
+-- steps and kept that since
+abbrev pub IsHeldFor : {P : Type 0} → (P → Traffic) → List (Past P) → Nexts P → Holding → ℕ → Option ℕ → Type 0
+IsHeldFor traffic gone steps one number moment =
+    (one.0 ≡ number) × IsFor traffic gone steps one.1.place number × (moment ≡ one.1.moment)
+
+-- nobody has a turn by this, and nothing is answered
+abbrev pub IsNoTurn : {P : Type 0} → Next P → Type 0
+IsNoTurn (next.Turn place) = ⊥
+IsNoTurn next.Answer = ⊥
+IsNoTurn _ = Unit {0}
+
+-- the requests of what is held
+abbrev pub requests_in : List Holding → List HeldRequest
+requests_in held = map (λ one. one.1) held
+
+-- While these things were done, one after another, this was heard of the turns, these requests were answered, these are
+-- held, and these moments were read. A moment is read only right after a turn by which a request is to be answered,
+-- once, and then that request is held for it, behind all others: of a newcomer that was handed out for its place before
+-- and kept it since. It is so after each such turn, unless one of the place is held already, or as many as may be.
+-- Requests are answered only where the first of those that are held are taken off, in their order, each at its moment,
+-- and of its connection, which has kept its place since. And what is held at a place is let go once a newcomer comes
+-- for it.
+pub data AreAtTurns {P : Type 0} (traffic : P → Traffic) (gone : List (Past P))
+    : Nexts P → List (ℕ × Step) → List Turn → List Holding → List (Option ℕ) → Type 0 where
+  at_first : AreAtTurns traffic gone [] [] [] [] []
+  at_other : (steps : Nexts P) (heard : List (ℕ × Step)) (turns : List Turn) (held : List Holding)
+      (moments : List (Option ℕ)) (one : Next P) → IsNoTurn one → newcomer one ≡ 0
+      → AreAtTurns traffic gone steps heard turns held moments
+      → AreAtTurns traffic gone (steps ++ one ∷ []) heard turns held moments
+  at_newcomer : (steps : Nexts P) (heard : List (ℕ × Step)) (turns : List Turn) (held : List Holding)
+      (moments : List (Option ℕ)) (place : ℕ) (peer : P)
+      → AreAtTurns traffic gone steps heard turns held moments
+      → AreAtTurns traffic gone (steps ++ next.Newcomer place peer ∷ []) heard turns (without_holding place held)
+      moments
+  at_visit : (steps : Nexts P) (heard : List (ℕ × Step)) (turns : List Turn) (held : List Holding)
+      (moments : List (Option ℕ)) (place : ℕ) (how : Step)
+      → AreAtTurns traffic gone steps heard turns held moments → HoldsNoMore place how (requests_in held)
+      → AreAtTurns traffic gone (steps ++ next.Turn place ∷ []) (heard ++ (place, how) ∷ []) turns held moments
+  at_turn : (steps : Nexts P) (heard : List (ℕ × Step)) (turns : List Turn) (held : List Holding)
+      (moments : List (Option ℕ)) (number : ℕ) (one : HeldRequest)
+      → AreAtTurns traffic gone steps heard turns held moments → IsFor traffic gone steps one.place number
+      → AreAtTurns traffic gone (steps ++ next.Turn one.place ∷ []) (heard ++ (one.place, step.Holds) ∷ []) turns
+      (held ++ (number, one) ∷ []) (moments ++ one.moment ∷ [])
+  at_answer : (steps : Nexts P) (heard : List (ℕ × Step)) (turns more : List Turn) (front held : List Holding)
+      (moments : List (Option ℕ)) → AreAtTurns traffic gone steps heard turns (front ++ held) moments
+      → AreAnsweredOf (IsHeldFor traffic gone steps) front more
+      → AreAtTurns traffic gone (steps ++ next.Answer ∷ []) heard (turns ++ more) held moments
+
+-- so they were in the meantime, by what was said and heard, and the moments are those that the clock gave, in order
+abbrev pub AreAtMoments : {C P : Type 0} → (P → Traffic) → (C → Option ℕ → C → Type 0) → C → List (Past P)
+    → Said P × Said P → List Turn → C → Type 0
+AreAtMoments traffic now_gives clock gone (old, new) turns later =
+    (heard : List (ℕ × Step)) × (held : List Holding) × (moments : List (Option ℕ))
+    × (new.heard ≡ old.heard ++ heard) × AreAtTurns traffic gone (since old new) heard turns held moments
+    × AreReadings now_gives clock moments later
+
+-- How whoever is at the place stands after these requests: none is there, and that it is over is told; or one is, and
+-- it isn't told that it is over, and it stands as is told.
 abbrev pub StandsThere : {P : Type 0} → (List Turn → List ℕ → Type 0) → Clients P → List Turn → ℕ × Step → Type 0
 StandsThere {P} may_wait s turns told =
-    (goes_on told.1 ≡ true)
-    × ((IsFree s told.0 × (told.1 ≡ step.Over))
-    ⊎ ((k : Client P) × IsAt s told.0 k × (told.1 ≢ step.Over) × StandsRightly may_wait k.connection turns told.1))
+    (IsFree s told.0 × (told.1 ≡ step.Over))
+    ⊎ ((k : Client P) × IsAt s told.0 k × (told.1 ≢ step.Over) × StandsRightly may_wait k.connection turns told.1)
 
 -- one of those that have gone is the one with this traffic, later on
 abbrev pub WentLater : {P : Type 0} → (P → Traffic) → List (Past P) → Traffic → Type 0
@@ -313,9 +382,16 @@ IsHereOrGone {P} traffic u t =
 abbrev pub HaveBecome : {P : Type 0} → (P → Traffic) → Clients P → Clients P → Type 0
 HaveBecome traffic u = HaveGoneOn traffic u.gone.items (IsHereOrGone traffic u)
 
--- The connections that were handed out by these steps are kept after these requests, each of which was answered at a
--- turn; each is at its place or has gone by what was said; they became what they are known to have become; and so is
--- told how one stands.
+-- Whoever is at the place after its turn was at it before, as one may be that is kept after these requests, and took
+-- its turn so.
+abbrev pub TookTurn : {P : Type 0} → (P → Traffic) → ℕ → List Turn → Clients P → ℕ × Step → Type 0
+TookTurn {P} traffic few turns u told =
+    (before : Clients P) × (many : ℕ) × AreKept traffic few many turns before
+    × TakesTurnAt traffic (get_or before.places.items told.0 None) told.1 (get_or u.places.items told.0 None)
+
+-- The connections that were handed out by these steps are kept after these requests, which were answered so; each is at
+-- its place or has gone by what was said; they became what they are known to have become; and so is told how one
+-- stands.
 pub record IsToldRightly {P : Type 0} (may_wait : List Turn → List ℕ → Type 0) (traffic : P → Traffic) (few : ℕ)
     (became : Clients P → Type 0) (steps : Nexts P) (turns : List Turn) (told : ℕ × Step) : Type 0 where
   pub many : ℕ
@@ -323,14 +399,13 @@ pub record IsToldRightly {P : Type 0} (may_wait : List Turn → List ℕ → Typ
   pub came : AreCounted traffic few steps many
   pub kept : AreKept traffic few many turns clients
   pub said : AreAsSaid traffic steps clients
-  pub turned : AreAtTurns traffic clients.gone.items steps turns
+  pub heard : List (ℕ × Step)
+  pub held : List Holding
+  pub moments : List (Option ℕ)
+  pub turned : AreAtTurns traffic clients.gone.items steps heard turns held moments
   pub later : became clients
   pub stands : StandsThere may_wait clients turns told
-
--- nobody has a turn by this
-abbrev pub IsNoTurn : {P : Type 0} → Next P → Type 0
-IsNoTurn (next.Turn place) = ⊥
-IsNoTurn _ = Unit {0}
+  pub took : TookTurn traffic few turns clients told
 
 -- While these things were done, and these requests answered, this was heard of the turns: of each of them, in their
 -- order, how whoever is at its place stands, by connections as they may be then.
@@ -340,31 +415,26 @@ pub data AreHeard {P : Type 0} (may_wait : List Turn → List ℕ → Type 0) (t
   heard_other : (steps : Nexts P) (turns : List Turn) (heard : List (ℕ × Step)) (one : Next P) → IsNoTurn one
       → AreHeard may_wait traffic few became steps turns heard
       → AreHeard may_wait traffic few became (steps ++ one ∷ []) turns heard
-  heard_turn : (steps : Nexts P) (turns more : List Turn) (heard : List (ℕ × Step)) (place : ℕ) (how : Step)
+  heard_answer : (steps : Nexts P) (turns more : List Turn) (heard : List (ℕ × Step))
       → AreHeard may_wait traffic few became steps turns heard
-      → IsToldRightly may_wait traffic few became (steps ++ next.Turn place ∷ []) (turns ++ more) (place, how)
-      → AreHeard may_wait traffic few became (steps ++ next.Turn place ∷ []) (turns ++ more)
-      (heard ++ (place, how) ∷ [])
+      → AreHeard may_wait traffic few became (steps ++ next.Answer ∷ []) (turns ++ more) heard
+  heard_turn : (steps : Nexts P) (turns : List Turn) (heard : List (ℕ × Step)) (place : ℕ) (how : Step)
+      → AreHeard may_wait traffic few became steps turns heard
+      → IsToldRightly may_wait traffic few became (steps ++ next.Turn place ∷ []) turns (place, how)
+      → AreHeard may_wait traffic few became (steps ++ next.Turn place ∷ []) turns (heard ++ (place, how) ∷ [])
 
--- so the sockets heard of the turns at which these requests were answered, in the meantime; but of the last turn
--- nothing, where it ended all
-abbrev pub HaveHeard : {P : Type 0} → (List Turn → List ℕ → Type 0) → (P → Traffic) → (Clients P → Type 0) → Bool
-    → Said P → Said P → List Turn → Type 0
-HaveHeard may_wait traffic became true old new turns =
+-- so the sockets heard of the turns in the meantime, while these requests were answered
+abbrev pub HaveHeard : {P : Type 0} → (List Turn → List ℕ → Type 0) → (P → Traffic) → (Clients P → Type 0) → Said P
+    → Said P → List Turn → Type 0
+HaveHeard may_wait traffic became old new turns =
     (heard : List (ℕ × Step)) × (new.heard ≡ old.heard ++ heard)
     × AreHeard may_wait traffic old.count became (since old new) turns heard
-HaveHeard {P} may_wait traffic became false old new turns =
-    (heard : List (ℕ × Step)) × (steps : Nexts P) × (place : ℕ) × (some more : List Turn)
-    × (new.heard ≡ old.heard ++ heard) × (since old new ≡ steps ++ next.Turn place ∷ []) × (turns ≡ some ++ more)
-    × AreHeard may_wait traffic old.count became steps some heard
 
--- so the connections stand after these requests, each of which was answered at a turn of its place, by what the sockets
--- said in the meantime, and after each turn they heard how it stands
-abbrev pub AreKeptAtTurns : {P : Type 0} → (List Turn → List ℕ → Type 0) → (P → Traffic) → Bool → Said P → Said P
-    → List Turn → Clients P → Type 0
-AreKeptAtTurns may_wait traffic goes old new turns s =
-    AreKept traffic old.count new.count turns s × AreAtTurns traffic s.gone.items (since old new) turns
-    × HaveHeard may_wait traffic (HaveBecome traffic s) goes old new turns
+-- so the connections stand after these requests, and after each turn in the meantime the sockets heard how it stands
+abbrev pub AreKeptAtTurns : {P : Type 0} → (List Turn → List ℕ → Type 0) → (P → Traffic) → Said P → Said P → List Turn
+    → Clients P → Type 0
+AreKeptAtTurns may_wait traffic old new turns s =
+    AreKept traffic old.count new.count turns s × HaveHeard may_wait traffic (HaveBecome traffic s) old new turns
 
 -- After the first of all requests, these, were answered so, and before the rest of them were, the request may be kept
 -- waiting.
@@ -375,13 +445,13 @@ MayWaitBetween {H} Answers may_wait before after all turns request =
     × Answers h (exchanges_of rest) after × may_wait h request
 
 -- so it is by a responder
-abbrev pub MayWaitAfter : {H C : Type 0} → Service H C → (H → List ℕ → Type 0) → H → H → List Turn → List Turn → List ℕ
+abbrev pub MayWaitAfter : {H : Type 0} → Service H → (H → List ℕ → Type 0) → H → H → List Turn → List Turn → List ℕ
     → Type 0
-MayWaitAfter service = MayWaitBetween (RestingSession service.answers service.rests)
+MayWaitAfter service = MayWaitBetween (GroupedSession service)
 
 -- so it is over a store, for a search
 abbrev pub WaitsForSearchAfter : {H : Type 0} → (H → Content) → H → H → List Turn → List Turn → List ℕ → Type 0
-WaitsForSearchAfter content = MayWaitBetween (AreAnsweredWhileOpen content) (WaitsForSearch content)
+WaitsForSearchAfter content = MayWaitBetween (AreAnsweredInGroups content) (WaitsForSearch content)
 
 -- Each request that was answered is of one of the connections, of which no two have the same number. And of each
 -- connection what came spells its requests among these, and what it was sent is a first part of the replies to them.
@@ -397,32 +467,33 @@ EndUnavailable xs =
     (front : List Exchange) × (last : Exchange) × (xs ≡ front ++ last ∷ []) × IsUnavailable last.reply
     × ReachesStore last.moment last.request
 
--- The requests of all connections were answered over a store, one after another, at the clock's moments, each over
--- the store that the one before it left and that was only read since, by the replies of a run of the hall, and none
--- after one that a store answered by 503 which serves no more. And of each connection that came, the first bytes
--- spell its requests among these, and what it was sent is a first part of the replies to them. Where a store that was
--- shut ended it, the last request is one that is put to the store, and its reply is 503.
-pub record AreServed {H C P : Type 0} (content : H → Content) (now_gives : C → Option ℕ → C → Type 0)
-    (traffic : P → Traffic) (why : ServeAllEnd) (before after : H × C) (gone : List (Past P)) : Type 0 where
+-- The requests of all connections were answered over a store, in groups, one after another, each group over the store
+-- that the one before it left and that was only read since, by the replies of a run of the hall, and none after one
+-- that a store answered by 503 which serves no more. And of each connection that came, the first bytes spell its
+-- requests among these, and what it was sent is a first part of the replies to them. Where a store that was shut ended
+-- it, the last request is one that is put to the store, and its reply is 503.
+pub record AreServed {H P : Type 0} (content : H → Content) (traffic : P → Traffic) (why : ServeAllEnd)
+    (before after : H) (gone : List (Past P)) : Type 0 where
   pub turns : List Turn
-  pub settled : IsSettled (content before.0)
-  pub answered : AreAnsweredWhileOpen content before.0 (exchanges_of turns) after.0
-  pub moments : AreMoments now_gives before.1 (exchanges_of turns) after.1
-  pub leads : Leads (content before.0) (content after.0)
-  pub run : (content after.0).honest → RunsOver (content before.0) (exchanges_of turns) (content after.0)
-  pub stops : LeavesRunOver (content before.0) (exchanges_of turns) (content after.0)
+  pub groups : List (List Exchange)
+  pub grouped : of_groups groups ≡ exchanges_of turns
+  pub settled : IsSettled (content before)
+  pub answered : AreAnsweredWhileOpen content before groups after
+  pub leads : Leads (content before) (content after)
+  pub run : (content after).honest → RunsOver (content before) (exchanges_of turns) (content after)
+  pub stops : LeavesRunByGroups (content before) groups (content after)
   pub shut : why ≡ end.Shut → EndUnavailable (exchanges_of turns)
   pub told : AreConnectionsTold traffic turns gone
 
--- So they were, each at a turn of its place, by what the sockets said in the meantime, and of the turns they heard how
--- whoever was there stood.
+-- So they were, each at the moment that was read for it after a turn of its connection, in the order of these turns, by
+-- what the sockets said in the meantime; and of the turns they heard how whoever was there stood.
 abbrev pub AreServedAtTurns : {H C P : Type 0} → (H → Content) → (C → Option ℕ → C → Type 0) → (P → Traffic)
     → ServeAllEnd → (H × C) × Said P → (H × C) × Said P → List (Past P) → Type 0
 AreServedAtTurns content now_gives traffic why (before, old) (after, new) gone =
-    (all : AreServed content now_gives traffic why before after gone)
-    × AreAtTurns traffic gone (since old new) all.turns
-    × HaveHeard (WaitsForSearchAfter content before.0 after.0 all.turns) traffic (HaveGoneSince traffic gone)
-    (stays_open why) old new all.turns
+    (all : AreServed content traffic why before.0 after.0 gone)
+    × AreAtMoments traffic now_gives before.1 gone (old, new) all.turns after.1
+    × HaveHeard (WaitsForSearchAfter content before.0 after.0 all.turns) traffic (HaveGoneSince traffic gone) old new
+    all.turns
 
 -- the connections that have gone are those of these numbers
 pub record AreThose {P : Type 0} (traffic : P → Traffic) (few many : ℕ) (gone : List (Past P)) : Type 0 where

@@ -1,8 +1,11 @@
 -- What the event loop was asked for, and what it said.
-use Rattle.std.specs.Prelude.{◌≡◌, ◌≢◌, ◌+◌, ℕ, Option, Some, None, [], ◌∷◌, ◌++◌, get_or, length, map}
+use Rattle.std.specs.Prelude.{◌≡◌, ◌≢◌, ◌+◌, ℕ, Option, Some, None, [], ◌∷◌, ◌++◌, get_or, length, map, true, All}
 use Rattle.std.specs.declared.net.socket_addr.SocketAddr.{SocketAddr}
 use Rattle.hall_http.specs.Coming.{IsFreshPeer, Said, logged, newcomer}
-use Rattle.hall_http.specs.Seats.{AreFresh, IsUnheard, LetsGo}
+use Rattle.hall_http.specs.Line.{WereLines}
+use Rattle.hall_http.specs.Looks.{IsHeardOut}
+use Rattle.hall_http.specs.Places.{IsLetGo}
+use Rattle.hall_http.specs.Seats.{AreCalled, AreFresh, AreLetGo, IsUnheard, LetsGo}
 use Rattle.hall_http.specs.Socket.{traffic_of}
 use Rattle.hall_http.specs.declared.event_loop.EventLoop.{EventLoop}
 use Rattle.hall_http.specs.declared.places.Places.{Places}
@@ -62,3 +65,13 @@ pub record IsFreshLoop {N E : Type 0} (address : SocketAddr) (connections : ℕ)
   pub heard : (said_by sockets).heard ≡ []
   pub count : (said_by sockets).count ≡ 0
   pub most : (said_by sockets).most ≡ connections
+
+-- Whoever had a turn, of all that was to be done, was called in one line, in which each stands once, and of which
+-- whoever came first goes first. Whoever was let go had expired by then, or made room where all places were taken. And
+-- where it may judge now who goes, all that befell the sockets was heard.
+pub record IsFair {N E : Type 0} (sockets : EventLoop N E) : Type 0 where
+  pub called : AreCalled (logged sockets.nexts) sockets.schedule.ready
+  pub lines : ∥ WereLines sockets.schedule.ready.motions.items ∥₁
+  pub goes : AreLetGo (logged sockets.nexts) sockets.schedule.places
+  pub rightly : All (λ one. ∥ IsLetGo one ∥₁) sockets.schedule.places.let_go.items
+  pub heard : sockets.schedule.has_heard ≡ true → ∥ IsHeardOut sockets.schedule.looks.items ∥₁

@@ -9,7 +9,7 @@ use Rattle.hall_http.specs.Head.{IsHeadAndBody, IsWholeRequest, HasNoWholeReques
 use Rattle.hall_http.specs.Request.{RequestOf}
 use Rattle.hall_http.specs.Records.{Record, Records, HasNoRecord}
 use Rattle.hall_http.specs.Connection.{Exchange}
-use Rattle.hall_http.specs.Serving.{IsRunOver, LeavesRunOver}
+use Rattle.hall_http.specs.Serving.{IsRunOver}
 
 -- bytes are at most one request
 abbrev pub AreOneRequest : Type 0
@@ -54,10 +54,11 @@ RunsCompose =
     (old mid new : World) (xs ys : List Exchange)
     → IsRunOver old xs mid → IsRunOver mid ys new → IsRunOver old (xs ++ ys) new
 
--- Requests are answered over a store, and at first a stop would leave its world and no other. Then after each first
--- part of them there is the store that it left and from which the others are answered, and what a stop leaves of that
--- one is a world that this first part leaves.
-abbrev pub FirstPartsLast : {H : Type 0} → (H → Content) → (H → List Exchange → H → Type 0) → Type 0
-FirstPartsLast {H} content Answered =
-    (old : H) (xs ys : List Exchange) (new : H) → IsSettled (content old) → Answered old (xs ++ ys) new
-    → (mid : H) × Answered old xs mid × Answered mid ys new × LeavesRunOver (content old) xs (content mid)
+-- What is answered over a store of which at first a stop would leave its world and no other, is requests or groups of
+-- them. Then after each first part of it there is the store that it left and from which the rest is answered, and what
+-- a stop leaves of that one is what this first part leaves.
+abbrev pub FirstPartsLast : {H X : Type 0} → (H → Content) → (H → List X → H → Type 0)
+    → (Content → List X → Content → Type 0) → Type 0
+FirstPartsLast {H} {X} content Answered Leaves =
+    (old : H) (xs ys : List X) (new : H) → IsSettled (content old) → Answered old (xs ++ ys) new
+    → (mid : H) × Answered old xs mid × Answered mid ys new × Leaves (content old) xs (content mid)

@@ -17,6 +17,10 @@ most_waiting = 81920
 abbrev pub most_connections : ℕ
 most_connections = 500
 
+-- the requests that are answered together
+abbrev pub most_joined : ℕ
+most_joined = 64
+
 -- the milliseconds between two looks at the clock that count against a patience
 abbrev pub most_counted : ℕ
 most_counted = 1000
@@ -24,3 +28,11 @@ most_counted = 1000
 -- the milliseconds that one has waited before it may make room for a newcomer
 abbrev pub least_stay : ℕ
 least_stay = 1000
+
+-- the most things that the sockets tell at a time
+abbrev pub most_events : ℕ
+most_events = 256
+
+-- how often at most they are asked again for what else befell them
+abbrev pub most_asked : ℕ
+most_asked = 4

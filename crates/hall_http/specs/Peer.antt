@@ -1,11 +1,16 @@
 -- What is known of the other side of a connection.
 use Rattle.std.specs.Prelude.{◌≡◌, ◌≤◌, ◌==◌, ◌+◌, ◌⊎◌, ◌++◌, if◌then◌else◌, ℕ, Bool, true, false, List, []}
+use Rattle.hall_http.specs.declared.peer.Call.{Call}
 use Rattle.hall_http.specs.declared.peer.Moved.{Moved}
 use Rattle.hall_http.specs.declared.peer.Moved.TheVariants.{Some, Wait, None}
 
+-- calls of a peer, in order, each with what it told
+abbrev pub Calls : Type 0
+Calls = List (Call × Moved)
+
 -- its number among all that the same sockets handed out, all bytes that were read of it, how many reads gave some of
 -- them, and all that it was sent; whether a read told that no more comes, or failed; whether a send told that no more
--- goes; and whether it was told that no more is sent
+-- goes; whether it was told that no more is sent; and all calls of it
 pub record Traffic : Type 0 where
   pub number : ℕ
   pub came : List ℕ
@@ -14,6 +19,7 @@ pub record Traffic : Type 0 where
   pub over : Bool
   pub broke : Bool
   pub hung_up : Bool
+  pub calls : Calls
 
 -- so many bytes were moved
 abbrev pub moved : Moved → ℕ
@@ -53,8 +59,10 @@ pub record IsLater (t u : Traffic) : Type 0 where
   pub over : t.over ≡ true → u.over ≡ true
   pub broke : t.broke ≡ true → u.broke ≡ true
   pub hung_up : t.hung_up ≡ true → u.hung_up ≡ true
+  pub calls : (more : Calls) × (u.calls ≡ t.calls ++ more)
 
--- nothing was read of it, not even that no more comes; and it was sent nothing, not even that no more is sent
+-- nothing was read of it, not even that no more comes; and it was sent nothing, not even that no more is sent; and no
+-- call told anything
 pub record IsUntouched (t : Traffic) : Type 0 where
   pub came : t.came ≡ []
   pub reads : t.reads ≡ 0
@@ -62,6 +70,7 @@ pub record IsUntouched (t : Traffic) : Type 0 where
   pub over : t.over ≡ false
   pub broke : t.broke ≡ false
   pub hung_up : t.hung_up ≡ false
+  pub calls : t.calls ≡ []
 
 -- no more goes to it; or no more is sent, and no more comes of it
 abbrev pub IsOver : Traffic → Type 0

@@ -1,5 +1,5 @@
 -- Requests that are answered by one that also works on what they need, before it answers them.
-use Rattle.std.specs.Prelude.{◌≡◌, ℕ, List, [], ◌∷◌, Bool, Option}
+use Rattle.std.specs.Prelude.{◌≡◌, ◌⊎◌, ℕ, List, [], ◌∷◌, Bool, Option}
 use Rattle.hall_http.specs.Connection.{Exchange, Session}
 
 -- it rested, one time after another, and was left so each time
@@ -21,6 +21,19 @@ after_rests {H} rests answers h moment request reply i =
 abbrev pub RestingSession : {H : Type 0} → (H → Option ℕ → List ℕ → List ℕ → H → Type 0) → (H → H → Type 0)
     → H → List Exchange → H → Type 0
 RestingSession {H} answers rests h xs i = (m : H) × Session (after_rests rests answers) h xs m × HasRested rests m i
+
+-- a group is one request that is answered alone, or some that are answered together
+abbrev pub IsGroup : {H : Type 0} → (H → Option ℕ → List ℕ → List ℕ → H → Type 0) → (H → List Exchange → H → Type 0)
+    → H → List Exchange → H → Type 0
+IsGroup answers joins h xs i =
+    ((x : Exchange) × (xs ≡ x ∷ []) × answers h x.moment x.request x.reply i) ⊎ joins h xs i
+
+-- these groups of requests are answered, one after another, with rests before, between and after them
+abbrev pub RestingGroups : {H : Type 0} → (H → List Exchange → H → Type 0) → (H → H → Type 0) → H
+    → List (List Exchange) → H → Type 0
+RestingGroups group rests h [] i = HasRested rests h i
+RestingGroups {H} group rests h (xs ∷ groups) i =
+    (read after : H) × HasRested rests h read × group read xs after × RestingGroups group rests after groups i
 
 -- a responder rests, and goes on if it did
 abbrev pub still : {H : Type 0} → (H → H → Type 0) → H × Bool → H × Bool → Type 0

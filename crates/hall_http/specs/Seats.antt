@@ -1,18 +1,21 @@
 -- Who came to the places, and who has gone.
-use Rattle.std.specs.Prelude.{◌≡◌, ◌<◌, ◌+◌, ◌==◌, ◌⊎◌, ℕ, Bool, true, List, [], ◌∷◌, ◌++◌}
+use Rattle.std.specs.Prelude.{◌≡◌, ◌≢◌, ◌<◌, ◌≤◌, ◌+◌, ◌==◌, ◌⊎◌, ℕ, Bool, true, List, [], ◌∷◌, ◌++◌}
 use Rattle.std.specs.Prelude.{Option, Some, None, flat_map, get_or, is_some, length, map, set}
 use Rattle.mio.specs.declared.net.stream.TcpStream.{TcpStream}
 use Rattle.hall_http.specs.Coming.{Nexts}
 use Rattle.hall_http.specs.Limits.{most_connections}
-use Rattle.hall_http.specs.Places.{HasExpired, MayMakeRoom, taken, wait_in}
+use Rattle.hall_http.specs.Queue.{called, waits_in}
+use Rattle.hall_http.specs.Places.{HasExpired, MayMakeRoom, counted_for, goes_at, taken, wait_in}
 use Rattle.hall_http.specs.declared.client.Step.{Step}
 use Rattle.hall_http.specs.declared.client.Step.TheVariants as step
+use Rattle.hall_http.specs.declared.client.Wish.{Wish}
 use Rattle.hall_http.specs.declared.client.Wish.TheVariants as wish
 use Rattle.hall_http.specs.declared.places.LetGo.{LetGo}
 use Rattle.hall_http.specs.declared.places.Places.{Places}
 use Rattle.hall_http.specs.declared.places.Visit.{Visit}
 use Rattle.hall_http.specs.declared.places.Visit.TheVariants.{Ready, Waiting, Searching}
 use Rattle.hall_http.specs.declared.places.Wait.{Wait}
+use Rattle.hall_http.specs.declared.queue.Queue.{Queue}
 use Rattle.hall_http.specs.declared.server.Next.{Next}
 use Rattle.hall_http.specs.declared.server.Next.TheVariants as next
 
@@ -56,7 +59,6 @@ Frees old place new =
 -- who stands so after its turn leaves its place, where it was there; and else no place is free again
 abbrev pub LeavesBy : Step → Places → ℕ → Places → Type 0
 LeavesBy step.Over old place new = is_some (get_or old.visits.items place None) ≡ true → FreesOne old place new
-LeavesBy step.Shut old place new = is_some (get_or old.visits.items place None) ≡ true → FreesOne old place new
 LeavesBy _ old place new = new.freed.items ≡ old.freed.items
 
 -- this was heard of a turn, at this millisecond, and who left its place by it has; else they are still
@@ -93,42 +95,56 @@ abbrev pub StandsAt : Places → ℕ → (Visit → Type 0) → Type 0
 StandsAt places place Is =
     (visit : Visit) × (get_or places.visits.items place None ≡ Some visit) × Is visit
 
--- the connection at the place has expired; or it may make room, and all places are taken
+-- the connection at the place may make room, and this is when its patience ends
+abbrev pub MayGoBy : Places → ℕ → ℕ → Type 0
+MayGoBy places place until =
+    StandsAt places place (λ visit. MayMakeRoom visit places.elapsed × (until ≡ goes_at visit))
+
+-- the patience of the connection at the place ends first, of those that may make room
+abbrev pub GoesFirst : Places → ℕ → Type 0
+GoesFirst places place =
+    (first : ℕ) × MayGoBy places place first
+    × ((other until : ℕ) → MayGoBy places other until → first ≤ until)
+
+-- the connection at the place has expired; or all places are taken, and it is the first to make room
 abbrev pub MayLetGo : Places → ℕ → Type 0
 MayLetGo places place =
-    StandsAt places place
-    (λ visit. HasExpired visit places.elapsed ⊎ ((are_full places ≡ true) × MayMakeRoom visit places.elapsed))
+    StandsAt places place (λ visit. HasExpired visit places.elapsed)
+    ⊎ ((are_full places ≡ true) × GoesFirst places place)
 
 -- one was let go, of this place
 abbrev pub LetsGo : Places → ℕ → Places → Type 0
 LetsGo old place new =
     (one : LetGo × ℕ) × (one.0.place ≡ place) × (new.let_go.items ≡ old.let_go.items ++ one ∷ [])
 
--- a wait begins at the millisecond, or is the one that was known before
-abbrev pub GoesOn : Option Visit → Wait → ℕ → Type 0
-GoesOn old wait now = (wait.since ≡ now) ⊎ ((last : Visit) × (old ≡ Some last) × (wait_in last ≡ Some wait))
+-- what was waited for last is this, after as many requests
+abbrev pub WaitedFor : Option Visit → Wish → ℕ → Wait → Type 0
+WaitedFor old what requests last =
+    (old ≡ Some (Ready (Some last))) × (last.wish ≡ what) × (last.requests ≡ requests)
 
--- what was known of a connection may be followed by this: if it waits, it begins now, or goes on
-abbrev pub Follows : Option Visit → Visit → ℕ → Type 0
-Follows old (Ready None) now = Unit {0}
-Follows old (Ready (Some wait)) now = GoesOn old wait now
-Follows old (Waiting wait) now = GoesOn old wait now
-Follows old (Searching wait) now = GoesOn old wait now
+-- So it waits now: where it waited last for the same, after as many requests, that wait goes on; and else it begins at
+-- this millisecond.
+abbrev pub WaitsFrom : Option Visit → Wish → ℕ → ℕ → Wait → Type 0
+WaitsFrom old what requests now wait =
+    WaitedFor old what requests wait
+    ⊎ (((last : Wait) → ¬ (WaitedFor old what requests last))
+    × (wait ≡ record { wish = what; requests = requests; since = now }))
 
 -- whoever was at a place is ready, and what it waited for last is still known
 abbrev pub Wakes : Option Visit → Option Visit → Type 0
 Wakes None new = new ≡ None
 Wakes (Some old) new = new ≡ Some (Ready (wait_in old))
 
--- what is known of a connection that stood so after its turn, of which this was known before: where it can go on, that
--- it is ready, and what it waited for last
-abbrev pub IsHeard : Option Visit → Step → Visit → Type 0
-IsHeard old step.Again visit = Wakes old (Some visit)
-IsHeard old step.Leaves (Ready (Some wait)) = wait.wish ≡ wish.Leaving
-IsHeard old (step.Waits what requests) (Waiting wait) =
-    (wait.wish ≡ what) × ((wait.requests ≡ requests) ⊎ (what ≡ wish.Leaving))
-IsHeard old (step.Searches requests) (Searching wait) = (wait.wish ≡ wish.Searching) × (wait.requests ≡ requests)
-IsHeard old step visit = ⊥
+-- what is known of a connection that stood so after its turn, at this millisecond, of which this was known before:
+-- where it can go on, or its request is to be answered, that it is ready, and what it waited for last
+abbrev pub IsHeard : Option Visit → Step → ℕ → Visit → Type 0
+IsHeard old step.Again now visit = Wakes old (Some visit)
+IsHeard old step.Holds now visit = Wakes old (Some visit)
+IsHeard old step.Leaves now (Ready (Some wait)) = WaitsFrom old wish.Leaving 0 now wait
+IsHeard old (step.Waits what requests) now (Waiting wait) =
+    WaitsFrom old what (counted_for what requests) now wait
+IsHeard old (step.Searches requests) now (Searching wait) = WaitsFrom old wish.Searching requests now wait
+IsHeard old step now visit = ⊥
 
 -- the place of one that goes
 abbrev pub gone_at : {P : Type 0} → Next P → List ℕ
@@ -138,3 +154,32 @@ gone_at _ = []
 -- those that go, of all that was to be done, are those that the places let go, in this order
 abbrev pub AreLetGo : {P : Type 0} → Nexts P → Places → Type 0
 AreLetGo nexts places = flat_map gone_at nexts ≡ map (λ one. one.0.place) places.let_go.items
+
+-- the place of one that has its turn
+abbrev pub turn_at : {P : Type 0} → Next P → List ℕ
+turn_at (next.Turn place) = place ∷ []
+turn_at _ = []
+
+-- those that had their turns, of all that was to be done, are those that were called in this line, in this order
+abbrev pub AreCalled : {P : Type 0} → Nexts P → Queue → Type 0
+AreCalled nexts ready = flat_map turn_at nexts ≡ called ready
+
+-- whoever has a turn was called after these, a newcomer waits in line, and nobody else was called
+abbrev pub CallsOne : {P : Type 0} → List ℕ → Next P → Queue → Type 0
+CallsOne before (next.Turn place) ready = called ready ≡ before ++ place ∷ []
+CallsOne before (next.Newcomer place peer) ready = (called ready ≡ before) × (waits_in ready place ≡ true)
+CallsOne before _ ready = called ready ≡ before
+
+-- so it is where anything is to be done; else nobody was called
+abbrev pub MayCall : {P : Type 0} → List ℕ → Option (Next P) → Queue → Type 0
+MayCall before (Some said) ready = CallsOne before said ready
+MayCall before None ready = called ready ≡ before
+
+-- whoever is ready at the place waits in line
+abbrev pub IsReadyInLine : Places → ℕ → Queue → Type 0
+IsReadyInLine places place ready =
+    (last : Option Wait) → get_or places.visits.items place None ≡ Some (Ready last) → waits_in ready place ≡ true
+
+-- after its turn whoever is ready waits in line, unless its request is held
+abbrev pub IsInLine : Places → ℕ → Step → Queue → Type 0
+IsInLine places place how ready = how ≢ step.Holds → IsReadyInLine places place ready

@@ -1,8 +1,8 @@
 -- Requests that are answered over a store, one after another.
-use Rattle.std.specs.Prelude.{◌≡◌, ◌≢◌, ◌⊎◌, ℕ, List, [], ◌∷◌, ◌++◌, Option, Some, None, Ok, All, false}
+use Rattle.std.specs.Prelude.{◌≡◌, ◌⊎◌, ℕ, List, [], ◌∷◌, ◌++◌, Option, Some, None, Ok, All, false}
 use Rattle.hall_policy.specs.World.{World}
 use Rattle.hall_policy.specs.declared.request.Request.{Request}
-use Rattle.hall_store.specs.Store.{Content, IsSettled, Kept, Leads, LeavesOneOf, Over, WritesOnce}
+use Rattle.hall_store.specs.Store.{Content, IsSettled, Leads, LeavesOneOf, Over, WritesOnce}
 use Rattle.hall_desk.specs.Plans.{WritesIfAny}
 use Rattle.hall_desk.specs.Run.{IsTimed, Run}
 use Rattle.hall_desk.specs.Wanted.{MayWait}
@@ -49,15 +49,6 @@ AreAnswered content = Session (IsAnsweredOver content)
 abbrev pub GoesOn : {H : Type 0} → (H → Content) → H → List ℕ → H → Type 0
 GoesOn content old reply new =
     reply ≡ answer_text NoStore → (new ≡ old) ⊎ ((content new).honest → (content new).serves)
-
--- The requests are answered over a store, one after another, each over the store that the one before it left and that
--- was only read since; and after none but the last the reply was 503 by a store that serves no more, unless that
--- request left the store as it was.
-abbrev pub AreAnsweredWhileOpen : {H : Type 0} → (H → Content) → H → List Exchange → H → Type 0
-AreAnsweredWhileOpen content old [] new = Kept (content old) (content new)
-AreAnsweredWhileOpen {H} content old (x ∷ xs) new =
-    (read after : H) × Kept (content old) (content read) × IsAnsweredOver content read x.moment x.request x.reply after
-    × (xs ≢ [] → GoesOn content read x.reply after) × AreAnsweredWhileOpen content after xs new
 
 -- the bytes aren't made into a request of the hall: they are none, and their reply names the fault; or no memory or no
 -- moment was there for it, and their reply is 503

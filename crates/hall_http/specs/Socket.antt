@@ -13,7 +13,7 @@ abbrev pub went_of : Socket → List ℕ
 went_of s = flat_map (λ write. take write.1.1 (drop write.1.0 (outgoing_text write.0))) s.writes.items
 
 -- both, how many reads gave the first, how many sockets were handed out before it, whether a read told that no more
--- comes and a write that no more goes, and whether it was told that no more is sent
+-- comes and a write that no more goes, whether it was told that no more is sent, and all calls of it
 abbrev pub traffic_of : Socket → Traffic
 traffic_of s = record {
   number = length s.before.items;
@@ -23,4 +23,5 @@ traffic_of s = record {
   over = s.is_over;
   broke = s.is_broken;
   hung_up = s.is_hung_up;
+  calls = s.calls.items;
 }

@@ -1,13 +1,20 @@
 -- The steps of a connection.
-use Rattle.std.specs.Prelude.{◌≡◌, ◌≢◌, ◌<◌, ◌+◌, ◌==◌, ◌⊎◌, ℕ, Bool, true, false, if◌then◌else◌, List, [], ◌∷◌, ◌++◌}
-use Rattle.std.specs.Prelude.{length, take, drop, Option, Some, None}
+use Rattle.std.specs.Prelude.{◌≡◌, ◌≢◌, ◌<◌, ◌≤◌, ◌+◌, ◌==◌, ◌⊎◌, ℕ, Bool, true, false, if◌then◌else◌}
+use Rattle.std.specs.Prelude.{List, [], ◌∷◌, ◌++◌}
+use Rattle.std.specs.Prelude.{length, take, drop, All, Option, Some, None}
 use Rattle.hall_http.specs.Limits.{most_reads, most_requests}
-use Rattle.hall_http.specs.Answered.{IsUnavailable}
+use Rattle.hall_http.specs.Answered.{IsUnavailable, answer_text}
 use Rattle.hall_http.specs.Outgoing.{outgoing_text}
 use Rattle.hall_http.specs.Request.{ReachesStore}
 use Rattle.hall_http.specs.Connection.{Exchange, Exchanged, LeavesOpen, IsClosing}
-use Rattle.hall_http.specs.Head.{IsUnfinished, IsUnfinishedBelow, IsWholeRequest, NeverHas}
+use Rattle.hall_http.specs.Head.{HasNoWholeRequest, IsUnfinished, IsUnfinishedBelow, IsWholeRequest, NeverHas}
+use Rattle.hall_http.specs.Joining.{planned}
+use Rattle.hall_policy.specs.declared.record.AnswerRow.{AnswerRow}
+use Rattle.hall_http.specs.declared.answer.Answer.TheVariants.{Unavailable, Shut}
+use Rattle.hall_http.specs.declared.connection.Joined.{Joined}
 use Rattle.hall_http.specs.declared.outgoing.Outgoing.TheVariants.{Nothing, Refusal}
+use Rattle.hall_http.specs.declared.responder.GroupEnd.{GroupEnd}
+use Rattle.hall_http.specs.declared.responder.GroupEnd.TheVariants as group
 use Rattle.hall_http.specs.declared.client.Step.{Step}
 use Rattle.hall_http.specs.declared.client.Step.TheVariants as step
 use Rattle.hall_http.specs.declared.client.Wish.{Wish}
@@ -70,6 +77,17 @@ gated answers goes_on h moment request reply i =
     (h.1 ≡ true) × answers h.0 moment request reply i.0 × (i.1 ≡ true → goes_on h.0 reply i.0)
     × (i.1 ≡ false → IsUnavailable reply × ReachesStore moment request)
 
+-- there are some of these requests, each of them is put to the store at a moment, and the reply to each is 503
+abbrev pub AreUnavailable : List Exchange → Type 0
+AreUnavailable xs = (xs ≢ []) × All (λ x. IsUnavailable x.reply × ReachesStore x.moment x.request) xs
+
+-- so it is where a responder that goes on answers some requests together
+abbrev pub gated_group : {H : Type 0} → (H → List Exchange → H → Type 0) → (H → List ℕ → H → Type 0)
+    → H × Bool → List Exchange → H × Bool → Type 0
+gated_group joins goes_on h xs i =
+    (h.1 ≡ true) × joins h.0 xs i.0 × (i.1 ≡ true → All (λ x. goes_on h.0 x.reply i.0) xs)
+    × (i.1 ≡ false → AreUnavailable xs)
+
 -- a whole request stood at the front: it was answered, and its reply waits to be sent
 pub record Answers {H C : Type 0} (answers : H → Option ℕ → List ℕ → List ℕ → H → Type 0)
     (now_gives : C → Option ℕ → C → Type 0) (before : H × C) (k : Connection) (after : H × C) (l : Connection) :
@@ -110,6 +128,58 @@ abbrev pub Looks : {H C : Type 0} → (H → Option ℕ → List ℕ → List �
 Looks answers now_gives before k after l =
     Answers answers now_gives before k after l ⊎ ((after ≡ before) × (Waits k l ⊎ Refuses k l))
 
+-- a whole request stands at the front of what waits
+abbrev pub HasRequest : Connection → Type 0
+HasRequest k = (size : ℕ) × IsWholeRequest (take size k.inbox)
+
+-- Whether a whole request stands at the front of what waits. Where none does, bytes that are none are refused, or more
+-- has to be read.
+abbrev pub Finds : Connection → Bool → Connection → Type 0
+Finds k true l = (l ≡ k) × HasRequest k
+Finds k false l = Waits k l ⊎ Refuses k l
+
+-- a clock that gives this moment, and no other
+abbrev pub gives : Option ℕ → Unit {0} → Option ℕ → Unit {0} → Type 0
+gives moment before told after = told ≡ moment
+
+-- the request that stands at the front of what waits was answered at the moment; or none does
+abbrev pub AnswersAt : {H : Type 0} → (H → Option ℕ → List ℕ → List ℕ → H → Type 0) → Option ℕ → H → Connection → H
+    → Connection → Type 0
+AnswersAt answers moment before k after l =
+    Answers answers (gives moment) (before, tt) k (after, tt) l
+    ⊎ ((after ≡ before) × (l ≡ k) × HasNoWholeRequest k.inbox)
+
+-- this whole request stands at the front of what waits
+pub record StandsInFront (k : Connection) (joined : Joined) : Type 0 where
+  pub whole : IsWholeRequest (take joined.size k.inbox)
+  pub inside : joined.size ≤ length k.inbox
+  pub ends : (requests : ℕ) → EndsAfter (take joined.size k.inbox) requests (then_of joined.closes requests)
+
+-- it was answered so, and its reply waits to be sent
+pub record Accepts (k : Connection) (joined : Joined) (l : Connection) : Type 0 where
+  pub reply : outgoing_text l.reply ≡ answer_text joined.answer
+  pub left : l ≡ record k {
+    inbox = drop joined.size k.inbox;
+    least = 0;
+    reply = l.reply;
+    sent = 0;
+    requests = k.requests + 1;
+    state = state.Writing (then_of joined.closes (k.requests + 1));
+  }
+
+-- what it is told once the one write for it and others has ended so
+abbrev pub joined_told : GroupEnd → Joined → Joined
+joined_told group.Stored joined = joined
+joined_told group.Refused joined = record joined { answer = Unavailable }
+joined_told group.Shut joined = record joined { answer = Shut }
+
+-- the request that stands at the front of what waits joined those that are to be answered together; or none did
+abbrev pub JoinsFront : {H : Type 0} → (List Exchange → List AnswerRow → H → Type 0) → List Exchange → Option ℕ
+    → Connection → Option Joined → List AnswerRow → H → Type 0
+JoinsFront have_joined xs moment k (Some joined) rows h =
+    StandsInFront k joined × have_joined (xs ++ planned moment (take joined.size k.inbox) joined.answer ∷ []) rows h
+JoinsFront have_joined xs moment k None rows h = have_joined xs rows h
+
 -- a whole request stands at the front of what waits, and may be kept waiting
 abbrev pub KeepsWaiting : {H : Type 0} → (H → List ℕ → Type 0) → Connection → H → Type 0
 KeepsWaiting may_wait k h = (size : ℕ) × IsWholeRequest (take size k.inbox) × may_wait h (take size k.inbox)
@@ -132,10 +202,12 @@ abbrev pub WaitsRightly : Step → Connection → Type 0
 WaitsRightly (step.Waits what requests) k = AwaitsRightly what k × (requests ≡ k.requests)
 WaitsRightly step.Leaves k = (e : ServeEnd) × (k.state ≡ state.Ended e)
 WaitsRightly (step.Searches requests) k = ⊥
+WaitsRightly step.Holds k = ⊥
 WaitsRightly _ k = Unit {0}
 
 -- so it stands after its turn; or where the step is that its request needs more work, that may be kept waiting, and so
--- many were answered before it
+-- many were answered before it; or where it is that it is to be answered, a whole one stands at the front
 abbrev pub StandsRightly : {H : Type 0} → (H → List ℕ → Type 0) → Connection → H → Step → Type 0
 StandsRightly may_wait k h (step.Searches requests) = KeepsWaiting may_wait k h × (requests ≡ k.requests)
+StandsRightly may_wait k h step.Holds = (k.state ≡ state.Looking) × HasRequest k
 StandsRightly may_wait k h other = WaitsRightly other k

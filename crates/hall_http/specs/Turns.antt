@@ -3,9 +3,9 @@ use Rattle.std.specs.Prelude.{◌≡◌, ◌≢◌, ◌≤◌, ◌==◌, ◌+◌
 use Rattle.std.specs.Prelude.{Option, Some, None, Bool, true, false}
 use Rattle.hall_http.specs.Limits.{most_reads, most_requests, most_waiting}
 use Rattle.hall_http.specs.Served.{HaveRead, MayGoOn, refusal}
-use Rattle.hall_http.specs.Connection.{Exchange, AreMoments, AreOpen, requests_of, replies_of}
-use Rattle.hall_http.specs.Resting.{RestingSession, still}
-use Rattle.hall_http.specs.Steps.{WaitsRightly, gated}
+use Rattle.hall_http.specs.Connection.{Exchange, AreOpen, requests_of, replies_of, of_groups}
+use Rattle.hall_http.specs.Resting.{IsGroup, RestingGroups, RestingSession, still}
+use Rattle.hall_http.specs.Steps.{WaitsRightly, gated, gated_group}
 use Rattle.hall_http.specs.Head.{IsWholeRequest, IsUnfinished, HasNoWholeRequest, NeverHas}
 use Rattle.hall_http.specs.History.{ConnectionHistory, HasHistory, Ends, told_at}
 use Rattle.hall_http.specs.Peer.{Traffic, IsLater, IsOver}
@@ -108,43 +108,46 @@ pub record IsClientKept {P : Type 0} (traffic : P → Traffic) (k l : Client P) 
   pub later : IsLater (traffic k.peer) (traffic l.peer)
   pub kept : (xs : List Exchange) → IsClient traffic xs k → IsClient traffic xs l
 
--- others may be answered after it
-abbrev pub goes_on : Step → Bool
-goes_on step.Shut = false
-goes_on _ = true
-
 -- a connection is over after its turn only where no more goes to its peer; or where that was told that no more is sent,
 -- and no more comes of it
 abbrev pub IsOverRightly : Step → Traffic → Type 0
 IsOverRightly step.Over t = IsOver t
 IsOverRightly _ t = Unit {0}
 
--- it went a step without an answer, after which others may be answered, and it waits for what it is at
+-- it went a step without an answer, and it waits for what it is at
 abbrev pub IsMoved : {P : Type 0} → (P → Traffic) → Client P → Step → Client P → Type 0
 IsMoved traffic k step l =
-    (goes_on step ≡ true) × IsClientKept traffic k l × IsOverRightly step (traffic l.peer)
-    × WaitsRightly step l.connection
+    IsClientKept traffic k l × IsOverRightly step (traffic l.peer) × WaitsRightly step l.connection
 
--- how requests are answered: what a responder may answer, how it rests, and what a clock gives
-pub record Service (H C : Type 0) : Type 1 where
+-- how requests are answered: what a responder may answer, alone or together, and how it rests
+pub record Service (H : Type 0) : Type 1 where
   pub answers : H → Option ℕ → List ℕ → List ℕ → H → Type 0
+  pub joins : H → List Exchange → H → Type 0
   pub rests : H → H → Type 0
-  pub now_gives : C → Option ℕ → C → Type 0
 
 -- by a responder that answers while it goes on
-abbrev pub service_of : {H C : Type 0} → (H → Option ℕ → List ℕ → List ℕ → H → Type 0) → (H → List ℕ → H → Type 0)
-    → (H → H → Type 0) → (C → Option ℕ → C → Type 0) → Service (H × Bool) C
-service_of answers goes_on rests now_gives =
-    record { answers = gated answers goes_on; rests = still rests; now_gives = now_gives }
+abbrev pub service_of : {H : Type 0} → (H → Option ℕ → List ℕ → List ℕ → H → Type 0)
+    → (H → List Exchange → H → Type 0) → (H → List ℕ → H → Type 0) → (H → H → Type 0) → Service (H × Bool)
+service_of answers joins goes_on rests =
+    record { answers = gated answers goes_on; joins = gated_group joins goes_on; rests = still rests }
 
--- some more of its requests were answered, one after another, it is the same connection, later on, and it stands so
-pub record IsTurned {H C P : Type 0} (service : Service H C) (traffic : P → Traffic) (before : H × C) (k : Client P)
-    (after : H × C) (l : Client P) (step : Step) : Type 0 where
+-- these requests were answered, in some groups, one after another, with rests before, between and after them
+abbrev pub GroupedSession : {H : Type 0} → Service H → H → List Exchange → H → Type 0
+GroupedSession service h xs i =
+    (groups : List (List Exchange)) × (of_groups groups ≡ xs)
+    × RestingGroups (IsGroup service.answers service.joins) service.rests h groups i
+
+-- none of these requests, or one, at the moment
+abbrev pub IsOneAt : Option ℕ → List Exchange → Type 0
+IsOneAt moment more = (more ≡ []) ⊎ ((x : Exchange) × (more ≡ x ∷ []) × (x.moment ≡ moment))
+
+-- a request of it was answered at the moment, or none was, and it is the same connection, later on
+pub record IsClientAnswered {H P : Type 0} (service : Service H) (traffic : P → Traffic) (moment : Option ℕ)
+    (before : H) (k : Client P) (after : H) (l : Client P) : Type 0 where
   pub later : IsLater (traffic k.peer) (traffic l.peer)
-  pub over : IsOverRightly step (traffic l.peer)
-  pub turned : (xs : List Exchange) → IsClient traffic xs k
-      → (more : List Exchange) × RestingSession service.answers service.rests before.0 more after.0
-      × AreMoments service.now_gives before.1 more after.1 × IsClient traffic (xs ++ more) l
+  pub answered : (xs : List Exchange) → IsClient traffic xs k
+      → (more : List Exchange) × IsOneAt moment more
+      × RestingSession service.answers service.rests before more after × IsClient traffic (xs ++ more) l
 
 -- the connection at a place, if there is one, was answered nothing more
 abbrev pub IsPlaceKept : {P : Type 0} → (P → Traffic) → Option (Client P) → Option (Client P) → Type 0
@@ -152,9 +155,9 @@ IsPlaceKept {P} traffic old new =
     ((old ≡ None) × (new ≡ None))
     ⊎ ((k l : Client P) × (old ≡ Some k) × (new ≡ Some l) × IsClientKept traffic k l)
 
--- the connection at a place had its turn, if there is one
-abbrev pub IsPlaceTurned : {H C P : Type 0} → Service H C → (P → Traffic) → H × C → Option (Client P) → H × C
-    → Option (Client P) → Step → Type 0
-IsPlaceTurned {H} {C} {P} service traffic before old after new step =
+-- so it is of the connection at a place, if there is one
+abbrev pub IsPlaceAnswered : {H P : Type 0} → Service H → (P → Traffic) → Option ℕ → H → Option (Client P) → H
+    → Option (Client P) → Type 0
+IsPlaceAnswered {H} {P} service traffic moment before old after new =
     ((old ≡ None) × (new ≡ None) × (after ≡ before))
-    ⊎ ((k l : Client P) × (old ≡ Some k) × (new ≡ Some l) × IsTurned service traffic before k after l step)
+    ⊎ ((k l : Client P) × (old ≡ Some k) × (new ≡ Some l) × IsClientAnswered service traffic moment before k after l)

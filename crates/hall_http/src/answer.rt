@@ -177,8 +177,7 @@ fn answer_request<S: Store>(
     }
 }
 
-/// The answer to a request that was refused. Where it asks anything of the store, that is asked whether it serves on;
-/// out of memory for that, it is taken for shut.
+/// The answer to a request that was refused. Where it asks anything of the store, that is asked whether it serves on.
 fn unavailable<S: Store>(alloc: Global, desk: &mut Desk<S>, request: &Request) -> Answer
     ensures kept { Kept (S.content (kept_by desk.old)) (S.content (kept_by desk.new)) }
     ensures text { answer_text result ≡ answer_text Answer.Unavailable }
@@ -190,14 +189,25 @@ fn unavailable<S: Store>(alloc: Global, desk: &mut Desk<S>, request: &Request) -
     if is_nobodys(request) {
         return Answer::Unavailable;
     }
+    if serves_on(alloc, desk) {
+        return Answer::Unavailable;
+    }
+    Answer::Shut
+}
+
+/// Whether the store serves on. Out of memory to ask it, it is taken for shut.
+pub(crate) fn serves_on<S: Store>(alloc: Global, desk: &mut Desk<S>) -> bool
+    ensures kept { Kept (S.content (kept_by desk.old)) (S.content (kept_by desk.new)) }
+    ensures serves { result ≡ true → (S.content (kept_by desk.new)).honest → (S.content (kept_by desk.new)).serves }
+{
     match desk.still_serves(alloc) {
-        Ok(true) => Answer::Unavailable,
-        Ok(false) | Err(_) => Answer::Shut,
+        Ok(serves) => serves,
+        Err(_) => false,
     }
 }
 
 /// Whether nobody may make the request: it has no key, and asks for no table.
-fn is_nobodys(request: &Request) -> bool
+pub(crate) fn is_nobodys(request: &Request) -> bool
     ensures nobodys { result ≡ true → IsNobodys request.now }
     ensures others { result ≡ false → IsNobodys request.now → ⊥ }
 {
@@ -251,7 +261,7 @@ fn answer_of(text: String, request: &Request) -> Answer
 }
 
 /// Whether the text is the reply 503.
-fn is_unavailable(text: &str) -> bool
+pub(crate) fn is_unavailable(text: &str) -> bool
     ensures yes { result ≡ true → IsUnavailable text.now }
     ensures no { result ≡ false → ¬ (IsUnavailable text.now) }
 {

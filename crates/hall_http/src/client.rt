@@ -1,22 +1,27 @@
 //! One connection and the other side of it.
-ghost use Rattle.std.specs.Prelude.{◌≡◌, List};
+ghost use Rattle.std.specs.Prelude.{◌≡◌, ◌++◌, ◌∷◌, ℕ, List, Some};
+ghost use Rattle.hall_http.specs.Group.{Awaits, JoinsAt, answered_at, recording};
 ghost use Rattle.hall_http.specs.Steps.{StandsRightly};
 ghost use Rattle.hall_http.specs.Peer.{IsUntouched};
-ghost use Rattle.hall_http.specs.Turns.{IsClient, IsClientKept, IsMoved, IsTurned, goes_on, service_of};
+ghost use Rattle.hall_http.specs.Progress.{AnswersFirst, Goes, TakesTurn};
+ghost use Rattle.hall_http.specs.Resting.{HasRested};
+ghost use Rattle.hall_http.specs.Turns.{IsClient, IsClientAnswered, IsClientKept, IsMoved, IsOverRightly, service_of};
 ghost use Rattle.hall_http.specs.Connection.{Exchange};
 ghost use Rattle.std.specs.Prelude.{[], Option, true, false};
 ghost use Rattle.hall_http.specs.declared.client.Step.TheVariants as Step;
 ghost use Rattle.hall_http.specs.declared.connection.State.TheVariants as State;
 ghost use Rattle.hall_http.specs.declared.connection.ServeEnd.{ServeEnd};
 
-use crate::connection::{Clock, Connection, ServeEnd, State};
+use crate::connection::{Connection, Joined, ServeEnd, State};
 use crate::inbox::Inbox;
 use crate::peer::{Moved, Peer};
 use crate::responder::Responder;
 use crate::routes::Routes;
+use hall_policy::Moment;
+use hall_store::JointAnswers;
 use std::alloc::Global;
 
-/// The most steps of a turn: enough for a request to be read, answered and sent.
+/// The most steps of a turn: enough for a reply to be sent and a request to be read.
 const STEPS: usize = 5;
 
 /// What a connection waits for.
@@ -45,23 +50,10 @@ pub enum Step {
     Waits { wish: Wish, requests: usize },
     /// Its request, after so many, needs more work before it is answered, at further turns.
     Searches { requests: usize },
+    /// A whole request of it waits to be answered.
+    Holds,
     /// It is over.
     Over,
-    /// It was answered by a store that serves no more, and nobody is answered after it.
-    Shut,
-}
-
-impl Step {
-    /// Whether others may be answered after it.
-    pub(crate) fn goes_on(self) -> bool
-        ensures { result ≡ goes_on self }
-    {
-        match self {
-            Step::Shut => false,
-            Step::Again | Step::Leaves | Step::Waits { .. } | Step::Searches { .. } | Step::Over =>
-                true,
-        }
-    }
 }
 
 /// One connection and the other side of it.
@@ -90,21 +82,22 @@ impl<P: Peer> Client<P> {
         }
     }
 
-    /// Has its turn: goes some steps, until it would have to wait.
-    pub(crate) fn turn<H: Responder, C: Clock>(
+    /// Has its turn: goes some steps, until it would have to wait, or a whole request of it is to be answered.
+    pub(crate) fn turn<H: Responder>(
         &mut self,
         alloc: Global,
         routes: &Routes,
         responder: &mut H,
-        clock: &mut C,
     ) -> Step
         requires { (xs : List Exchange) × IsClient P.traffic xs self.old }
-        ensures turned { IsTurned (service_of H.answers H.goes_on H.rests C.now_gives) P.traffic
-            ((responder.old, true), clock.old) self.old ((responder.new, goes_on result), clock.new) self.new result }
+        ensures kept { IsClientKept P.traffic self.old self.new }
+        ensures rests { HasRested H.rests responder.old responder.new }
+        ensures over { IsOverRightly result (P.traffic self.new.peer) }
         ensures stands { StandsRightly H.may_wait self.new.connection responder.new result }
+        ensures takes { TakesTurn P.traffic self.old result self.new }
     {
         for _step in 0..STEPS {
-            match self.step(alloc, routes, responder, clock) {
+            match self.step(alloc, routes, responder) {
                 Step::Again => {}
                 step => return step,
             }
@@ -113,50 +106,99 @@ impl<P: Peer> Client<P> {
     }
 
     /// Goes one step: looks at what waits, reads once, or sends once, none of which has to wait for the other side.
-    fn step<H: Responder, C: Clock>(
-        &mut self,
-        alloc: Global,
-        routes: &Routes,
-        responder: &mut H,
-        clock: &mut C,
-    ) -> Step
+    fn step<H: Responder>(&mut self, alloc: Global, routes: &Routes, responder: &mut H) -> Step
         requires { (xs : List Exchange) × IsClient P.traffic xs self.old }
-        ensures turned { IsTurned (service_of H.answers H.goes_on H.rests C.now_gives) P.traffic
-            ((responder.old, true), clock.old) self.old ((responder.new, goes_on result), clock.new) self.new result }
+        ensures kept { IsClientKept P.traffic self.old self.new }
+        ensures rests { HasRested H.rests responder.old responder.new }
+        ensures over { IsOverRightly result (P.traffic self.new.peer) }
         ensures stands { StandsRightly H.may_wait self.new.connection responder.new result }
+        ensures goes { Goes P.traffic 1 self.old result self.new }
     {
         match self.connection.state() {
-            State::Looking => self.look(alloc, routes, responder, clock),
+            State::Looking => self.look(alloc, routes, responder),
             State::Reading => self.read(),
             State::Writing(_) => self.write(),
             State::Ended(_) => self.leave(),
         }
     }
 
-    /// Looks at what waits; but a request that needs more work is kept waiting.
-    fn look<H: Responder, C: Clock>(
-        &mut self,
-        alloc: Global,
-        routes: &Routes,
-        responder: &mut H,
-        clock: &mut C,
-    ) -> Step
+    /// Looks at what waits. A whole request is to be answered; but one that needs more work is kept waiting.
+    fn look<H: Responder>(&mut self, alloc: Global, routes: &Routes, responder: &mut H) -> Step
         requires kept { (xs : List Exchange) × IsClient P.traffic xs self.old }
         requires at { self.old.connection.state ≡ State.Looking }
-        ensures turned { IsTurned (service_of H.answers H.goes_on H.rests C.now_gives) P.traffic
-            ((responder.old, true), clock.old) self.old ((responder.new, goes_on result), clock.new) self.new result }
+        ensures kept { IsClientKept P.traffic self.old self.new }
+        ensures rests { HasRested H.rests responder.old responder.new }
+        ensures over { IsOverRightly result (P.traffic self.new.peer) }
         ensures stands { StandsRightly H.may_wait self.new.connection responder.new result }
+        ensures goes { Goes P.traffic 1 self.old result self.new }
     {
         if !self.connection.prepare(alloc, routes, responder) {
             return Step::Searches {
                 requests: self.connection.requests,
             };
         }
-        if self.connection.look(alloc, routes, responder, clock) {
-            Step::Again
+        if self.connection.finds_request() {
+            Step::Holds
         } else {
-            Step::Shut
+            Step::Again
         }
+    }
+
+    /// The request that waits, if one does, is answered as one that was heard at the moment, and its reply is sent
+    /// once; but one that needs more work isn't answered. The result is whether the responder goes on.
+    pub(crate) fn answer<H: Responder>(
+        &mut self,
+        alloc: Global,
+        routes: &Routes,
+        responder: &mut H,
+        moment: Option<Moment>,
+    ) -> bool
+        requires { (xs : List Exchange) × IsClient P.traffic xs self.old }
+        ensures answered { IsClientAnswered (service_of H.answers H.joins H.goes_on H.rests) P.traffic moment
+            (responder.old, true) self.old (responder.new, result) self.new }
+        ensures first { AnswersFirst H.may_wait self.old responder.new self.new }
+    {
+        let State::Looking = self.connection.state() else {
+            return true;
+        };
+        if !self.connection.prepare(alloc, routes, responder) {
+            return true;
+        }
+        let goes_on = self.connection.answer(alloc, routes, responder, moment);
+        self.finish();
+        goes_on
+    }
+
+    /// The request that waits, if one does, joins those that are to be answered together, if it can. Only reads the
+    /// connection.
+    pub(crate) fn join<H: Responder>(
+        &self,
+        alloc: Global,
+        routes: &Routes,
+        responder: &mut H,
+        joint: &mut JointAnswers,
+        moment: Option<Moment>,
+    ) -> Option<Joined>
+        ensures rests { HasRested H.rests responder.old responder.new }
+        ensures joined { (xs : List Exchange) → H.have_joined xs joint.old responder.old →
+            JoinsAt H.have_joined xs (Some self.now) moment result joint.new responder.new }
+    {
+        let State::Looking = self.connection.state() else {
+            return None;
+        };
+        self.connection
+            .join(alloc, routes, responder, joint, moment)
+    }
+
+    /// The request that waits is answered so, and its reply is sent once.
+    pub(crate) fn accept(&mut self, joined: Joined)
+        requires kept { (xs : List Exchange) × IsClient P.traffic xs self.old }
+        requires awaits { Awaits (Some self.old) joined }
+        ensures { (told : List Exchange) (moment : Option ℕ) → IsClientAnswered recording P.traffic moment told self.old
+            (told ++ answered_at (Some self.old) moment joined ∷ []) self.new }
+    {
+        self.connection.accept(joined);
+        self.finish();
     }
 
     /// It waits for this.
@@ -173,7 +215,8 @@ impl<P: Peer> Client<P> {
     fn read(&mut self) -> Step
         requires kept { (xs : List Exchange) × IsClient P.traffic xs self.old }
         requires at { self.old.connection.state ≡ State.Reading }
-        ensures { IsMoved P.traffic self.old result self.new }
+        ensures moved { IsMoved P.traffic self.old result self.new }
+        ensures goes { Goes P.traffic 1 self.old result self.new }
     {
         let mut chunk = [0u8; 4096];
         match self.peer.receive(&mut chunk) {
@@ -191,7 +234,8 @@ impl<P: Peer> Client<P> {
     fn write(&mut self) -> Step
         requires kept { (xs : List Exchange) × IsClient P.traffic xs self.old }
         requires at { (ending : Option ServeEnd) × (self.old.connection.state ≡ State.Writing ending) }
-        ensures { IsMoved P.traffic self.old result self.new }
+        ensures moved { IsMoved P.traffic self.old result self.new }
+        ensures goes { Goes P.traffic 1 self.old result self.new }
     {
         if self.connection.pending().is_empty() {
             self.connection.sent(0);
@@ -210,7 +254,8 @@ impl<P: Peer> Client<P> {
     fn leave(&mut self) -> Step
         requires kept { (xs : List Exchange) × IsClient P.traffic xs self.old }
         requires at { (end : ServeEnd) × (self.old.connection.state ≡ State.Ended end) }
-        ensures { IsMoved P.traffic self.old result self.new }
+        ensures moved { IsMoved P.traffic self.old result self.new }
+        ensures goes { Goes P.traffic 1 self.old result self.new }
     {
         self.hang_up();
         if self.is_over {
@@ -222,7 +267,8 @@ impl<P: Peer> Client<P> {
     /// Sends once more, where a reply waits.
     pub(crate) fn finish(&mut self)
         requires { (xs : List Exchange) × IsClient P.traffic xs self.old }
-        ensures { IsClientKept P.traffic self.old self.new }
+        ensures kept { IsClientKept P.traffic self.old self.new }
+        ensures requests { self.new.connection.requests ≡ self.old.connection.requests }
     {
         if let State::Writing(_) = self.connection.state() {
             let _step = self.write();
@@ -237,6 +283,7 @@ impl<P: Peer> Client<P> {
         ensures over { self.new.is_over ≡ self.old.is_over }
         ensures hung_up { (P.traffic self.new.peer).hung_up ≡ true }
         ensures kept { IsClientKept P.traffic self.old self.new }
+        ensures calls { (P.traffic self.new.peer).calls ≡ (P.traffic self.old.peer).calls }
     {
         if self.is_leaving {
             return;
@@ -250,7 +297,8 @@ impl<P: Peer> Client<P> {
         requires at { (end : ServeEnd) × (self.old.connection.state ≡ State.Ended end) }
         requires unended { self.old.is_over ≡ false }
         requires hung_up { (P.traffic self.old.peer).hung_up ≡ true }
-        ensures { IsMoved P.traffic self.old result self.new }
+        ensures moved { IsMoved P.traffic self.old result self.new }
+        ensures goes { Goes P.traffic 1 self.old result self.new }
     {
         let mut chunk = [0u8; 4096];
         match self.peer.receive(&mut chunk) {

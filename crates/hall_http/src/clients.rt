@@ -1,26 +1,39 @@
 //! The open connections, each at a place of its own.
-ghost use Rattle.std.specs.Prelude.{◌≡◌, ◌<◌, ℕ, List, [], IfOk, None, Some, length, slice_set, false, true};
+ghost use Rattle.std.specs.Prelude.{◌≡◌, ◌<◌, ◌∷◌, ℕ, List, [], IfOk, None, Some, get_or, length, slice_set};
+ghost use Rattle.std.specs.Prelude.{◌≢◌, ◌++◌, Option, false, true};
+ghost use Rattle.hall_http.specs.Group.{Awaits, JoinsAt, answered_at, recording};
+ghost use Rattle.hall_http.specs.Progress.{AnswersFirstAt, TakesTurnAt};
 ghost use Rattle.hall_http.specs.Connection.{Exchange};
 ghost use Rattle.hall_http.specs.Crowd.{Admits, AllLeave, AnswersNoMore, AreGone, AreKept, AreSomeKept, IsAt, IsFree};
 ghost use Rattle.hall_http.specs.Crowd.{MayGo, MayLose, MayTurnAway, Receives, Serves};
 ghost use Rattle.hall_http.specs.Peer.{IsUntouched};
+ghost use Rattle.hall_http.specs.Resting.{HasRested};
 ghost use Rattle.hall_http.specs.Steps.{StandsRightly};
-ghost use Rattle.hall_http.specs.Turns.{IsClient, IsOverRightly, IsPlaceKept, IsPlaceTurned, goes_on, service_of};
+ghost use Rattle.hall_http.specs.Turns.{IsClient, IsOverRightly, IsPlaceAnswered, IsPlaceKept, service_of};
 ghost use Rattle.hall_http.specs.declared.client.Client.{Client};
 ghost use Rattle.hall_http.specs.declared.client.Step.TheVariants as Step;
 ghost use Rattle.hall_http.specs.declared.clients.Away.TheVariants as Away;
 
 use crate::client::{Client, Step};
-use crate::connection::Clock;
+use crate::connection::Joined;
 use crate::inbox::{Inbox, NoInbox};
 use crate::peer::{Closed, Peer};
 use crate::responder::Responder;
 use crate::routes::Routes;
+use hall_policy::Moment;
+use hall_store::JointAnswers;
 use http_server::Log;
 use std::alloc::{AllocError, Global};
 
 /// The most open connections. A process may usually have 1,024 files open.
 pub(crate) const MOST_CLIENTS: usize = 500;
+
+/// A connection's place, and the moment at which its request was heard.
+#[derive(Clone, Copy, Drop)]
+pub(crate) struct HeldRequest {
+    pub(crate) place: usize,
+    pub(crate) moment: Option<Moment>,
+}
 
 /// Why a newcomer was turned away.
 #[derive(Drop)]
@@ -63,23 +76,75 @@ pub(crate) struct Clients<P> {
 }
 
 /// The connection there, if there is one, has its turn.
-fn turn_at<P: Peer, H: Responder, C: Clock>(
+fn turn_at<P: Peer, H: Responder>(
     place: &mut Option<Client<P>>,
     alloc: Global,
     routes: &Routes,
     responder: &mut H,
-    clock: &mut C,
 ) -> Step
     requires { (k : Client P) → place.old ≡ Some k → (xs : List Exchange) × IsClient P.traffic xs k }
-    ensures turned { IsPlaceTurned (service_of H.answers H.goes_on H.rests C.now_gives) P.traffic
-        ((responder.old, true), clock.old) place.old ((responder.new, goes_on result), clock.new) place.new result }
+    ensures kept { IsPlaceKept P.traffic place.old place.new }
+    ensures rests { HasRested H.rests responder.old responder.new }
+    ensures over { (k : Client P) → place.new ≡ Some k → IsOverRightly result (P.traffic k.peer) }
     ensures stands { (k : Client P) → place.new ≡ Some k →
         StandsRightly H.may_wait k.connection responder.new result }
     ensures none { place.new ≡ None → result ≡ Step.Over }
+    ensures takes { TakesTurnAt P.traffic place.old result place.new }
 {
     match place {
-        Some(client) => client.turn(alloc, routes, responder, clock),
+        Some(client) => client.turn(alloc, routes, responder),
         None => Step::Over,
+    }
+}
+
+/// The request of the connection there, if there is one, is answered as one that was heard at the moment.
+fn answer_at<P: Peer, H: Responder>(
+    place: &mut Option<Client<P>>,
+    alloc: Global,
+    routes: &Routes,
+    responder: &mut H,
+    moment: Option<Moment>,
+) -> bool
+    requires { (k : Client P) → place.old ≡ Some k → (xs : List Exchange) × IsClient P.traffic xs k }
+    ensures answered { IsPlaceAnswered (service_of H.answers H.joins H.goes_on H.rests) P.traffic moment
+        (responder.old, true) place.old (responder.new, result) place.new }
+    ensures first { AnswersFirstAt H.may_wait place.old responder.new place.new }
+{
+    match place {
+        Some(client) => client.answer(alloc, routes, responder, moment),
+        None => true,
+    }
+}
+
+/// The request of the connection there, if there is one, joins those that are to be answered together, if it can.
+fn join_at<P: Peer, H: Responder>(
+    place: &Option<Client<P>>,
+    alloc: Global,
+    routes: &Routes,
+    responder: &mut H,
+    joint: &mut JointAnswers,
+    moment: Option<Moment>,
+) -> Option<Joined>
+    ensures rests { HasRested H.rests responder.old responder.new }
+    ensures joined { (xs : List Exchange) → H.have_joined xs joint.old responder.old →
+        JoinsAt H.have_joined xs place.now moment result joint.new responder.new }
+{
+    match place {
+        Some(client) => client.join(alloc, routes, responder, joint, moment),
+        None => None,
+    }
+}
+
+/// The request of the connection there is answered so.
+fn accept_at<P: Peer>(place: &mut Option<Client<P>>, joined: Joined)
+    requires kept { (k : Client P) → place.old ≡ Some k → (xs : List Exchange) × IsClient P.traffic xs k }
+    requires awaits { Awaits place.old joined }
+    ensures { (told : List Exchange) (moment : Option ℕ) → IsPlaceAnswered recording P.traffic moment told place.old
+        (told ++ answered_at place.old moment joined ∷ []) place.new }
+{
+    match place {
+        Some(client) => client.accept(joined),
+        None => unreachable!(),
     }
 }
 
@@ -156,28 +221,92 @@ impl<P: Peer + Drop> Clients<P> {
     }
 
     /// The connection at the place has its turn.
-    pub(crate) fn turn<H: Responder, C: Clock>(
+    pub(crate) fn turn<H: Responder>(
         &mut self,
         alloc: Global,
         routes: &Routes,
         place: usize,
         responder: &mut H,
-        clock: &mut C,
     ) -> Step
         requires { AreSomeKept P.traffic self.old }
-        ensures serves { Serves (service_of H.answers H.goes_on H.rests C.now_gives) P.traffic place
-            ((responder.old, true), clock.old) self.old ((responder.new, goes_on result), clock.new) self.new }
+        ensures kept { AnswersNoMore P.traffic self.old self.new }
+        ensures rests { HasRested H.rests responder.old responder.new }
         ensures over { (k : Client P) → IsAt self.new place k → IsOverRightly result (P.traffic k.peer) }
         ensures stands { (k : Client P) → IsAt self.new place k →
             StandsRightly H.may_wait k.connection responder.new result }
         ensures none { IsFree self.new place → result ≡ Step.Over }
+        ensures takes { TakesTurnAt P.traffic (get_or self.old.places.items place None) result
+            (get_or self.new.places.items place None) }
         ensures gone { self.new.gone ≡ self.old.gone }
         ensures long { length self.new.places.items ≡ length self.old.places.items }
     {
         if place >= self.places.len() {
             return Step::Over;
         }
-        turn_at(&mut self.places[place], alloc, routes, responder, clock)
+        turn_at(&mut self.places[place], alloc, routes, responder)
+    }
+
+    /// The request that is held is answered, if it still waits. The result is whether the responder goes on.
+    pub(crate) fn answer<H: Responder>(
+        &mut self,
+        alloc: Global,
+        routes: &Routes,
+        held: &HeldRequest,
+        responder: &mut H,
+    ) -> bool
+        requires { AreSomeKept P.traffic self.old }
+        ensures serves { Serves (service_of H.answers H.joins H.goes_on H.rests) P.traffic (held.now ∷ [])
+            (responder.old, true) self.old (responder.new, result) self.new }
+        ensures first { AnswersFirstAt H.may_wait (get_or self.old.places.items held.now.place None) responder.new
+            (get_or self.new.places.items held.now.place None) }
+        ensures gone { self.new.gone ≡ self.old.gone }
+        ensures long { length self.new.places.items ≡ length self.old.places.items }
+    {
+        if held.place >= self.places.len() {
+            return true;
+        }
+        let place = &mut self.places[held.place];
+        answer_at(place, alloc, routes, responder, held.moment)
+    }
+
+    /// The request that is held joins those that are to be answered together, if it can. Only reads the connections.
+    pub(crate) fn join<H: Responder>(
+        &self,
+        alloc: Global,
+        routes: &Routes,
+        held: &HeldRequest,
+        responder: &mut H,
+        joint: &mut JointAnswers,
+    ) -> Option<Joined>
+        ensures rests { HasRested H.rests responder.old responder.new }
+        ensures joined { (xs : List Exchange) → H.have_joined xs joint.old responder.old →
+            JoinsAt H.have_joined xs (get_or self.now.places.items held.now.place None) held.now.moment result
+            joint.new responder.new }
+    {
+        if held.place >= self.places.len() {
+            return None;
+        }
+        let place = &self.places[held.place];
+        join_at(place, alloc, routes, responder, joint, held.moment)
+    }
+
+    /// The request that is held is answered so.
+    pub(crate) fn accept(&mut self, held: &HeldRequest, joined: Joined)
+        requires kept { AreSomeKept P.traffic self.old }
+        requires awaits { Awaits (get_or self.old.places.items held.now.place None) joined }
+        ensures serves { (told : List Exchange) → Serves recording P.traffic (held.now ∷ []) told self.old
+            (told ++ answered_at (get_or self.old.places.items held.now.place None) held.now.moment joined ∷ [])
+            self.new }
+        ensures others { (place : ℕ) → place ≢ held.now.place →
+            get_or self.new.places.items place None ≡ get_or self.old.places.items place None }
+        ensures gone { self.new.gone ≡ self.old.gone }
+        ensures long { length self.new.places.items ≡ length self.old.places.items }
+    {
+        if held.place >= self.places.len() {
+            unreachable!();
+        }
+        let place = &mut self.places[held.place];
+        accept_at(place, joined);
     }
 
     /// Sends once more to each whose reply waits.

@@ -1,8 +1,8 @@
 //! The system's clock, as the clock of a connection.
-ghost use Rattle.std.specs.Prelude.{◌≡◌, IfOk, OnErr};
+ghost use Rattle.std.specs.Prelude.{◌≡◌, IfOk, OnErr, None, Some};
 ghost use Rattle.std.specs.Time.{system_time_nanos};
 ghost use Rattle.std.specs.declared.time.SystemTime.{SystemTime};
-ghost use Rattle.hall_http.specs.Clock.{moment_of_nanos, read_by, IsOfReading};
+ghost use Rattle.hall_http.specs.Clock.{moment_of_nanos, no_earlier, read_by, told_by, IsOfReading, IsToldOf};
 
 use crate::connection::Clock;
 use hall_policy::Moment;
@@ -41,28 +41,59 @@ impl<'t, T: time::Clock> WallClock for &'t T {
     }
 }
 
-/// The system's clock, in whole Unix seconds.
+/// The system's clock, in whole Unix seconds. It never goes back: a reading before the last moment counts as that.
 #[derive(Drop)]
 pub struct SystemClock<T> {
     time: T,
+    told: Option<Moment>,
 }
 
 impl<T: WallClock> SystemClock<T> {
-    /// The clock that reads the time of day there. It reads nothing yet.
+    /// The clock that reads the time of day there. It has read nothing yet.
     pub fn new(time: T) -> SystemClock<T>
-        ensures { read_by result ≡ time }
+        ensures time { read_by result ≡ time }
+        ensures told { told_by result ≡ None }
     {
-        SystemClock { time }
+        SystemClock { time, told: None }
     }
 }
 
-// A moment is that of one reading, made for it.
+impl<T> SystemClock<T> {
+    /// What is told of a reading of this moment, if it has one: no moment before the last one.
+    fn tell(&mut self, read: Option<Moment>) -> Option<Moment>
+        ensures told { IsToldOf read (told_by self.old) result (told_by self.new) }
+        ensures time { read_by self.new ≡ read_by self.old }
+    {
+        match read {
+            Some(read) => {
+                self.told = Some(no_earlier(self.told, read));
+                self.told
+            }
+            None => None,
+        }
+    }
+}
+
+/// The moment, or the last one, where that is later.
+fn no_earlier(last: Option<Moment>, moment: Moment) -> Moment
+    ensures { result ≡ no_earlier last moment }
+{
+    match last {
+        Some(last) if moment.get() < last.get() => last,
+        Some(_) | None => moment,
+    }
+}
+
+// A moment is that of one reading, made for it; or the last one, where that is later.
 impl<T: WallClock> Clock for SystemClock<T> {
     ghost now_gives = { λ before moment after.
         IsOfReading (λ reading. T.reads (read_by before) reading (read_by after))
-        (T.refuses (read_by before) (read_by after)) moment };
+        (T.refuses (read_by before) (read_by after)) (told_by before) moment (told_by after) };
 
     fn now(&mut self) -> Option<Moment> {
-        moment_of(self.time.read().ok()?)
+        match self.time.read() {
+            Ok(reading) => self.tell(moment_of(reading)),
+            Err(_) => self.tell(None),
+        }
     }
 }

@@ -1,20 +1,24 @@
 //! One connection as steps over bytes, with no read and no write of its own: what is heard is handed in, and what is to
 //! be told is handed out.
-ghost use Rattle.std.specs.Prelude.{◌≡◌, ◌≤◌, ◌<◌, ◌+◌, ℕ, Option, length, true, false};
+ghost use Rattle.std.specs.Prelude.{◌≡◌, ◌≤◌, ◌<◌, ◌+◌, ℕ, List, Option, length, true, false};
+ghost use Rattle.hall_http.specs.Connection.{Exchange};
 ghost use Rattle.hall_http.specs.Head.{IsUnfinishedBelow};
 ghost use Rattle.hall_http.specs.Limits.{most_reads, most_requests, most_waiting};
 ghost use Rattle.hall_http.specs.Outgoing.{outgoing_text};
 ghost use Rattle.hall_http.specs.Resting.{HasRested};
 ghost use Rattle.hall_http.specs.Steps.{pending, fresh, IsAfterHearing, IsAfterSending, IsAfterEnd, Looks, gated};
-ghost use Rattle.hall_http.specs.Steps.{KeepsWaiting, then_of, wish_of};
+ghost use Rattle.hall_http.specs.Steps.{Accepts, AnswersAt, Finds, JoinsFront, KeepsWaiting, StandsInFront, then_of};
+ghost use Rattle.hall_http.specs.Steps.{joined_told, wish_of};
 
+use crate::answer::Answer;
 use crate::client::Wish;
 use crate::head::{Cut, cut_from, cut_request};
 use crate::inbox::Inbox;
 use crate::outgoing::Outgoing;
-use crate::responder::Responder;
+use crate::responder::{GroupEnd, Responder};
 use crate::routes::Routes;
 use hall_policy::Moment;
+use hall_store::JointAnswers;
 use std::alloc::Global;
 
 /// The most requests of a connection.
@@ -70,6 +74,36 @@ pub(crate) struct Connection {
     pub(crate) requests: usize,
     pub(crate) reads: usize,
     pub(crate) state: State,
+}
+
+/// The whole request that stands at the front of what waits: how many bytes it has, whether the connection closes after
+/// it, and what answers it.
+#[derive(Drop)]
+pub(crate) struct Joined {
+    pub(crate) size: usize,
+    pub(crate) closes: bool,
+    pub(crate) answer: Answer,
+}
+
+impl Joined {
+    /// The same, with what it is told once the one write for it and others has ended so.
+    pub(crate) fn told(self, end: GroupEnd) -> Joined
+        ensures { result ≡ joined_told end self }
+    {
+        match end {
+            GroupEnd::Stored => self,
+            GroupEnd::Refused => Joined {
+                size: self.size,
+                closes: self.closes,
+                answer: Answer::Unavailable,
+            },
+            GroupEnd::Shut => Joined {
+                size: self.size,
+                closes: self.closes,
+                answer: Answer::Shut,
+            },
+        }
+    }
 }
 
 /// What comes after a request: whether it closes the connection, and how many there were.
@@ -170,6 +204,115 @@ impl Connection {
         }
     }
 
+    /// Whether a whole request waits. Where none does, bytes that are none are refused, and else more has to be read.
+    pub(crate) fn finds_request(&mut self) -> bool
+        requires { IsUnfinishedBelow self.old.least self.old.inbox }
+        ensures { Finds self.old result self.new }
+    {
+        match cut_from(self.inbox.unread(), self.least) {
+            Cut::Whole { .. } => true,
+            Cut::More(least) => {
+                self.least = least;
+                self.state = if self.reads == READ_LIMIT {
+                    State::Ended(ServeEnd::Limit)
+                } else {
+                    State::Reading
+                };
+                false
+            }
+            Cut::Never => {
+                self.reply = Outgoing::Refusal;
+                self.sent = 0;
+                self.state = State::Writing(Some(ServeEnd::BadHead));
+                false
+            }
+        }
+    }
+
+    /// The request that waits, if a whole one does, is answered as one that was heard at the moment. The result is
+    /// whether the responder goes on.
+    pub(crate) fn answer<H: Responder>(
+        &mut self,
+        alloc: Global,
+        routes: &Routes,
+        responder: &mut H,
+        moment: Option<Moment>,
+    ) -> bool
+        requires { self.old.requests ≤ most_requests }
+        ensures { AnswersAt (gated H.answers H.goes_on) moment (responder.old, true) self.old
+            (responder.new, result) self.new }
+    {
+        match cut_request(self.inbox.unread()) {
+            Cut::Whole { size, request } => {
+                let answer = responder.answer(alloc, routes, moment, &request);
+                let goes_on = answer.goes_on();
+                let closes = request.closes;
+                self.accept(Joined {
+                    size,
+                    closes,
+                    answer,
+                });
+                goes_on
+            }
+            Cut::More(_) => true,
+            Cut::Never => true,
+        }
+    }
+
+    /// The request that waits, if a whole one does, joins those that are to be answered together, if it can. Only reads
+    /// the connection.
+    pub(crate) fn join<H: Responder>(
+        &self,
+        alloc: Global,
+        routes: &Routes,
+        responder: &mut H,
+        joint: &mut JointAnswers,
+        moment: Option<Moment>,
+    ) -> Option<Joined>
+        ensures rests { HasRested H.rests responder.old responder.new }
+        ensures joined { (xs : List Exchange) → H.have_joined xs joint.old responder.old →
+            JoinsFront H.have_joined xs moment self.now result joint.new responder.new }
+    {
+        let unread = self.inbox.unread();
+        if !unread.starts_with(b"PUT ") {
+            return None;
+        }
+        match cut_request(unread) {
+            Cut::Whole { size, request } => {
+                let closes = request.closes;
+                match responder.join(alloc, routes, joint, moment, &request) {
+                    Some(answer) => Some(Joined {
+                        size,
+                        closes,
+                        answer,
+                    }),
+                    None => None,
+                }
+            }
+            Cut::More(_) => None,
+            Cut::Never => None,
+        }
+    }
+
+    /// The request at the front of what waits is answered so.
+    pub(crate) fn accept(&mut self, joined: Joined)
+        requires few { self.old.requests ≤ most_requests }
+        requires front { StandsInFront self.old joined }
+        ensures { Accepts self.old joined self.new }
+    {
+        let Joined {
+            size,
+            closes,
+            answer,
+        } = joined;
+        self.reply = Outgoing::Reply(answer);
+        self.requests += 1;
+        self.state = State::Writing(then_of(closes, self.requests));
+        self.inbox.pass(size);
+        self.sent = 0;
+        self.least = 0;
+    }
+
     /// Looks at what waits: a whole request is answered, bytes that are none are refused, and else more has to be
     /// read. The result is whether the responder goes on.
     pub(crate) fn look<H: Responder, C: Clock>(
@@ -184,35 +327,11 @@ impl Connection {
         ensures { Looks (gated H.answers H.goes_on) C.now_gives ((responder.old, true), clock.old) self.old
             ((responder.new, result), clock.new) self.new }
     {
-        match cut_from(self.inbox.unread(), self.least) {
-            Cut::Whole { size, request } => {
-                let moment = clock.now();
-                let answer = responder.answer(alloc, routes, moment, &request);
-                let goes_on = answer.goes_on();
-                self.reply = Outgoing::Reply(answer);
-                self.requests += 1;
-                self.state = State::Writing(then_of(request.closes, self.requests));
-                self.inbox.pass(size);
-                self.sent = 0;
-                self.least = 0;
-                goes_on
-            }
-            Cut::More(least) => {
-                self.least = least;
-                self.state = if self.reads == READ_LIMIT {
-                    State::Ended(ServeEnd::Limit)
-                } else {
-                    State::Reading
-                };
-                true
-            }
-            Cut::Never => {
-                self.reply = Outgoing::Refusal;
-                self.sent = 0;
-                self.state = State::Writing(Some(ServeEnd::BadHead));
-                true
-            }
+        if !self.finds_request() {
+            return true;
         }
+        let moment = clock.now();
+        self.answer(alloc, routes, responder, moment)
     }
 
     /// The bytes that wait to be sent.

@@ -1,16 +1,22 @@
 //! The system's sockets: who comes, whose turn it is, and who has waited too long.
-ghost use Rattle.std.specs.Prelude.{◌≡◌, ◌≤◌, ◌+◌, IfOk, IfSome, true};
-ghost use Rattle.hall_http.specs.Limits.{most_counted};
+ghost use Rattle.std.specs.Prelude.{◌≡◌, ◌++◌, ◌⊎◌, ℕ, [], ◌∷◌, IfNone, IfOk, IfSome, Option, None, Some, false, get_or};
+ghost use Rattle.std.specs.Prelude.{nat_lt, true};
+ghost use Rattle.hall_http.specs.Looks.{IsHeardOut, TellsAll, counted, passed_since, read_after};
+ghost use Rattle.hall_http.specs.declared.event_loop.Look.TheVariants as Look;
 ghost use Rattle.hall_http.specs.declared.server.Next.TheVariants as Next;
 ghost use Rattle.hall_http.specs.Coming.{logged};
-ghost use Rattle.hall_http.specs.Places.{HasExpired, MayMakeRoom};
+ghost use Rattle.hall_http.specs.Queue.{called, waits_in};
+ghost use Rattle.hall_http.specs.Seats.{AreCalled, CallsOne, GoesFirst, IsInLine, IsReadyInLine, MayCall, MayGoBy};
+ghost use Rattle.hall_http.specs.declared.places.Visit.TheVariants.{Waiting};
+ghost use Rattle.hall_http.specs.declared.places.Wait.{Wait};
+ghost use Rattle.hall_http.specs.Places.{HasExpired, HasLeft};
 ghost use Rattle.hall_http.specs.Seats.{AreFresh, AreLetGo, AreStill, HasHeard, HaveAllGone, IsOpen, MayLetGo};
 ghost use Rattle.hall_http.specs.Seats.{IsUnheard, StandsAt};
 
 use crate::client::{Step, Wish};
-use crate::clients::MOST_CLIENTS;
 use crate::device::write_all;
 use crate::places::{LONGEST_ROUND, Places, Visit};
+use crate::queue::{Motion, Queue};
 use crate::server::{Next, Sockets};
 use crate::socket::Socket;
 use hall_grid::Counted;
@@ -18,7 +24,6 @@ use http_server::Log;
 use mio::event::Event;
 use mio::net::{TcpListener, TcpStream};
 use mio::{Events, Interest, Poll, Token};
-use std::collections::VecDeque;
 use std::io::{ErrorKind, Write};
 use std::net::{Net, SocketAddr};
 use std::time::Duration;
@@ -41,6 +46,19 @@ const LAST: u64 = 1 << 62;
 
 /// How often at most the sockets are asked again for what else befell them.
 const MOST_ASKED: usize = 4;
+
+/// How often requests are answered while some always are held, until one who searches has a turn: else a crowd would
+/// keep a search waiting as long as it lasts.
+const MOST_ANSWERS: usize = 16;
+
+/// What is asked, and what the clock told.
+#[derive(Clone, Copy)]
+enum Look {
+    /// The clock: its millisecond, where it could be read; and whether nobody's patience had ended by then.
+    Clock { read: Option<u64>, is_quiet: bool },
+    /// The sockets, for so many milliseconds at most.
+    Sockets { patience: Option<u64> },
+}
 
 /// Whether newcomers wait.
 #[derive(Clone, Copy, PartialEq, Eq)]
@@ -71,6 +89,7 @@ pub struct EventLoop<'r, N, E> {
     journal: Option<Counted<E>>,
     refuses_writes: bool,
     ghost lets_go: { AreLetGo (logged nexts) schedule.places },
+    ghost in_line: { AreCalled (logged nexts) schedule.ready },
 }
 
 /// Who is here and who waits, and whose turn it is.
@@ -83,18 +102,27 @@ struct Schedule<'r, N> {
     backlog: Backlog,
     places: Places,
     /// The places of those who are ready, in the order in which they became so.
-    ready: VecDeque<usize>,
+    ready: Queue,
     /// The places of those whose requests need more work. One of them has its turn in a round, after all who are
-    /// ready.
-    searching: VecDeque<usize>,
-    /// How many of them have their turn before the sockets are asked again.
+    /// ready, where nothing is held; and where something always is, after so many answers.
+    searching: Queue,
+    /// How many of those who are ready have their turn before the sockets are asked again.
     round: usize,
+    /// How many requests are held.
+    holding: usize,
+    /// The sockets were asked since requests were answered last.
+    has_asked: bool,
+    /// How often requests were answered since one who searches had a turn.
+    answers: usize,
     /// All that befell the sockets was heard, and nobody had a turn since.
     has_heard: bool,
     /// The clock's millisecond when it was last read.
     read: u64,
     /// No patience ends before so many.
     quiet_until: u64,
+    /// All that was asked of the clock and of the sockets, and how many things these told.
+    looks: Log<Look, usize>,
+    ghost heard_out: { has_heard ≡ true → ∥ IsHeardOut looks.items ∥₁ },
 }
 
 impl<'r, N: Net + AllocGlobal + time::Clock, E: Drop> EventLoop<'r, N, E> {
@@ -129,30 +157,44 @@ impl<'r, N, E> EventLoop<'r, N, E> {
 
 impl<'r, N: time::Clock, E: Write> Sockets for EventLoop<'r, N, E> {
     ghost use Rattle.hall_http.specs.Coming.{Hears};
-    ghost use Rattle.hall_http.specs.EventLoop.{said_by};
+    ghost use Rattle.hall_http.specs.EventLoop.{IsFair, said_by};
 
     type Peer = Socket;
 
     ghost is_over = { λ sockets. HaveAllGone sockets.schedule.places };
 
+    ghost is_fair = { IsFair };
+
     ghost said = { said_by };
 
     fn next(&mut self) -> Next<Socket> {
-        let next = self.schedule.next();
-        self.nexts = self.nexts.and(&next, &self.schedule.places.elapsed());
+        let (next, elapsed) = self.schedule.next_at();
+        self.nexts = self.nexts.and(&next, &elapsed);
         next
     }
 
     fn stands(&mut self, place: usize, step: Step)
         ensures heard { Hears (place, step) (said_by self.old) (said_by self.new) }
         ensures elapsed { self.new.schedule.places.elapsed ≡ self.old.schedule.places.elapsed }
+        ensures ready { IsInLine self.new.schedule.places place step self.new.schedule.ready }
+        ensures fair { IsFair self.new }
     {
         self.schedule.stands(place, step);
+    }
+
+    fn answered(&mut self, place: usize)
+        ensures said { said_by self.new ≡ said_by self.old }
+        ensures places { self.new.schedule.places ≡ self.old.schedule.places }
+        ensures ready { IsReadyInLine self.new.schedule.places place self.new.schedule.ready }
+        ensures fair { IsFair self.new }
+    {
+        self.schedule.answered(place);
     }
 
     fn hear_of_writes(&mut self, refuses_writes: bool)
         ensures said { said_by self.new ≡ said_by self.old }
         ensures places { self.new.schedule.places ≡ self.old.schedule.places }
+        ensures fair { IsFair self.new }
     {
         if refuses_writes == self.refuses_writes {
             return;
@@ -168,14 +210,15 @@ impl<'r, N: time::Clock, E: Write> Sockets for EventLoop<'r, N, E> {
 impl<'r, N: Net + AllocGlobal + time::Clock> Schedule<'r, N> {
     /// Listens on the address, for so many connections.
     fn new(rt: &'r N, address: SocketAddr, connections: u64) -> io::Result<Schedule<'r, N>>
-        ensures { IfOk result (λ schedule. AreFresh connections schedule.places) }
+        ensures places { IfOk result (λ schedule. AreFresh connections schedule.places) }
+        ensures line { IfOk result (λ schedule. called schedule.ready ≡ []) }
     {
         let alloc = rt.alloc();
         let poll = Poll::new(rt)?;
         let events = Events::with_capacity(alloc, MOST_EVENTS)?;
         let places = Places::new(alloc, connections)?;
-        let ready = VecDeque::with_capacity(alloc, MOST_CLIENTS)?;
-        let searching = VecDeque::with_capacity(alloc, MOST_CLIENTS)?;
+        let ready = Queue::new(alloc)?;
+        let searching = Queue::new(alloc)?;
         let mut listener = TcpListener::bind(rt, address)?;
         poll.registry()
             .register(&mut listener, Token(LISTENER), Interest::READABLE)?;
@@ -189,9 +232,13 @@ impl<'r, N: Net + AllocGlobal + time::Clock> Schedule<'r, N> {
             ready,
             searching,
             round: 0,
+            holding: 0,
+            has_asked: false,
+            answers: 0,
             has_heard: false,
             read: 0,
             quiet_until: u64::MAX,
+            looks: Log::new(),
         })
     }
 }
@@ -201,17 +248,23 @@ impl<'r, N> Schedule<'r, N> {
 
     /// The connection at the place is ready.
     fn wake(&mut self, place: usize)
-        ensures { IsUnheard self.old.places self.new.places }
+        ensures asked { (self.new.looks ≡ self.old.looks) × (self.new.has_heard ≡ self.old.has_heard) }
+        ensures places { IsUnheard self.old.places self.new.places }
+        ensures line { called self.new.ready ≡ called self.old.ready }
+        ensures woken { (wait : Wait) → get_or self.old.places.visits.items place None ≡ Some (Waiting wait) →
+            waits_in self.new.ready place ≡ true }
     {
         if let Some(Visit::Waiting(_)) = self.places.at(place) {
             self.places.wakes(place);
-            let _queued = self.ready.push_back(place);
+            self.ready.push(place);
         }
     }
 
     /// Whether the connection at the place has ended, and its patience too.
     fn has_left(&self, place: usize) -> bool
-        ensures { result ≡ true →
+        ensures left { result ≡ true →
+            StandsAt self.entry.now.places place (λ visit. HasLeft visit self.entry.now.places.elapsed) }
+        ensures expired { result ≡ true →
             StandsAt self.entry.now.places place (λ visit. HasExpired visit self.entry.now.places.elapsed) }
     {
         match self.places.at(place) {
@@ -222,90 +275,106 @@ impl<'r, N> Schedule<'r, N> {
         }
     }
 
-    /// The connection at the place is let go.
+    /// The connection at the place is let go, once all was heard, or where it has left.
     fn let_go(&mut self, place: usize) -> Option<Next<Socket>>
-        requires { MayLetGo self.old.places place }
-        ensures { MayHandOut self.old.places result self.new.places }
+        requires may { MayLetGo self.old.places place }
+        requires heard { (self.old.has_heard ≡ true)
+            ⊎ StandsAt self.old.places place (λ visit. HasLeft visit self.old.places.elapsed) }
+        ensures gone { result ≡ Some (Next.Gone place) }
+        ensures handed_out { MayHandOut self.old.places result self.new.places }
+        ensures line { MayCall (called self.old.ready) result self.new.ready }
     {
         self.places.let_go(place);
-        self.forget_search(place);
         self.try_again();
         Some(Next::Gone(place))
     }
 
-    /// Whoever gets the place next has asked for no more work yet.
-    fn forget_search(&mut self, place: usize)
-        ensures { self.new.places ≡ self.old.places }
-    {
-        for _one in 0..self.searching.len() {
-            if let Some(queued) = self.searching.pop_front()
-                && queued != place
-            {
-                let _queued = self.searching.push_back(queued);
-            }
-        }
-    }
-
     /// Newcomers for whom there was no place may get one.
     fn try_again(&mut self)
-        ensures { self.new.places ≡ self.old.places }
+        ensures places { self.new.places ≡ self.old.places }
+        ensures ready { self.new.ready ≡ self.old.ready }
+        ensures asked { (self.new.looks ≡ self.old.looks) × (self.new.has_heard ≡ self.old.has_heard) }
     {
         if self.backlog == Backlog::Later {
             self.backlog = Backlog::Waiting;
         }
     }
 
-    /// The first of those whose requests need more work is ready.
+    /// The first of those whose requests need more work is ready. Whoever has gone meanwhile is skipped; a newcomer at
+    /// the place of one has its turn in line, if its request needs more work by then.
     fn call_searching(&mut self)
-        ensures { IsUnheard self.old.places self.new.places }
+        ensures places { IsUnheard self.old.places self.new.places }
+        ensures line { called self.new.ready ≡ called self.old.ready }
     {
         for _gone in 0..self.searching.len() {
-            if let Some(place) = self.searching.pop_front()
-                && let Some(Visit::Searching(_)) = self.places.at(place)
-            {
+            let Some(place) = self.searching.first() else {
+                return;
+            };
+            if let Some(Visit::Searching(_)) = self.places.at(place) {
+                self.searching.pop(place, Motion::Called);
                 self.places.wakes(place);
-                let _queued = self.ready.push_back(place);
+                self.ready.push(place);
                 return;
             }
+            self.searching.pop(place, Motion::Skipped);
         }
     }
 
-    /// A free place, where one more may be here; or else the place of the one that may go and times out first.
-    /// Those whose requests need more work go last.
-    fn find_place(&self) -> (Option<usize>, Option<usize>)
-        ensures open { IfSome result.0 (IsOpen self.entry.now.places) }
-        ensures leaves { IfSome result.1 (λ place.
-            StandsAt self.entry.now.places place (λ visit. MayMakeRoom visit self.entry.now.places.elapsed)) }
+    /// All who are ready have a turn, and then the sockets are asked again. Where nothing is held, or something always
+    /// is, one who searches is ready too.
+    fn begin_round(&mut self)
+        ensures places { IsUnheard self.old.places self.new.places }
+        ensures line { called self.new.ready ≡ called self.old.ready }
     {
-        let mut found = None;
+        if self.holding == 0 || self.answers >= MOST_ANSWERS {
+            self.answers = 0;
+            self.call_searching();
+        }
+        self.round = self.ready.len();
+        self.has_heard = false;
+    }
+
+    /// A free place, where one more may be here.
+    fn free_place(&self) -> Option<usize>
+        ensures { IfSome result (IsOpen self.entry.now.places) }
+    {
+        if !self.places.has_room() {
+            return None;
+        }
+        for place in 0..self.places.len() {
+            if self.places.at(place).is_none() {
+                return Some(place);
+            }
+        }
+        None
+    }
+
+    /// Of those that may make room for a newcomer, the one that times out first. Those whose requests need more work go
+    /// last.
+    fn first_to_go(&self) -> Option<usize>
+        ensures { IfSome result (GoesFirst self.entry.now.places) }
+    {
         let mut first = u64::MAX;
         let mut leaves = None;
         for place in 0..self.places.len() {
-            match self.places.at(place) {
-                None => found = Some(place),
-                Some(visit) => {
-                    if let Some(until) = self.may_go(visit)
-                        && until < first
-                    {
-                        first = until;
-                        leaves = Some(place);
-                    }
-                }
+            if let Some(until) = self.may_go(place)
+                && until < first
+            {
+                first = until;
+                leaves = Some(place);
             }
         }
-        if !self.places.has_room() {
-            return (None, None);
-        }
-        (found, leaves)
+        leaves
     }
 
     /// When the patience of one ends that may make room for a newcomer: nothing that it asked is unanswered, and
     /// nothing unsent; and it had a second to ask. One whose request needs more work may go too, after all others,
     /// since its search is kept for whoever sends the request again.
-    fn may_go(&self, visit: Visit) -> Option<u64>
-        ensures { IfSome result (λ _. MayMakeRoom visit self.entry.now.places.elapsed) }
+    fn may_go(&self, place: usize) -> Option<u64>
+        ensures some { IfSome result (MayGoBy self.entry.now.places place) }
+        ensures none { IfNone result ((until : ℕ) → ¬ (MayGoBy self.entry.now.places place until)) }
     {
-        match visit {
+        match self.places.at(place)? {
             Visit::Waiting(wait) => match wait.wish {
                 Wish::Idle if wait.has_lasted(FRESH, self.places.elapsed()) => Some(wait.until()),
                 Wish::Leaving => Some(wait.until()),
@@ -321,6 +390,8 @@ impl<'r, N> Schedule<'r, N> {
     /// One whose patience has ended.
     fn expired(&mut self) -> Option<usize>
         ensures still { self.new.places ≡ self.old.places }
+        ensures ready { self.new.ready ≡ self.old.ready }
+        ensures heard { self.new.has_heard ≡ self.old.has_heard }
         ensures expired { IfSome result (λ place.
             StandsAt self.new.places place (λ visit. HasExpired visit self.new.places.elapsed)) }
     {
@@ -343,7 +414,7 @@ impl<'r, N> Schedule<'r, N> {
     /// How many milliseconds to wait, a second at most, since one that stands still waits longer than it is to; none,
     /// until something comes.
     fn patience(&self) -> Option<u64> {
-        let is_busy = !self.ready.is_empty() || !self.searching.is_empty();
+        let is_busy = self.holding > 0 || self.ready.len() > 0 || self.searching.len() > 0;
         if is_busy || self.backlog == Backlog::Waiting {
             return Some(0);
         }
@@ -361,24 +432,30 @@ impl<'r, N> Schedule<'r, N> {
         )
     }
 
-    /// Whose turn it is, of those who are ready.
+    /// Whose turn it is: of those who are ready, whoever became so first. One that has ended, and whose patience has
+    /// too, is let go in its place.
     fn first(&mut self) -> Option<Next<Socket>>
-        ensures { MayHandOut self.old.places result self.new.places }
+        ensures handed_out { MayHandOut self.old.places result self.new.places }
+        ensures line { MayCall (called self.old.ready) result self.new.ready }
     {
         if self.round == 0 {
             return None;
         }
-        let place = self.ready.pop_front()?;
+        let place = self.ready.first()?;
         self.round -= 1;
         if self.has_left(place) {
+            self.ready.pop(place, Motion::Skipped);
             return self.let_go(place);
         }
+        self.ready.pop(place, Motion::Called);
         Some(Next::Turn(place))
     }
 
     /// Who is let in, or has to go, now that all was heard.
     fn judge(&mut self) -> Option<Next<Socket>>
-        ensures { MayHandOut self.old.places result self.new.places }
+        requires { self.old.has_heard ≡ true }
+        ensures handed_out { MayHandOut self.old.places result self.new.places }
+        ensures line { MayCall (called self.old.ready) result self.new.ready }
     {
         if self.backlog == Backlog::Waiting
             && let Some(next) = self.admit()
@@ -391,15 +468,13 @@ impl<'r, N> Schedule<'r, N> {
 
     /// Lets a newcomer in, where there is one and a place for it.
     fn admit(&mut self) -> Option<Next<Socket>>
-        ensures { MayHandOut self.old.places result self.new.places }
+        requires { self.old.has_heard ≡ true }
+        ensures heard { IfNone result (self.new.has_heard ≡ true) }
+        ensures handed_out { MayHandOut self.old.places result self.new.places }
+        ensures line { MayCall (called self.old.ready) result self.new.ready }
     {
-        let place = match self.find_place() {
-            (Some(place), _) => place,
-            (None, Some(place)) if self.places.are_full() => return self.let_go(place),
-            (None, _) => {
-                self.backlog = Backlog::Later;
-                return None;
-            }
+        let Some(place) = self.free_place() else {
+            return self.make_room();
         };
         match self.listener.accept() {
             Ok((stream, _)) => self.seat(place, stream),
@@ -414,11 +489,32 @@ impl<'r, N> Schedule<'r, N> {
         }
     }
 
+    /// Lets one go, where all places are taken and a newcomer may come.
+    fn make_room(&mut self) -> Option<Next<Socket>>
+        requires { self.old.has_heard ≡ true }
+        ensures heard { IfNone result (self.new.has_heard ≡ true) }
+        ensures handed_out { MayHandOut self.old.places result self.new.places }
+        ensures line { MayCall (called self.old.ready) result self.new.ready }
+        ensures first { (place : ℕ) → result ≡ Some (Next.Gone place) → GoesFirst self.old.places place }
+    {
+        if self.places.has_room()
+            && self.places.are_full()
+            && let Some(place) = self.first_to_go()
+        {
+            return self.let_go(place);
+        }
+        self.backlog = Backlog::Later;
+        None
+    }
+
     /// Gives the newcomer the place, or lets it go where it can't be set up. As a socket it has the number after the
     /// one before it.
     fn seat(&mut self, place: usize, mut stream: TcpStream) -> Option<Next<Socket>>
-        requires { IsOpen self.old.places place }
-        ensures { MayHandOut self.old.places result self.new.places }
+        requires open { IsOpen self.old.places place }
+        requires heard { self.old.has_heard ≡ true }
+        ensures heard { IfNone result (self.new.has_heard ≡ true) }
+        ensures handed_out { MayHandOut self.old.places result self.new.places }
+        ensures line { MayCall (called self.old.ready) result self.new.ready }
     {
         let interests = Interest::READABLE | Interest::WRITABLE;
         let set = stream.set_nodelay(true).and_then(|_| {
@@ -431,7 +527,7 @@ impl<'r, N> Schedule<'r, N> {
             return None;
         }
         let before = self.places.seat(place);
-        let _queued = self.ready.push_back(place);
+        self.ready.push(place);
         Some(Next::Newcomer {
             place,
             peer: Socket::new(stream, before),
@@ -440,55 +536,64 @@ impl<'r, N> Schedule<'r, N> {
 }
 
 impl<'r, N: time::Clock> Schedule<'r, N> {
+    /// The clock's millisecond, where it can be read.
+    fn read_clock(&self) -> Option<u64> {
+        let since = self.time.monotonic().ok()?;
+        let millis = since.as_secs().saturating_mul(1000);
+        Some(millis.saturating_add(since.subsec_millis() as u64))
+    }
+
     /// Reads the clock. Of the milliseconds since it was last read, no more than 1,000 count; and so many do where it
-    /// can't be read.
-    fn count_time(&mut self)
+    /// can't be read. What comes of it is whether nobody's patience has ended by then.
+    fn count_time(&mut self) -> bool
+        requires { self.old.has_heard ≡ false }
         ensures still { AreStill self.old.places self.new.places }
-        ensures on { self.old.places.elapsed ≤ self.new.places.elapsed }
-        ensures most { self.new.places.elapsed ≤ self.old.places.elapsed + most_counted }
+        ensures ready { self.new.ready ≡ self.old.ready }
+        ensures unheard { self.new.has_heard ≡ false }
+        ensures counts { (read : Option ℕ)
+            × (self.new.looks.items ≡ self.old.looks.items ++ (Look.Clock read result, 0) ∷ [])
+            × (self.new.places.elapsed ≡ counted self.old.places.elapsed (passed_since self.old.read read))
+            × (self.new.read ≡ read_after self.old.read read) }
+        ensures quiet { result ≡ nat_lt self.new.places.elapsed self.new.quiet_until }
     {
-        let passed = match self.time.monotonic() {
-            Ok(since) => {
-                let read = since
-                    .as_secs()
-                    .saturating_mul(1000)
-                    .saturating_add(since.subsec_millis() as u64);
-                let passed = read.saturating_sub(self.read);
-                self.read = read;
-                passed
-            }
-            Err(_) => LONGEST_ROUND,
-        };
-        self.places.count(passed);
+        let read = self.read_clock();
+        self.places.count(passed_since(self.read, read));
+        self.read = read_after(self.read, read);
+        let is_quiet = self.places.elapsed() < self.quiet_until;
+        self.looks = self.looks.and(&Look::Clock { read, is_quiet }, &0);
+        is_quiet
     }
 
     /// Waits until something befalls a socket or a patience ends. Whoever has asked by then is heard before anybody's
     /// patience is judged.
     fn poll_once(&mut self) -> io::Result<()>
         ensures still { AreStill self.old.places self.new.places }
-        ensures on { self.old.places.elapsed ≤ self.new.places.elapsed }
-        ensures most { self.new.places.elapsed ≤ self.old.places.elapsed + most_counted + most_counted }
+        ensures line { called self.new.ready ≡ called self.old.ready }
     {
+        self.has_heard = false;
         self.count_time();
         let patience = self.patience();
         let told = self.hear(patience)?;
-        self.count_time();
-        // A signal ends a wait too, and then nothing is told.
-        let is_cut = told == 0 && patience != Some(0);
-        if is_cut || told == MOST_EVENTS || self.quiet_until <= self.places.elapsed() {
+        let is_quiet = self.count_time();
+        if !tells_all(patience, told) || !is_quiet {
             self.hear_all()?;
         }
-        self.try_again();
         self.has_heard = true;
+        self.try_again();
         Ok(())
     }
 
     /// Hears all that has befallen the sockets so far, without waiting.
     fn hear_all(&mut self) -> io::Result<()>
-        ensures { IsUnheard self.old.places self.new.places }
+        requires { self.old.has_heard ≡ false }
+        ensures places { IsUnheard self.old.places self.new.places }
+        ensures line { called self.new.ready ≡ called self.old.ready }
+        ensures unheard { self.new.has_heard ≡ false }
+        ensures all { IfOk result (λ _. ∥ IsHeardOut self.new.looks.items ∥₁) }
     {
         for _asked in 0..MOST_ASKED {
-            if self.hear(Some(0))? < MOST_EVENTS {
+            let told = self.hear(Some(0))?;
+            if tells_all(Some(0), told) {
                 return Ok(());
             }
         }
@@ -497,7 +602,12 @@ impl<'r, N: time::Clock> Schedule<'r, N> {
 
     /// Waits at most so many milliseconds until something befalls a socket, and hears how many things did.
     fn hear(&mut self, patience: Option<u64>) -> io::Result<usize>
-        ensures { IsUnheard self.old.places self.new.places }
+        requires { self.old.has_heard ≡ false }
+        ensures places { IsUnheard self.old.places self.new.places }
+        ensures line { called self.new.ready ≡ called self.old.ready }
+        ensures unheard { self.new.has_heard ≡ false }
+        ensures told { IfOk result (λ told.
+            self.new.looks.items ≡ self.old.looks.items ++ (Look.Sockets patience, told) ∷ []) }
     {
         self.poll
             .poll(&mut self.events, patience.map(Duration::from_millis))?;
@@ -509,6 +619,7 @@ impl<'r, N: time::Clock> Schedule<'r, N> {
                 count += 1;
             }
         }
+        self.looks = self.looks.and(&Look::Sockets { patience }, &count);
         for place in &woken[..count.min(MOST_EVENTS)] {
             if *place == LISTENER {
                 self.backlog = Backlog::Waiting;
@@ -517,6 +628,37 @@ impl<'r, N: time::Clock> Schedule<'r, N> {
             }
         }
         Ok(count)
+    }
+}
+
+/// How many milliseconds passed since this one; as many as count at most where the clock can't be read.
+fn passed_since(last: u64, read: Option<u64>) -> u64
+    ensures { result ≡ passed_since last read }
+{
+    match read {
+        Some(read) => read.saturating_sub(last),
+        None => LONGEST_ROUND,
+    }
+}
+
+/// The millisecond at which the clock was read last.
+fn read_after(last: u64, read: Option<u64>) -> u64
+    ensures { result ≡ read_after last read }
+{
+    match read {
+        Some(read) => read,
+        None => last,
+    }
+}
+
+/// Whether nothing was left over, where so many things were told in a wait of so long at most: a signal ends one too,
+/// and then nothing is told.
+fn tells_all(patience: Option<u64>, told: usize) -> bool
+    ensures { result ≡ true → TellsAll patience told }
+{
+    match patience {
+        Some(0) => told < MOST_EVENTS,
+        Some(_) | None => told > 0 && told < MOST_EVENTS,
     }
 }
 
@@ -532,6 +674,7 @@ impl<'r, N: time::Clock> Schedule<'r, N> {
     /// Waits until something is to be done.
     fn next(&mut self) -> Next<Socket>
         ensures handed_out { HandsOut self.old.places result self.new.places }
+        ensures line { CallsOne (called self.old.ready) result self.new.ready }
         ensures over { result ≡ Next.End → HaveAllGone self.new.places }
     {
         for _round in 0..u64::MAX {
@@ -542,13 +685,17 @@ impl<'r, N: time::Clock> Schedule<'r, N> {
                 if let Some(next) = self.judge() {
                     return next;
                 }
-                self.has_heard = false;
-                self.call_searching();
-                self.round = self.ready.len();
+                self.begin_round();
             }
             if let Some(next) = self.first() {
                 return next;
             }
+            if self.holding > 0 && self.has_asked {
+                self.has_asked = false;
+                self.answers = self.answers.saturating_add(1);
+                return Next::Answer;
+            }
+            self.has_asked = true;
             if self.poll_once().is_err() {
                 return Next::Refused;
             }
@@ -556,18 +703,43 @@ impl<'r, N: time::Clock> Schedule<'r, N> {
         Next::Refused
     }
 
+    /// Waits until something is to be done, and tells at which millisecond it is.
+    fn next_at(&mut self) -> (Next<Socket>, u64)
+        ensures handed_out { HandsOut self.old.places result.0 self.new.places }
+        ensures line { CallsOne (called self.old.ready) result.0 self.new.ready }
+        ensures over { result.0 ≡ Next.End → HaveAllGone self.new.places }
+        ensures at { result.1 ≡ self.new.places.elapsed }
+    {
+        let next = self.next();
+        let elapsed = self.places.elapsed();
+        (next, elapsed)
+    }
+
+    /// The connection at the place isn't held any more, and is ready.
+    fn answered(&mut self, place: usize)
+        ensures places { self.new.places ≡ self.old.places }
+        ensures line { called self.new.ready ≡ called self.old.ready }
+        ensures ready { IsReadyInLine self.new.places place self.new.ready }
+    {
+        self.holding = self.holding.saturating_sub(1);
+        if let Some(Visit::Ready(_)) = self.places.at(place) {
+            self.ready.push(place);
+        }
+    }
+
     /// Hears how the connection at the place stands after its turn.
     fn stands(&mut self, place: usize, step: Step)
-        ensures { HasHeard self.old.places (place, step) self.new.places }
+        ensures heard { HasHeard self.old.places (place, step) self.new.places }
+        ensures line { called self.new.ready ≡ called self.old.ready }
+        ensures ready { IsInLine self.new.places place step self.new.ready }
     {
         self.places.hears(place, step);
         match self.places.at(place) {
-            Some(Visit::Ready(_)) => {
-                let _queued = self.ready.push_back(place);
+            Some(Visit::Ready(_)) if step == Step::Holds => {
+                self.holding = self.holding.saturating_add(1);
             }
-            Some(Visit::Searching(_)) => {
-                let _queued = self.searching.push_back(place);
-            }
+            Some(Visit::Ready(_)) => self.ready.push(place),
+            Some(Visit::Searching(_)) => self.searching.push(place),
             Some(Visit::Waiting(wait)) => {
                 self.quiet_until = self.quiet_until.min(wait.until());
             }

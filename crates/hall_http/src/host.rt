@@ -1,9 +1,9 @@
 //! The machine that a hall is served on.
-ghost use Rattle.std.specs.Prelude.{◌≡◌, ℕ, List, Option, IfOk, OnErr};
+ghost use Rattle.std.specs.Prelude.{◌≡◌, ℕ, List, Option, IfOk, None, OnErr};
 ghost use Rattle.hall_desk.specs.declared.census.Census.{Census};
 ghost use Rattle.hall_http.specs.Coming.{AreAllHeard};
 ghost use Rattle.hall_http.specs.Crowd.{Past};
-ghost use Rattle.hall_http.specs.Clock.{read_by};
+ghost use Rattle.hall_http.specs.Clock.{read_by, told_by};
 ghost use Rattle.hall_http.specs.Host.{TellsNothing, ListensOn, ended, told_on, uncalled};
 ghost use Rattle.std.specs.Prelude.{[], ◌∷◌, ◌++◌};
 ghost use Rattle.hall_http.specs.Notice.{IsNotified};
@@ -100,7 +100,7 @@ impl<'r, N: Net + AllocGlobal + time::Clock, E: Write + Drop> Host for SystemHos
     ghost tells = { λ old port path census new.
         IsNotified E.contents port path census (told_on old) (told_on new) × (ended new ≡ ended old) };
 
-    ghost shows = { λ host clock. read_by clock ≡ host.rt };
+    ghost shows = { λ host clock. (read_by clock ≡ host.rt) × (told_by clock ≡ None) };
 
     ghost ends = { λ old sockets gone new.
         (told_on new ≡ told_on old) × (ended new ≡ ended old ++ (gone, sockets) ∷ []) };

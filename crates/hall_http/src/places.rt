@@ -1,7 +1,8 @@
 //! The places of the connections, and how many of these may still come.
-ghost use Rattle.std.specs.Prelude.{◌≡◌, ◌≤◌, ◌<◌, ◌+◌, [], ◌∷◌, ◌++◌, All, IfOk, None, Some, get_or, length, true};
-ghost use Rattle.hall_http.specs.Limits.{most_connections, most_counted};
-ghost use Rattle.hall_http.specs.Places.{IsLetGo, patience_of, taken};
+ghost use Rattle.std.specs.Prelude.{◌≡◌, ◌≤◌, ◌<◌, ◌+◌, [], ◌∷◌, ◌++◌, All, IfOk, IfSome, None, Some, get_or, length};
+ghost use Rattle.std.specs.Prelude.{false, true};
+ghost use Rattle.hall_http.specs.Limits.{most_connections};
+ghost use Rattle.hall_http.specs.Places.{IsLetGo, counted_for, patience_of, taken, until_of};
 ghost use Rattle.hall_http.specs.declared.places.Visit.TheVariants.{Ready};
 
 use crate::client::{Step, Wish};
@@ -42,13 +43,16 @@ impl Wait {
     }
 
     /// The millisecond at which its patience ends.
-    pub(crate) fn until(self) -> u64 {
+    pub(crate) fn until(self) -> u64
+        ensures { result ≡ until_of self }
+    {
         self.since.saturating_add(self.patience())
     }
 
     /// Whether it has waited so many milliseconds.
     pub(crate) fn has_lasted(self, span: u64, now: u64) -> bool
-        ensures { result ≡ true → self.since + span ≤ now }
+        ensures has { result ≡ true → self.since + span ≤ now }
+        ensures not { result ≡ false → now < self.since + span }
     {
         now >= self.since && now - self.since >= span
     }
@@ -58,6 +62,16 @@ impl Wait {
         ensures { result ≡ true → self.since + patience_of self.wish ≤ now }
     {
         self.has_lasted(self.patience(), now)
+    }
+}
+
+/// After how many requests it waits for this. Where it has ended they don't count any more.
+fn counted_for(wish: Wish, requests: usize) -> usize
+    ensures { result ≡ counted_for wish requests }
+{
+    match wish {
+        Wish::Leaving => 0,
+        Wish::Idle | Wish::Asking | Wish::Taking | Wish::Searching => requests,
     }
 }
 
@@ -112,10 +126,11 @@ pub(crate) struct Places {
 }
 
 impl Places {
-    ghost use Rattle.hall_http.specs.Seats.{AreFresh, AreStill, Follows, Frees, FreesOne, GoesOn, HasHeard};
+    ghost use Rattle.hall_http.specs.Seats.{AreFresh, AreStill, Frees, FreesOne, HasHeard};
     ghost use Rattle.hall_http.specs.Seats.{HaveAllGone, IsHeard, IsOpen, IsUnheard, LetsGo, LosesOne, MayLetGo};
-    ghost use Rattle.hall_http.specs.Seats.{TouchesOnly, Wakes};
+    ghost use Rattle.hall_http.specs.Seats.{TouchesOnly, WaitsFrom, Wakes};
     ghost use Rattle.hall_http.specs.Seats.{are_full};
+    ghost use Rattle.hall_http.specs.Looks.{counted};
 
     /// All places, free, for so many connections.
     pub(crate) fn new(alloc: Global, most: u64) -> Result<Places, AllocError>
@@ -148,7 +163,8 @@ impl Places {
 
     /// What is known of the connection at the place, if one is there.
     pub(crate) fn at(&self, place: usize) -> Option<Visit>
-        ensures { result ≡ get_or self.now.visits.items place None }
+        ensures known { result ≡ get_or self.now.visits.items place None }
+        ensures within { IfSome result (λ _. place < most_connections) }
     {
         match self.visits.get(place) {
             Some(visit) => *visit,
@@ -188,8 +204,7 @@ impl Places {
     pub(crate) fn count(&mut self, passed: u64)
         ensures still { AreStill self.old self.new }
         ensures visits { self.new.visits.items ≡ self.old.visits.items }
-        ensures on { self.old.elapsed ≤ self.new.elapsed }
-        ensures most { self.new.elapsed ≤ self.old.elapsed + most_counted }
+        ensures exact { self.new.elapsed ≡ counted self.old.elapsed passed }
     {
         self.elapsed = self.elapsed.saturating_add(passed.min(LONGEST_ROUND));
     }
@@ -208,9 +223,7 @@ impl Places {
 
     /// What the connection waits for: where it waited for the same before, its patience goes on.
     fn wait(&self, place: usize, wish: Wish, requests: usize) -> Wait
-        ensures wish { result.wish ≡ wish }
-        ensures requests { result.requests ≡ requests }
-        ensures since { GoesOn (get_or self.now.visits.items place None) result self.now.elapsed }
+        ensures { WaitsFrom (get_or self.now.visits.items place None) wish requests self.now.elapsed result }
     {
         if let Some(Visit::Ready(Some(last))) = self.at(place)
             && last.wish == wish
@@ -241,12 +254,10 @@ impl Places {
         ensures heard { HasHeard self.old (place, step) self.new }
         ensures there { TouchesOnly self.old place self.new }
         ensures known { (visit : Visit) → get_or self.new.visits.items place None ≡ Some visit →
-            IsHeard (get_or self.old.visits.items place None) step visit }
-        ensures follows { (visit : Visit) → get_or self.new.visits.items place None ≡ Some visit →
-            Follows (get_or self.old.visits.items place None) visit self.old.elapsed }
+            IsHeard (get_or self.old.visits.items place None) step self.old.elapsed visit }
     {
         match step {
-            Step::Again => self.wakes(place),
+            Step::Again | Step::Holds => self.wakes(place),
             Step::Searches { requests } => {
                 let wait = self.wait(place, Wish::Searching, requests);
                 self.put(place, Visit::Searching(wait));
@@ -256,14 +267,10 @@ impl Places {
                 self.put(place, Visit::Ready(Some(wait)));
             }
             Step::Waits { wish, requests } => {
-                let requests = match wish {
-                    Wish::Leaving => 0,
-                    _ => requests,
-                };
-                let wait = self.wait(place, wish, requests);
+                let wait = self.wait(place, wish, counted_for(wish, requests));
                 self.put(place, Visit::Waiting(wait));
             }
-            Step::Over | Step::Shut => self.free(place),
+            Step::Over => self.free(place),
         }
         self.heard = self.heard.and(&(place, step), &self.elapsed);
     }

@@ -1,24 +1,61 @@
 //! What answers the requests of a connection.
-ghost use Rattle.std.specs.Prelude.{◌≡◌, ◌≢◌, ℕ, List, Option, false};
+ghost use Rattle.std.specs.Prelude.{◌≡◌, ◌≢◌, ℕ, List, [], Option, Bool, true, false, map};
 ghost use Rattle.hall_desk.specs.Desk.{kept_by};
 ghost use Rattle.hall_store.specs.Store.{Kept};
 ghost use Rattle.hall_http.specs.Answered.{answer_text};
+ghost use Rattle.hall_http.specs.Connection.{Exchange};
+ghost use Rattle.hall_http.specs.Groups.{AreAnsweredTogether};
 ghost use Rattle.hall_http.specs.Head.{IsLentBy};
+ghost use Rattle.hall_http.specs.Joining.{HaveJoined, JoinsOne, told_at_end};
 ghost use Rattle.hall_http.specs.Request.{ReachesStore};
 ghost use Rattle.hall_http.specs.Serving.{GoesOn, IsAnsweredOver, WaitsForSearch};
+ghost use Rattle.hall_http.specs.Steps.{gated_group};
 ghost use Rattle.hall_http.specs.declared.answer.Answer.TheVariants as Answer;
+ghost use Rattle.hall_http.specs.declared.responder.GroupEnd.TheVariants as GroupEnd;
+ghost use Rattle.hall_policy.specs.declared.record.AnswerRow.{AnswerRow};
 
 use crate::answer::{Answer, answer_raw_request, prepare_raw_request};
 use crate::head::RawRequest;
+use crate::joining::{join_raw_request, store_joint};
 use crate::routes::Routes;
 use hall_desk::Desk;
 use hall_policy::Moment;
-use hall_store::Store;
+use hall_store::{JointAnswers, Store};
 use std::alloc::Global;
 
-/// What answers requests, one after another.
+/// How the one write for a group of requests ended.
+#[derive(Clone, Copy, Debug, PartialEq, Eq)]
+pub(crate) enum GroupEnd {
+    /// All that they change is stored, and each is told what was planned for it.
+    Stored,
+    /// Nothing of it is, and each is told 503.
+    Refused,
+    /// So it is, by a store that serves no more.
+    Shut,
+}
+
+impl GroupEnd {
+    /// Whether the store serves on, as far as this tells.
+    pub(crate) fn goes_on(self) -> bool
+        ensures opened { result ≡ true → self ≢ GroupEnd.Shut }
+        ensures shut { result ≡ false → self ≡ GroupEnd.Shut }
+    {
+        match self {
+            GroupEnd::Stored | GroupEnd::Refused => true,
+            GroupEnd::Shut => false,
+        }
+    }
+}
+
+/// What answers requests, one after another, or some of them together.
 pub(crate) trait Responder {
     ghost answers: { Self → Option ℕ → List ℕ → List ℕ → Self → Type 0 };
+
+    /// Some requests are answered together.
+    ghost joins: { Self → List Exchange → Self → Type 0 };
+
+    /// These requests are to be answered together, with these answers to puzzles, of which none is stored yet.
+    ghost have_joined: { List Exchange → List AnswerRow → Self → Type 0 };
 
     /// Once it has given this reply, it can answer further requests.
     ghost goes_on: { Self → List ℕ → Self → Type 0 };
@@ -50,10 +87,41 @@ pub(crate) trait Responder {
         ensures goes_on { result ≢ Answer.Shut → goes_on self.old (answer_text result) self.new }
         ensures shut { (bytes : List ℕ) → IsLentBy bytes request.now → result ≡ Answer.Shut →
             ReachesStore moment bytes };
+
+    /// None yet that are to be answered together.
+    fn gather(&self, alloc: Global) -> JointAnswers
+        ensures { have_joined [] result self.now };
+
+    /// The request joins those that are to be answered together, if it can: it changes nothing but that one more answer
+    /// to a puzzle is stored, of another person than theirs, or it changes nothing at all. The result is what it will
+    /// be told once that is stored. Reads only.
+    fn join(
+        &mut self,
+        alloc: Global,
+        routes: &Routes,
+        joint: &mut JointAnswers,
+        moment: Option<Moment>,
+        request: &RawRequest<'_>,
+    ) -> Option<Answer>
+        ensures rests { rests self.old self.new }
+        ensures joined { (xs : List Exchange) (bytes : List ℕ) → IsLentBy bytes request.now →
+            have_joined xs joint.old self.old → JoinsOne have_joined xs moment bytes result joint.new self.new };
+
+    /// Stores by one write what those change that have joined, all of it or nothing. Nothing that they are told may be
+    /// told before.
+    fn store_joined(&mut self, alloc: Global, joint: JointAnswers) -> GroupEnd
+        requires { (xs : List Exchange) × have_joined xs joint self.old }
+        ensures { (xs : List Exchange) (goes : Bool) → xs ≢ [] → have_joined xs joint self.old →
+            (result ≡ GroupEnd.Shut → goes ≡ false) → (result ≢ GroupEnd.Shut → goes ≡ true) →
+            gated_group joins goes_on (self.old, true) (map (told_at_end result) xs) (self.new, goes) };
 }
 
 impl<S: Store> Responder for Desk<S> {
     ghost answers = { IsAnsweredOver (λ desk. S.content (kept_by desk)) };
+
+    ghost joins = { AreAnsweredTogether (λ desk. S.content (kept_by desk)) };
+
+    ghost have_joined = { HaveJoined (λ desk. S.content (kept_by desk)) };
 
     ghost goes_on = { GoesOn (λ desk. S.content (kept_by desk)) };
 
@@ -87,5 +155,29 @@ impl<S: Store> Responder for Desk<S> {
                 Answer::Unavailable
             }
         }
+    }
+
+    fn gather(&self, alloc: Global) -> JointAnswers {
+        JointAnswers::new(alloc)
+    }
+
+    fn join(
+        &mut self,
+        alloc: Global,
+        routes: &Routes,
+        joint: &mut JointAnswers,
+        moment: Option<Moment>,
+        request: &RawRequest<'_>,
+    ) -> Option<Answer> {
+        match moment {
+            Some(moment) => join_raw_request(alloc, routes, self, joint, moment, request),
+            None => None,
+        }
+    }
+
+    fn store_joined(&mut self, alloc: Global, joint: JointAnswers) -> GroupEnd {
+        let end = store_joint(alloc, self, joint);
+        self.at_rest();
+        end
     }
 }

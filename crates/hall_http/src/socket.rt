@@ -4,7 +4,7 @@ ghost use Rattle.hall_http.specs.Peer.{IsUntouched};
 ghost use Rattle.hall_http.specs.Socket.{traffic_of};
 
 use crate::outgoing::Outgoing;
-use crate::peer::{Moved, Peer};
+use crate::peer::{Call, Moved, Peer};
 use http_server::Log;
 use mio::net::TcpStream;
 use std::io::{ErrorKind, Read, Write};
@@ -23,6 +23,8 @@ pub struct Socket {
     is_broken: bool,
     /// It was told that no more is sent.
     is_hung_up: bool,
+    /// All reads and writes, and what each told.
+    calls: Log<Call, Moved>,
 }
 
 impl Socket {
@@ -39,6 +41,7 @@ impl Socket {
             is_over: false,
             is_broken: false,
             is_hung_up: false,
+            calls: Log::new(),
         }
     }
 }
@@ -47,7 +50,7 @@ impl Peer for Socket {
     ghost traffic = { traffic_of };
 
     fn receive(&mut self, chunk: &mut [u8; 4096]) -> Moved {
-        match (&self.stream).read(chunk.as_mut_slice()) {
+        let told = match (&self.stream).read(chunk.as_mut_slice()) {
             Ok(count) if count > 0 => {
                 self.reads = self.reads.and(chunk, &count);
                 Moved::Some(count)
@@ -57,11 +60,13 @@ impl Peer for Socket {
                 self.is_over = true;
                 Moved::None
             }
-        }
+        };
+        self.calls = self.calls.and(&Call::Receive, &told);
+        told
     }
 
     fn send(&mut self, bytes: &Outgoing, from: usize) -> Moved {
-        match (&self.stream).write(&bytes.as_bytes()[from..]) {
+        let told = match (&self.stream).write(&bytes.as_bytes()[from..]) {
             Ok(count) if count > 0 => {
                 self.writes = self.writes.and(bytes, &(from, count));
                 Moved::Some(count)
@@ -71,7 +76,9 @@ impl Peer for Socket {
                 self.is_broken = true;
                 Moved::None
             }
-        }
+        };
+        self.calls = self.calls.and(&Call::Send, &told);
+        told
     }
 
     fn end_sending(&mut self) {

@@ -3,19 +3,18 @@ use Rattle.std.proofs.lemmas.List.{length-take-le}
 use Rattle.hall_http.proofs.Peers.{client_left, later_read, over_by, reads_more}
 use Rattle.hall_http.proofs.client.Client.read_off.Goals as goal
 
-pub returns-in-Some : goal.returns-in-Some
-returns-in-Some g c =
+pub returns-in-Some-clause-moved : goal.returns-in-Some-clause-moved
+returns-in-Some-clause-moved g c =
     let bytes = take c.in-Some.field-0 c.receive.new.chunk in
     let whole : length bytes ≡ c.in-Some.field-0 =
     length-take-le c.in-Some.field-0 c.receive.new.chunk
     (omega (arith, c.receive.array_long, c.in-Some.ensures.bound)) in
     let (some, rise, few) = reads_more (g.P.Peer.traffic c.args.self.now.peer).reads c.in-Some.field-0 in
     let reads = c.in-Some.ensures.reads ∙ rise in (
-      refl,
       record {
         later = later_read _ _ _ c.in-Some.ensures.number c.in-Some.ensures.came (omega (arith, reads))
             c.in-Some.ensures.went (λ told. c.in-Some.ensures.over ∙ over_by _ _ told) c.in-Some.ensures.broke
-            c.in-Some.ensures.hung_up;
+            c.in-Some.ensures.hung_up (_, c.in-Some.ensures.calls);
         kept = λ xs is.
             client_left g.P.Peer.traffic _ _ _ _ xs is c.args.self.now.connection _ c.requires.at.0 _ _ c.requires.at.1
             c.requires.unended c.in-Some.ensures.came
@@ -26,12 +25,12 @@ returns-in-Some g c =
       c.requires.at,
     )
 
-pub returns-in-None : goal.returns-in-None
-returns-in-None g c = (
-  refl,
+pub returns-in-None-clause-moved : goal.returns-in-None-clause-moved
+returns-in-None-clause-moved g c = (
   record {
     later = later_read _ _ _ c.in-None.ensures.number c.in-None.ensures.came (omega (arith, c.in-None.ensures.reads))
-        c.in-None.ensures.went (λ told. c.in-None.ensures.over) c.in-None.ensures.broke c.in-None.ensures.hung_up;
+        c.in-None.ensures.went (λ told. c.in-None.ensures.over) c.in-None.ensures.broke c.in-None.ensures.hung_up
+        (_, c.in-None.ensures.calls);
     kept = λ xs is.
         client_left g.P.Peer.traffic _ _ _ _ xs is c.args.self.now.connection _ c.requires.at.0 _ _ c.requires.at.1
         c.requires.unended c.in-None.ensures.came (0, c.in-None.ensures.reads ∙ omega arith, omega arith)

@@ -1,9 +1,11 @@
-use Rattle.std.proofs.Common.{true}
-use Rattle.hall_http.specs.Turns.{IsTurned, service_of}
-use Rattle.hall_http.specs.declared.client.Step.TheVariants as step
+use Rattle.hall_http.proofs.Going.{HasGone}
+use Rattle.hall_http.specs.Resting.{HasRested}
+use Rattle.hall_http.specs.Turns.{IsClientKept}
 use Rattle.hall_http.proofs.client.Client.turn.Given as goal
 
 abbrev pub invariant-loop-step : goal.invariant-loop-step
-invariant-loop-step g l =
-    IsTurned (service_of g.H.Responder.answers g.H.Responder.goes_on g.H.Responder.rests g.C.Clock.now_gives)
-    g.P.Peer.traffic ((l.fn.responder, true), l.fn.clock) l.fn.self ((l.responder, true), l.clock) l.self step.Again
+invariant-loop-step g l = record {
+  kept : IsClientKept g.P.Peer.traffic l.fn.self l.self;
+  rests : HasRested g.H.Responder.rests l.fn.responder l.responder;
+  goes : HasGone g.P.Peer.traffic l._step l.fn.self l.self;
+}

@@ -1,7 +1,8 @@
 use Rattle.std.proofs.Common.{◌≡◌, ◌∙◌, ℕ, List, ◌-◌, ap, arith, inl, length, refl, sym}
-use Rattle.std.proofs.lemmas.Bool.{eqb-false}
+use Rattle.std.proofs.lemmas.Bool.{eqb-false, eqb-true}
 use Rattle.std.proofs.lemmas.List.{append-nil, length-drop}
 use Rattle.hall_http.specs.Outgoing.{outgoing_text}
+use Rattle.hall_http.proofs.Going.{goes_sent}
 use Rattle.hall_http.proofs.Peers.{client_sent, client_waits, later_same, later_sent, may_send}
 use Rattle.hall_http.proofs.client.Client.write.Goals as goal
 
@@ -17,9 +18,8 @@ pub send-requires-clause-hung_up : goal.send-requires-clause-hung_up
 send-requires-clause-hung_up g c =
     may_send g.P.Peer.traffic _ _ _ _ c.requires.kept.0 c.requires.kept.1 c.requires.at.0 c.requires.at.1
 
-pub returns-then-is_empty : goal.returns-then-is_empty
-returns-then-is_empty g c = (
-  refl,
+pub returns-then-is_empty-clause-moved : goal.returns-then-is_empty-clause-moved
+returns-then-is_empty-clause-moved g c = (
   record {
     later = later_same _;
     kept = λ xs is.
@@ -30,12 +30,12 @@ returns-then-is_empty g c = (
   tt,
 )
 
-pub returns-in-None : goal.returns-in-None
-returns-in-None g c = (
-  refl,
+pub returns-in-None-clause-moved : goal.returns-in-None-clause-moved
+returns-in-None-clause-moved g c = (
   record {
     later = later_sent _ _ _ c.in-None.ensures.number c.in-None.ensures.came c.in-None.ensures.reads
-        c.in-None.ensures.went c.in-None.ensures.over (λ told. c.in-None.ensures.broke) c.in-None.ensures.hung_up;
+        c.in-None.ensures.went c.in-None.ensures.over (λ told. c.in-None.ensures.broke) c.in-None.ensures.hung_up
+        (_, c.in-None.ensures.calls);
     kept = λ xs is.
         client_waits g.P.Peer.traffic _ _ _ _ xs is c.args.self.now.connection _ c.in-None.ensures.came
         c.in-None.ensures.reads (c.in-None.ensures.went ∙ append-nil _) c.in-None.ensures.over
@@ -45,13 +45,12 @@ returns-in-None g c = (
   tt,
 )
 
-pub returns : goal.returns
-returns g c = (
-  refl,
+pub returns-clause-moved : goal.returns-clause-moved
+returns-clause-moved g c = (
   record {
     later = later_sent _ _ _ c.in-Some.ensures.number c.in-Some.ensures.came c.in-Some.ensures.reads
         c.in-Some.ensures.went c.in-Some.ensures.over (λ told. c.in-Some.ensures.broke ∙ told)
-        c.in-Some.ensures.hung_up;
+        c.in-Some.ensures.hung_up (_, c.in-Some.ensures.calls);
     kept = λ xs is.
         client_sent g.P.Peer.traffic _ _ _ _ xs is _ _ c.requires.at.0 _ c.requires.at.1 c.sent-in-Some.ensures
         c.in-Some.ensures.came c.in-Some.ensures.reads c.in-Some.ensures.went c.in-Some.ensures.over
@@ -60,3 +59,9 @@ returns g c = (
   tt,
   tt,
 )
+
+pub returns-then-is_empty-clause-goes : goal.returns-then-is_empty-clause-goes
+returns-then-is_empty-clause-goes g c =
+    let none : length c.pending.result.now ≡ 0 = eqb-true _ _ (sym c.is_empty.ensures ∙ c.if-is_empty.true) in
+    goes_sent g.P.Peer.traffic _ _ _ _ _ c.requires.at.0 c.requires.at.1
+    (sym (ap (λ (s : List ℕ). length s) c.pending.ensures) ∙ none) c.sent.ensures

@@ -5,14 +5,16 @@ use Rattle.hall_http.specs.Places.{HasExpired, IsLetGo, MayMakeRoom}
 use Rattle.hall_http.specs.Seats.{are_full}
 use Rattle.hall_http.specs.declared.places.LetGo.{LetGo}
 use Rattle.hall_http.specs.declared.places.Visit.{Visit}
+use Rattle.hall_http.proofs.Room.{goes_there}
 use Rattle.hall_http.proofs.places.Places.let_go.Goals as goal
 
 pub invariant_of-self-clause-rightly : goal.invariant_of-self-clause-rightly
 invariant_of-self-clause-rightly c =
+    let there = goes_there c.args.self.now c.args.place c.requires in
     let may =
     subst (λ (v : Visit). HasExpired v c.args.self.now.elapsed ⊎
     ((are_full c.args.self.now ≡ true) × MayMakeRoom v c.args.self.now.elapsed))
-    (same_Some c.requires.0 c.in-Some.visit (sym c.requires.1 ∙ sym c.at.ensures ∙ c.in-Some.is)) c.requires.2 in
+    (same_Some there.0 c.in-Some.visit (sym there.1 ∙ sym c.at.ensures.known ∙ c.in-Some.is)) there.2 in
     let one : LetGo = record { place = c.args.place; visit = c.in-Some.visit; is_full = c.are_full.result } in
     let rightly : IsLetGo (one, c.args.self.now.elapsed) =
     elim may [
@@ -25,7 +27,8 @@ invariant_of-self-clause-rightly c =
 
 pub returns-in_default-clause-gone : goal.returns-in_default-clause-gone
 returns-in_default-clause-gone c =
-    let clash = sym c.requires.1 ∙ sym c.at.ensures ∙ c.in_default.is in absurd cc
+    let clash = sym (goes_there c.args.self.now c.args.place c.requires).1 ∙ sym c.at.ensures.known ∙ c.in_default.is in
+    absurd cc
 
 pub returns-clause-gone : goal.returns-clause-gone
 returns-clause-gone c = (_, refl, c.free.ensures.freed.2 ∙ c.and-self.ensures)

@@ -1,0 +1,23 @@
+use Rattle.std.proofs.Common.{◌≡◌, subst, rules, ◌++◌, ◌∷◌, [], true}
+use Rattle.hall_http.specs.declared.event_loop.Look.TheVariants.{Clock}
+use Rattle.hall_http.proofs.Looked.{all_told, all_told_before}
+use Rattle.hall_http.proofs.event_loop.Schedule.poll_once.Goals.{then-not-tells_all+in_ok-hear_all, else-not-tells_all+else-not-is_quiet}
+use Rattle.hall_http.proofs.event_loop.Schedule.poll_once.Goals as goal
+
+pub invariant_of-self-2 : goal.invariant_of-self-2
+invariant_of-self-2 g c = record {
+  heard_out = λ on. elim c.if-not-tells_all.branch [
+    | then-not-tells_all+in_ok-hear_all w ↦ rw w.self-is w.in_ok-hear_all.ensures.all
+    | else-not-tells_all+else-not-is_quiet w ↦
+        let now = c.hear.new.self.looks.items in
+        let then = c.count_time-is_quiet.new.self.looks.items in
+        let tells : c.tells_all.result ≡ true = search rules in
+        let quiet : c.count_time-is_quiet.result ≡ true = search rules in
+        let counts = c.count_time-is_quiet.ensures.counts in
+        let clock : then ≡ now ++ (Clock counts.0 true, 0) ∷ [] =
+        subst (λ b. then ≡ now ++ (Clock counts.0 b, 0) ∷ []) quiet counts.1 in
+        rw w.self-is (∣ all_told_before now then counts.0
+        (all_told c.count_time.new.self.looks.items now c.patience-patience.result c.in_ok-told.told
+        c.in_ok-told.ensures.told (c.tells_all.ensures tells)) clock ∣₁)
+  ];
+}

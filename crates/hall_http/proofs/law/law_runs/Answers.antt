@@ -1,5 +1,0 @@
-use Rattle.hall_http.proofs.Runs.{runs_compose}
-use Rattle.hall_http.proofs.law.law_runs.Goals as goal
-
-pub returns : goal.returns
-returns c = runs_compose
