@@ -3,7 +3,7 @@ ghost use Rattle.std.specs.Prelude.{◌≡◌, ◌≤◌, [], ◌∷◌, ◌++�
 ghost use Rattle.hall_http.specs.Coming.{logged};
 ghost use Rattle.hall_http.specs.Outgoing.{outgoing_text};
 
-use hall_http::{Moved, Next, Outgoing, Peer, Sockets, Step};
+use hall_http::{Call, Moved, Next, Outgoing, Peer, Sockets, Step};
 use http_server::Log;
 use std::alloc::Global;
 use std::cell::{Cell, RefCell};
@@ -128,12 +128,25 @@ pub(crate) struct Scripted<'a> {
     before: Log<usize, u64>,
     reads: Log<[u8; 4096], usize>,
     writes: Log<Outgoing, (usize, usize)>,
+    calls: Log<Call, Moved>,
     /// A read told that no more comes.
     is_over: bool,
     /// A send told that no more goes.
     is_broken: bool,
     /// It was told that no more is sent.
     is_hung_up: bool,
+}
+
+impl Scripted<'_> {
+    /// Notes what a call told.
+    fn noted(&mut self, call: Call, told: Moved) -> Moved
+        ensures same { result ≡ told }
+        ensures others { self.new ≡ record self.old { calls = self.new.calls } }
+        ensures noted { self.new.calls.items ≡ self.old.calls.items ++ (call, told) ∷ [] }
+    {
+        self.calls = self.calls.and(&call, &told);
+        told
+    }
 }
 
 impl Peer for Scripted<'_> {
@@ -145,12 +158,13 @@ impl Peer for Scripted<'_> {
       over = peer.is_over;
       broke = peer.is_broken;
       hung_up = peer.is_hung_up;
+      calls = peer.calls.items;
     } };
 
     fn receive(&mut self, chunk: &mut [u8; 4096]) -> Moved {
         let Coming { sent, manner, seen } = self.coming;
         if seen.waits(manner) {
-            return Moved::Wait;
+            return self.noted(Call::Receive, Moved::Wait);
         }
         seen.reads.set(seen.reads.get().saturating_add(1));
         let at = seen.place(sent.len(), manner.after);
@@ -162,14 +176,14 @@ impl Peer for Scripted<'_> {
             Ok(count) if count > 0 => {
                 seen.at.set(at.saturating_add(count));
                 self.reads = self.reads.and(chunk, &count);
-                Moved::Some(count)
+                self.noted(Call::Receive, Moved::Some(count))
             }
             _ => match manner.after {
                 After::End => {
                     self.is_over = true;
-                    Moved::None
+                    self.noted(Call::Receive, Moved::None)
                 }
-                After::Silence | After::Again => Moved::Wait,
+                After::Silence | After::Again => self.noted(Call::Receive, Moved::Wait),
             },
         }
     }
@@ -177,7 +191,7 @@ impl Peer for Scripted<'_> {
     fn send(&mut self, outgoing: &Outgoing, from: usize) -> Moved {
         let Coming { manner, seen, .. } = self.coming;
         if seen.waits(manner) {
-            return Moved::Wait;
+            return self.noted(Call::Send, Moved::Wait);
         }
         let bytes = &outgoing.as_bytes()[from..];
         let left = manner.takes.saturating_sub(seen.count());
@@ -190,11 +204,11 @@ impl Peer for Scripted<'_> {
         }
         if count == 0 {
             self.is_broken = true;
-            return Moved::None;
+            return self.noted(Call::Send, Moved::None);
         }
         seen.write(&bytes[..count]);
         self.writes = self.writes.and(outgoing, &(from, count));
-        Moved::Some(count)
+        self.noted(Call::Send, Moved::Some(count))
     }
 
     fn end_sending(&mut self) {
@@ -208,12 +222,15 @@ impl Peer for Scripted<'_> {
 }
 
 /// Lets in the clients of its list, from the last to the first, each at a place of its own, and gives those that are
-/// here their turns. Once so many turns were had, each is let go.
+/// here their turns. Requests that are held are answered once all have had theirs, or at once by a stubborn one. Once
+/// so many turns were had, each is let go.
 #[derive(Drop)]
 pub(crate) struct Listed<'a> {
     coming: Vec<Coming<'a>>,
     count: usize,
     here: VecDeque<usize>,
+    /// How many requests are held.
+    holding: usize,
     turns: u64,
     /// Whether who had its turn has the next one too, as long as it can go on.
     is_stubborn: bool,
@@ -236,6 +253,7 @@ impl<'a> Listed<'a> {
             coming,
             count: 0,
             here: VecDeque::new(alloc),
+            holding: 0,
             turns,
             is_stubborn,
             nexts: Log::new(),
@@ -261,6 +279,8 @@ impl<'a> Sockets for Listed<'a> {
 
     ghost is_over = { λ _. Unit {0} };
 
+    ghost is_fair = { λ _. Unit {0} };
+
     ghost said = { λ sockets. record {
       nexts = logged sockets.nexts;
       count = length sockets.seated.items;
@@ -279,11 +299,15 @@ impl<'a> Sockets for Listed<'a> {
                 before: mem::replace(&mut self.seated, seated),
                 reads: Log::new(),
                 writes: Log::new(),
+                calls: Log::new(),
                 is_over: false,
                 is_broken: false,
                 is_hung_up: false,
             };
             return self.noted(Next::Newcomer { place, peer });
+        }
+        if self.holding > 0 && (self.is_stubborn || self.here.is_empty()) {
+            return self.noted(Next::Answer);
         }
         let Some(place) = self.here.pop_front() else {
             return self.noted(Next::End);
@@ -299,8 +323,21 @@ impl<'a> Sockets for Listed<'a> {
         self.heard = self.heard.and(&(place, step), &self.turns);
         let _ = match step {
             Step::Over => Ok(()),
+            Step::Holds => {
+                self.holding = self.holding.saturating_add(1);
+                Ok(())
+            }
             Step::Again if self.is_stubborn => self.here.push_front(place),
             _ => self.here.push_back(place),
+        };
+    }
+
+    fn answered(&mut self, place: usize) {
+        self.holding = self.holding.saturating_sub(1);
+        let _ = if self.is_stubborn {
+            self.here.push_front(place)
+        } else {
+            self.here.push_back(place)
         };
     }
 

@@ -31,6 +31,8 @@ impl<'r> Sockets for Brief<'r> {
 
     ghost is_over = { λ _. Unit {0} };
 
+    ghost is_fair = { λ _. Unit {0} };
+
     ghost said = { λ sockets. record {
       nexts = logged sockets.nexts;
       count = (said_by sockets.inner).count;
@@ -53,6 +55,10 @@ impl<'r> Sockets for Brief<'r> {
         self.has_gone = matches!(step, Step::Over);
         self.heard = self.heard.and(&(place, step), &self.has_gone);
         self.inner.stands(place, step);
+    }
+
+    fn answered(&mut self, place: usize) {
+        self.inner.answered(place);
     }
 
     fn hear_of_writes(&mut self, refuses_writes: bool) {

@@ -10,7 +10,7 @@ use Rattle.hall_desk.specs.Checked.{AreStatesTrue, IsNothingFound}
 use Rattle.hall_desk.specs.Finds.{EveryRow}
 use Rattle.hall_desk.specs.declared.sanity.Checked.{Checked}
 use Rattle.hall_desk.specs.declared.sentence.Breaches.{Breaches}
-use Rattle.hall_desk.specs.declared.states.States.{States}
+use Rattle.hall_desk.specs.declared.puzzle_states.States.{States}
 use Rattle.hall_tool.specs.WorldText.{is_broken, is_decided, is_found, is_none, is_state_broken, sane_line}
 
 module _ {X : Type 0} (f : X → List ℕ) (xs : List X) (i : ℕ) (d : X) (few : i < length xs) where

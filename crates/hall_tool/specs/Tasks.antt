@@ -71,10 +71,10 @@ IsCensusTaken old new None = Kept old new
 
 -- The machine was asked once to listen, on the port, for so many connections. It listened there, was told that the hall
 -- in the file at the path is served, and how many people and rounds it knows or nothing of that, and showed a clock;
--- and then the connections were served over the store, each at turns of its place, and the machine was handed back the
--- sockets and told of all that came. Or memory was refused then, and the machine was handed back the sockets as it had
--- handed them out, and told that none came. Or the machine refused, and the store is as it was. Neither reader nor
--- writer is asked.
+-- and then the connections were served over the store, each at turns of its place, which were given fairly, and the
+-- machine was handed back the sockets and told of all that came. Or memory was refused then, and the machine was handed
+-- back the sockets as it had handed them out, and told that none came. Or the machine refused, and the store is as it
+-- was. Neither reader nor writer is asked.
 abbrev pub DoesServe : {N L C P S R W : Type 0} → Hosts N L C P → (S → Content) → Service → OnHost N S R W
     → OnHost N S R W → Result ℕ CommandFault → Type 0
 DoesServe {N} {L} {C} {P} {S} h content offered before after result =
@@ -85,7 +85,7 @@ DoesServe {N} {L} {C} {P} {S} h content offered before after result =
     × (((left : L) × (late : C) × (gone : List (Past P)) × (e : ServeAllEnd)
     × AreServedAtTurns content h.clock.now_gives h.peer.traffic e ((later, clock), h.sockets.said sockets)
     ((after.stand.kept, late), h.sockets.said left) gone
-    × EndsServing h.sockets.is_over h.sockets.said h.peer.traffic e sockets left gone
+    × EndsServing h.sockets.is_over h.sockets.said h.peer.traffic e sockets left gone × h.sockets.is_fair left
     × h.host.ends told left gone after.host × (result ≡ serve_end e))
     ⊎ (h.host.ends told sockets [] after.host × (after.stand.kept ≡ later) × (result ≡ Err (Tool Memory)))))
     ⊎ (h.host.refuses before.host offered.port after.host × (after.stand.kept ≡ before.stand.kept)

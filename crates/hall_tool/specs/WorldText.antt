@@ -11,7 +11,7 @@ use Rattle.hall_desk.specs.declared.sentence.Sentence.{Sentence}
 use Rattle.hall_desk.specs.declared.sentence.Sentence.TheVariants as sentence
 use Rattle.hall_desk.specs.declared.sentence.Spot.{Spot}
 use Rattle.hall_desk.specs.declared.sentence.Spot.TheVariants as spot
-use Rattle.hall_desk.specs.declared.states.States.{States}
+use Rattle.hall_desk.specs.declared.puzzle_states.States.{States}
 use Rattle.hall_tool.specs.JudgeText.{on_own_line}
 
 -- what is wrong where the sentence is false, in the words of the field

@@ -34,7 +34,7 @@ Exit status: 0 done; 1 a wrong answer, not one solution, or a broken file; 2 ref
 memory, of a device or of the database, with `fault` on standard error and what to do; 64 a wrong command line.
 
 Example:
-  $ hall judge < examples/judge/right.txt
+  $ printf 'sudoku/4/4/123434122143432g\\n1234341221434321\\n' | hall judge
   right
 ";
 
@@ -53,7 +53,7 @@ Options:
 Exit status: 0 right; 1 wrong; 2 refused.
 
 Example:
-  $ hall judge < examples/judge/wrong.txt
+  $ printf 'sudoku/4/4/123434122143432g\\n1234341221434312\\n' | hall judge
   wrong U2 U4
 ";
 
@@ -73,7 +73,7 @@ Options:
 Exit status: 0 one solution; 1 none, more or gave up; 2 refused.
 
 Example:
-  $ hall solve --budget 1000 < examples/solve/loop.txt
+  $ printf 'slither/2/2/222c\\n' | hall solve --budget 1000
   one 110011/101101
 ";
 
@@ -95,8 +95,9 @@ Exit status: 0 where the people were imported; 2 where the list is refused or de
 be read or written, with `fault` on standard error and what to do.
 
 Example:
-  $ hall init --db hall.db --people examples/people.csv
-  added 6
+  $ printf 'name,key,roles\\ndora,dora-key,director\\n' > people.csv
+  $ hall init --db hall.db --people people.csv
+  added 1
 ";
 
 const SERVE: &str = "\
@@ -142,7 +143,7 @@ Exit status: 0 where the input is whole records and no more; 2 where it goes on 
 refused or denied.
 
 Example:
-  $ hall replay --people examples/people.csv < examples/rounds/replay.txt
+  $ printf '@1777699990 41\\nGET /rounds HTTP/1.1\\nHall-Key: dora-key\\n\\n' | hall replay --people people.csv
 ";
 
 const TABLE: &str = "\
@@ -182,7 +183,7 @@ Exit status: 0 where G holds the rows of F; 2 where one of the two is refused; 3
 written, with `fault` on standard error and what to do.
 
 Example:
-  $ hall migrate --from old.db --to hall.db
+  $ hall migrate --from old.db --to new.db
   migrated 6
 ";
 
@@ -206,7 +207,7 @@ Exit status: 0 sane, as far as was searched; 1 broken; 3 where the file can't be
 
 Example:
   $ hall check --db hall.db
-  people 6, puzzles 0, rounds 0, answers 0, protests 0
+  people 1, puzzles 0, rounds 0, answers 0, protests 0
   sane as far as is stored: whether a solution is the only one wasn't searched anew
 ";
 

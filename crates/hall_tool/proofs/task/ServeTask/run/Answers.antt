@@ -41,6 +41,7 @@ returns g c = (
       c.in-Ok-serve_all.end,
       c.in-Ok-serve_all.ensures.served,
       c.in-Ok-serve_all.ensures.ended,
+      c.in-Ok-serve_all.ensures.fair,
       c.end-2.ensures,
       c.serve_end.ensures,
     ),

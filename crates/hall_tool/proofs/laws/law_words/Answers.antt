@@ -1,5 +1,5 @@
 use Rattle.hall_tool.proofs.Spelled.{are_spelled, one_command}
-use Rattle.hall_tool.proofs.law.law_words.Goals as goal
+use Rattle.hall_tool.proofs.laws.law_words.Goals as goal
 
 pub returns-clause-spelled : goal.returns-clause-spelled
 returns-clause-spelled c = are_spelled
