@@ -22,7 +22,7 @@ TESTS = ("hall_tests", "store_tests", "puzzle_tests", "probe", "test_harness")
 # What is looked for: a fault of memory, and what is answered by 503.
 MADE = (
     r"(?:AllocError|AllocFailed|\w+::OutOfMemory|(?:\w+Fault|Self)::Memory"
-    r"|(?:Reply|Answer|Status|Self)::Unavailable|(?:Answer|Self)::Shut|UNAVAILABLE)"
+    r"|(?:Reply|Answer|Status|Self)::Unavailable|(?:Answer|Self)::Shut|GroupEnd::(?:Refused|Shut)|UNAVAILABLE)"
 )
 # Above the desk's plans, that the store failed.
 FAILED = r"(?:StoreFault::Failed|ToolFault::Store)"
@@ -93,7 +93,7 @@ PLACES = {
         "Answer::Unavailable | Answer::Shut => UNAVAILABLE.as_bytes(),",
         "Err(RequestFault::Memory) => Answer::Unavailable,",
         "if is_nobodys(request) { return Answer::Unavailable; }"
-        " match desk.still_serves(alloc) { Ok(true) => Answer::Unavailable, Ok(false) | Err(_) => Answer::Shut,",
+        " if serves_on(alloc, desk) { return Answer::Unavailable; } Answer::Shut",
         "if is_unavailable(text.as_str()) { return Answer::Shut; }",
         "text.as_bytes() == Answer::Unavailable.as_bytes()",
     ],
@@ -102,6 +102,19 @@ PLACES = {
         " Some(moment) => { let answer = answer_raw_request(alloc, routes, self, moment, request); self.at_rest();"
         " answer } None => { self.at_rest(); Answer::Unavailable } } }",
     ],
+    # A group whose write was refused, or whose store was shut by then, and what each of it is told.
+    "hall_http/src/joining.rt": [
+        "if !serves_on(alloc, desk) { return GroupEnd::Shut; }"
+        " match desk.commit_all(alloc, joint) { Ok(()) => GroupEnd::Stored, Err(_) => refused_end(alloc, desk),",
+        "if serves_on(alloc, desk) { return GroupEnd::Refused; } GroupEnd::Shut",
+    ],
+    "hall_http/src/connection.rt": [
+        "GroupEnd::Refused => Joined { size: self.size, closes: self.closes, answer: Answer::Unavailable, },"
+        " GroupEnd::Shut => Joined { size: self.size, closes: self.closes, answer: Answer::Shut, },",
+    ],
+    # Who can't join a group, for what it asks or since the group is full, is answered alone: no reply comes of this.
+    "hall_desk/src/together.rt": ["Change::AddAnswer(row) => joint.push(row), _ => Err(AllocError),"],
+    "hall_store/src/joint.rt": ["if self.rows.len() >= MOST_TOGETHER { return Err(AllocError); }"],
     # How a command ends for which there is no memory.
     "hall_tool/src/commands.rt": [
         "match open_in_memory(alloc) { Ok(store) => {"
@@ -194,6 +207,10 @@ INVENTED = {
     "answered_503_unasked": (
         "hall_http/src/answer.rt", "match read_raw_request(bytes) {",
         "if bytes.is_empty() { return unavailable(alloc, desk, request); }",
+    ),
+    "group_refused_unasked": (
+        "hall_http/src/joining.rt", "match desk.commit_all(alloc, joint) {",
+        "if hits(&joint) { return GroupEnd::Refused; } match desk.commit_all(alloc, joint) {",
     ),
 }
 

@@ -3,11 +3,11 @@
 
     python3 tools/build/gate.py [--anew]
 
-Run by ./check. What `rt ci` proved on this machine before, of the same sources by the same kit, it keeps and takes;
-with --anew it proves all. Where a crate has must-fail edits, it proves it a second time and then tries each edit by
-itself; so it is given a copy of the crates without them, and tools/build/wrong_bodies.py tries them over the libraries
-that it has proved there. The program that it has built goes to crates/hall/out. The last line is 'N passed, M failed',
-the crates, programs and edits of both.
+Run by ./check --prove. What `rt ci` proved on this machine before, of the same sources by the same kit, it keeps and
+takes; with --anew it proves all. Where a crate has must-fail edits, it proves it a second time and then tries each edit
+by itself; so it is given a copy of the crates without them, and tools/build/wrong_bodies.py tries them over the
+libraries that it has proved there. The program that it has built goes to crates/hall/out. The last line is 'N passed, M
+failed', the crates, programs and edits of both.
 
 In the table a task is `proof`, `tests` (the proof with a crate's tests) or `edits`. The time is read off the processes
 twice a second, so the last half second of each is missing.
@@ -150,7 +150,7 @@ def main():
     for line in times.table():
         print(line)
     if kept:
-        print(f"of {kept} crates the proofs that this machine has kept were taken: ./check --anew proves them again")
+        print(f"of {kept} crates the proofs that this machine has kept were taken: ./check --prove --anew proves all")
     print(f"{(time.time() - begun) / 60:.1f} minutes on {os.cpu_count()} processors")
     passed, failed = (sum(it) for it in zip(*counts))
     print(f"{passed} passed, {failed} failed", flush=True)

@@ -5,7 +5,7 @@ must-fail/further.md too, whose `old:` text doesn't stand once.
 
     python3 tools/build/ready.py
 
-To be run before a push; it ends with 1 where it found something.
+Run by ./check; it ends with 1 where it found something.
 """
 import os
 import shutil
