@@ -1,29 +1,34 @@
-// A board: what is drawn, strokes with undo and redo, zoom, and the keyboard's cursor. Pointers are in pointers.js;
-// what a click or a key means is the kind's own module (picture.js tells what a kind must have).
+// A board: what is drawn, strokes with undo, redo and tries, zoom, and the keyboard's cursor. Pointers are in
+// pointers.js; what a click or a key means is the kind's own module (README.md tells what a kind must have).
 //
-// A stroke is a flat list of whole numbers: place, mark before, mark after, place, ... So undo, keeping and answers
-// are the same for all kinds.
+// A stroke is a flat list of whole numbers: place, mark before, mark after, place, ... A try is told by how many
+// strokes were drawn before it.
 
 import { html, svg, UNIT } from "./elements.js";
+import { phrase } from "./phrases.js";
 import { EDGE, kindOf, sheet } from "./picture.js";
 import { listen } from "./pointers.js";
-import { emptyMarks, placesOf } from "./texts.js";
+import { emptyMarks, layersOf } from "./texts.js";
 
 const LEGIBLE = matchMedia("(pointer: coarse)").matches ? 26 : 18; // pixels of a cell: the least at the beginning
-const LEAST = 9, GREATEST = 76; // and the bounds of zooming
+const LEAST = 6, GREATEST = 76; // and the bounds of zooming
 const ARROWS = { ArrowLeft: [-1, 0], ArrowRight: [1, 0], ArrowUp: [0, -1], ArrowDown: [0, 1] };
 const within = (least, n, most) => Math.max(least, Math.min(most, n));
 
 export class Board {
   // `drawing` keeps what is drawn (store.js); `changed` is called after each stroke, and where another tab drew.
-  constructor(puzzle, drawing, changed) {
-    Object.assign(this, { puzzle, drawing, changed, kind: kindOf(puzzle), stroke: [], pencil: false, dim: false });
+  // `wishes` are the helps that the reader asked for, by name.
+  constructor(puzzle, drawing, changed, wishes = {}) {
+    Object.assign(this, { puzzle, drawing, changed, wishes, kind: kindOf(puzzle), stroke: [], tried: new Set() });
+    this.mode = this.kind.modes[0][0];
     this.at = { x: 0, y: 0 };
-    this.inks = Array(placesOf(puzzle)).fill(null);
+    this.extra = new Set(); // cells that are chosen beside the cursor's
+    this.inks = Array(layersOf(puzzle)).fill(null);
     this.layer = svg("g");
+    this.over = svg("g");
     this.frame = svg("rect", { class: "cursor", rx: 5 });
-    this.svg = sheet(puzzle, this.layer, this.frame);
-    const name = `${this.kind.name}, ${puzzle.cols} by ${puzzle.rows}. Arrow keys move, and tell what is there.`;
+    this.svg = sheet(puzzle, this.layer, this.over, this.frame);
+    const name = phrase("boardName", { kind: this.kind.name, cols: puzzle.cols, rows: puzzle.rows });
     Object.entries({ tabindex: 0, role: "application", "aria-label": name })
       .forEach(([attribute, value]) => this.svg.setAttribute(attribute, value));
     this.words = html("p", { class: "unseen", "aria-live": "polite" });
@@ -37,11 +42,14 @@ export class Board {
 
   // --- what is drawn
 
-  // Takes over what is kept.
+  // Takes over what is kept. A drawing that was kept before there were layers has none of their marks.
   adopt() {
-    const { marks, past, future } = this.drawing.value ?? { marks: emptyMarks(this.puzzle), past: [], future: [] };
-    Object.assign(this, { marks, past, future, stroke: [] });
+    const { marks, past, future, tries = [] } = this.drawing.value ?? { marks: emptyMarks(this.puzzle), past: [],
+      future: [] };
+    while (marks.length < this.inks.length) marks.push(0);
+    Object.assign(this, { marks, past, future, tries, stroke: [], tried: new Set() });
     marks.forEach((_, place) => this.paint(place));
+    this.showTries();
   }
 
   // What another tab of this person has drawn is taken over first, so that nothing of it is lost.
@@ -55,16 +63,25 @@ export class Board {
   paint(place) {
     const mark = this.marks[place];
     this.inks[place]?.remove();
-    this.inks[place] = mark ? this.kind.ink(this.puzzle, place, mark) : null;
-    if (this.inks[place]) this.layer.append(this.inks[place]);
+    const ink = this.inks[place] = mark ? this.kind.ink(this.puzzle, place, mark, this.marks) : null;
+    if (!ink) return;
+    if (ink.classList.contains("under")) this.layer.prepend(ink);
+    else this.layer.append(ink);
+    ink.classList.toggle("tried", this.tried.has(place));
   }
 
   // Draws a mark as a part of the stroke that is under way; `end` ends it.
   set(place, mark) {
     if (this.marks[place] === mark) return;
     this.stroke.push(place, this.marks[place], mark);
+    if (this.tries.length) this.tried.add(place);
+    this.put(place, mark);
+  }
+
+  put(place, mark) {
     this.marks[place] = mark;
     this.paint(place);
+    this.kind.along?.(this.puzzle, place).forEach((other) => this.paint(other));
   }
 
   end() {
@@ -89,6 +106,8 @@ export class Board {
     if (!stroke) return;
     this.replay(stroke, forward);
     this[to].push(stroke);
+    this.tries = this.tries.filter((begin) => begin <= this.past.length);
+    this.showTries();
     this.after();
   }
 
@@ -96,14 +115,14 @@ export class Board {
     const count = stroke.length / 3;
     for (let k = 0; k < count; k++) {
       const i = 3 * (forward ? k : count - 1 - k);
-      this.marks[stroke[i]] = stroke[i + (forward ? 2 : 1)];
-      this.paint(stroke[i]);
+      this.put(stroke[i], stroke[i + (forward ? 2 : 1)]);
     }
   }
 
   clear() {
     this.renew();
-    emptyMarks(this.puzzle).forEach((mark, place) => this.set(place, mark));
+    const empty = emptyMarks(this.puzzle);
+    this.marks.forEach((_, place) => this.set(place, empty[place] ?? 0));
     this.end();
   }
 
@@ -113,17 +132,61 @@ export class Board {
     this.changed();
   }
 
+  // --- tries
+
+  beginTry() {
+    this.renew();
+    this.tries.push(this.past.length);
+    this.after();
+  }
+
+  // Takes back all that was drawn since the newest try began; redo brings it back, but not as a try.
+  undoTry() {
+    this.renew();
+    const begin = this.tries.pop();
+    if (begin === undefined) return;
+    while (this.past.length > begin) {
+      const stroke = this.past.pop();
+      this.replay(stroke, false);
+      this.future.push(stroke);
+    }
+    this.showTries();
+    this.after();
+  }
+
+  keepTries() {
+    this.tries = [];
+    this.showTries();
+    this.after();
+  }
+
+  // Shows which places were drawn in a try.
+  showTries() {
+    const before = this.tried, strokes = this.tries.length ? this.past.slice(this.tries[0]) : [];
+    this.tried = new Set(strokes.flatMap((stroke) => stroke.filter((_, i) => i % 3 === 0)));
+    for (const place of new Set([...before, ...this.tried])) {
+      this.inks[place]?.classList.toggle("tried", this.tried.has(place));
+    }
+  }
+
   // --- keys
 
-  move(dx, dy) {
+  // Moves the cursor; `more` keeps what is chosen beside it.
+  move(dx, dy, more = false) {
     const { cols, rows } = this.kind.steps(this.puzzle);
+    if (!more) this.extra.clear();
     this.at = { x: within(0, this.at.x + dx, cols - 1), y: within(0, this.at.y + dy, rows - 1) };
     const [x, y, width, height] = this.kind.cursor(this.at.x, this.at.y).map((n) => n * UNIT);
     Object.entries({ x, y, width, height }).forEach(([name, value]) => this.frame.setAttribute(name, value));
-    this.kind.shade?.(this);
+    this.kind.follow?.(this);
     if (!dx && !dy) return;
     this.frame.scrollIntoView({ block: "nearest", inline: "nearest" });
     this.say();
+  }
+
+  moveTo(cell, more) {
+    const { cols } = this.puzzle;
+    this.move(cell % cols - this.at.x, Math.floor(cell / cols) - this.at.y, more);
   }
 
   say() { this.words.textContent = this.kind.say(this); }
@@ -133,8 +196,11 @@ export class Board {
     this.renew();
     if (command && (letter === "y" || letter === "z" && event.shiftKey)) this.redo();
     else if (command && letter === "z") this.undo();
-    else if (command || event.altKey) return;
+    else if (event.altKey || command && !this.kind.takesCommands) return;
     else if (this.kind.key(this, event, arrow)) this.say();
+    else if (command) return;
+    else if (letter === "t") this.beginTry();
+    else if (letter === "r") this.undoTry();
     else if (arrow) this.move(...arrow);
     else return;
     event.preventDefault();

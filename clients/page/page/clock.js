@@ -1,7 +1,7 @@
 // The hall's clock, by the replies' `Date` (the proxy writes it) and a local clock that nobody can set.
 //
-// Each reply says in which second it was made, and it was made between sending and getting. So how far the clocks are
-// apart lies between two bounds, and many replies narrow them below a second. All times are in milliseconds but `now`.
+// Each reply was made in the second that it says, and between sending and getting. So how far the clocks are apart
+// lies between two bounds, which many replies narrow. All times are in milliseconds but `now`.
 
 const unbounded = () => ({ low: -Infinity, high: Infinity });
 const wall = () => Date.now() - performance.now();

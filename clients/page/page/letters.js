@@ -1,10 +1,8 @@
-// Answers and protests on their way. A letter gets its token and is kept before it leaves, so that whatever happens
-// (a cut connection, a closed tab, a dead battery) the same letter goes again, and the hall takes it once.
+// Answers and protests on their way: kept with their token before they leave, and sent until the hall replies.
 //
 // A letter: {id: its token, path, body, round and its start, number, kind: "answer" or "protest", made, reply}.
-// Without `reply` it is on its way. Taken ones are dropped (the hall's own list shows them); refused ones stay until
-// the reader has seen them.
-// Each has a name of its own in the browser's store, so two tabs of one person don't overwrite each other's.
+// Without `reply` it is on its way. Taken ones are dropped; refused ones stay until the reader has seen them. Each has
+// a name of its own in the browser's store, so two tabs of one person don't overwrite each other's.
 
 import { clock } from "./clock.js";
 import { ask, newToken } from "./requests.js";

@@ -1,40 +1,57 @@
 // The page: who is in, which view is shown, and what all views share (rounds, sheets, answers, letters).
-// A view is a function (app, signal, ...words of the address) that gives an element; `signal` tells that it was left.
+// A view is a function (app, signal, ...words of the address) that gives an element; `signal` ends when it is left.
 
 import { clock } from "./clock.js";
 import { html, question } from "./elements.js";
 import { Letters } from "./letters.js";
+import { chooseLook } from "./look.js";
+import { LANGUAGES, language, loadLater, phrase } from "./phrases.js";
 import { ask, network } from "./requests.js";
-import { keepKey, keepOption, keeping, personOf, readKey, readOption, sweep } from "./store.js";
+import { keepKey, keepOption, keepSheet, keeping, personOf, readKey, readSheets, sweep } from "./store.js";
 import { every } from "./times.js";
-import { aboutView } from "./view-about.js";
-import { answersView, protestsView, tableView } from "./view-after.js";
 import { doorView } from "./view-door.js";
 import { puzzleView } from "./view-puzzle.js";
-import { paper, roundView } from "./view-round.js";
+import { roundView } from "./view-round.js";
 import { roundsView } from "./view-rounds.js";
 import { trouble } from "./words.js";
 
+// Views whose module is loaded when it is wanted.
+const later = (path, ...names) => names.map((name) => (...words) => {
+  const place = html("section", { class: "page" });
+  Promise.all([import(path), loadLater()]).then(([module]) => place.replaceWith(module[name](...words)));
+  return place;
+});
+
+const [answersView, protestsView, tableView] = later("./view-after.js", "answersView", "protestsView", "tableView");
+const [aboutView, rulesView] = later("./view-about.js", "aboutView", "rulesView");
 const ROUTES = [[/^#\/r\/([a-z0-9-]+)\/(\d+)$/, puzzleView], [/^#\/r\/([a-z0-9-]+)$/, roundView],
   [/^#\/r\/([a-z0-9-]+)\/answers$/, answersView], [/^#\/r\/([a-z0-9-]+)\/protests$/, protestsView],
-  [/^#\/r\/([a-z0-9-]+)\/table$/, tableView], [/^#\/about$/, aboutView], [/^/, roundsView]];
-const WITHOUT_KEY = [tableView, aboutView];
+  [/^#\/r\/([a-z0-9-]+)\/table$/, tableView], [/^#\/about$/, aboutView], [/^#\/rules$/, rulesView],
+  [/^/, roundsView]];
+const WITHOUT_KEY = [tableView, aboutView, rulesView];
 const REFRESH = 30; // seconds between two looks at the list of rounds
+const AWAY = 2; // seconds without a reply until what the browser kept is shown
 const EARLY = 5; // so many seconds before the start by the page's clock a sheet is asked for again and again
 const main = document.querySelector("main"), whose = document.querySelector("#whose");
 
+// Resolves where the hall can't be reached, or doesn't reply soon.
+const away = () => new Promise((done) => {
+  network.addEventListener("trouble", () => done(null), { once: true });
+  setTimeout(() => done(null), AWAY * 1000);
+});
+
 class App extends EventTarget {
-  rounds = []; told = false; sheets = new Map(); names = new Map();
+  rounds = []; told = false; sheets = new Map(); names = new Map(); kept = new Map();
   key = null; person = null; letters = null; leaving = null; session = null; refreshing = null;
 
   enter(key, rounds) {
     keepKey(key);
     Object.assign(this, { key, person: personOf(key), rounds: rounds ?? [], told: Boolean(rounds),
-      session: new AbortController() });
+      session: new AbortController(), kept: readSheets(personOf(key)) });
     this.letters = new Letters(key, this.person);
     if (rounds) this.letters.begin(rounds);
     document.body.classList.add("in");
-    whose.textContent = `Key …${key.slice(-3)}`;
+    whose.textContent = phrase("key", { end: key.slice(-3) });
     every(REFRESH, this.session.signal, this.refresh);
     this.show();
   }
@@ -68,22 +85,47 @@ class App extends EventTarget {
     this.dispatchEvent(new Event("rounds"));
   }
 
-  // A round as it is known, so that one may go on while the hall is away; only where it isn't known it is waited for.
+  // A round as it is known, so that one may go on while the hall is away; else it is waited for, for long only where
+  // the browser kept nothing of it.
   async round(id) {
     const find = () => this.rounds.find((round) => round.id === id), known = find(), asked = this.refresh();
-    if (!known) await asked;
-    return find();
+    if (!known) await (this.kept.has(id) ? Promise.race([asked, away()]) : asked);
+    return find() ?? (this.told ? undefined : this.kept.get(id)?.round);
+  }
+
+  // Whether a round has begun: a sheet that was told says so even where the clock may be wrong.
+  hasBegun({ id, start }) {
+    return clock.now() >= start || !clock.known && this.kept.get(id)?.round.start === start;
+  }
+
+  // Whether the hall still tells the same of a round: it may have been published since.
+  isSame(round) {
+    return this.rounds.some((now) => now.id === round.id && now.published === round.published
+      && now.start === round.start);
   }
 
   // The sheet with the puzzles, which never changes, but where a tab outlives a hall, as after a rehearsal. Asked a
-  // little before the start by the page's clock, it waits.
+  // little before the start by the page's clock, it waits. While the hall is away it is the one that the browser kept.
   async sheet(id, signal) {
-    const kept = this.sheets.get(id);
-    if (kept && kept.start === this.rounds.find((round) => round.id === id)?.start) return { ok: true, value: kept };
+    const start = this.rounds.find((round) => round.id === id)?.start, known = this.sheets.get(id);
+    if (known && known.start === start) return { ok: true, value: known };
+    const kept = this.kept.get(id)?.sheet, asked = this.askSheet(id, signal);
+    if (!kept || kept.start !== (start ?? kept.start)) return asked;
+    const reply = await Promise.race([asked, away()]);
+    if (reply || signal.aborted) return reply;
+    asked.then((late) => late && JSON.stringify(late.value) !== JSON.stringify(kept) && this.show());
+    this.dispatchEvent(new Event("kept"));
+    return { ok: true, value: kept };
+  }
+
+  async askSheet(id, signal) {
     for (let pause = 300; ; pause = Math.min(15000, 1.1 * pause)) {
       const reply = await ask("GET", `/rounds/${id}`, { key: this.key, signal });
-      if (reply?.ok) this.sheets.set(id, reply.value);
-      const start = this.rounds.find((round) => round.id === id)?.start;
+      const round = this.rounds.find((one) => one.id === id), start = round?.start;
+      if (reply?.ok) {
+        this.sheets.set(id, reply.value);
+        if (clock.now() >= start) keepSheet(this.person, round, reply.value); // staff are told sooner: not for a store
+      }
       if (reply?.denied !== 7 || !(clock.now() > start - EARLY)) return reply;
       await new Promise((done) => setTimeout(done, pause * (1 + Math.random())));
     }
@@ -97,6 +139,9 @@ class App extends EventTarget {
     return this.own(id, reply.value.answers);
   }
 
+  // Prints a round: "each" puzzle on a page, "few" pages, or its "solutions".
+  async printAs(way, id) { (await import("./paper.js")).printRound(this, way, id); }
+
   nameIn(id) { return this.names.get(id) ?? [...this.names.values()][0]; }
 
   // One's own answers or protests: an entrant who is a referee too is told those of all.
@@ -105,7 +150,7 @@ class App extends EventTarget {
   show() {
     this.leaving?.abort();
     this.leaving = new AbortController();
-    document.title = "Contest hall";
+    document.title = phrase("hall");
     const [pattern, view] = ROUTES.find(([route]) => route.test(location.hash));
     const words = location.hash.match(pattern).slice(1), { signal } = this.leaving;
     const open = this.key || WITHOUT_KEY.includes(view);
@@ -123,57 +168,66 @@ addEventListener("hashchange", () => {
 document.addEventListener("visibilitychange", () => document.hidden || app.refresh()); // also after a sleep
 addEventListener("beforeunload", (event) => { if (app.letters?.waiting()) event.preventDefault(); });
 document.querySelector("#leave").addEventListener("click", async () => {
-  const words = "If you leave, it goes on only when you enter again in this browser.";
-  const sure = () => question("An answer is on its way", words, [["Stay", ""], ["Leave", "yes"]]);
+  const sure = () => question(phrase("onItsWay"), phrase("onItsWayLeave"), [[phrase("stay"), ""],
+    [phrase("leave"), "yes"]]);
   if (app.letters.waiting() && !await sure()) return;
   location.hash = "#/";
   app.leave();
 });
 
-// --- light or dark
-
-const look = document.querySelector("#look"), LOOKS = { auto: "◐", light: "☀", dark: "☾" };
-
-function setLook(name) {
-  document.documentElement.dataset.look = name;
-  look.textContent = LOOKS[name];
-  look.title = `Light or dark: ${name}`;
-  look.setAttribute("aria-label", look.title);
-}
-
-look.addEventListener("click", () => {
-  const names = Object.keys(LOOKS), now = names.indexOf(document.documentElement.dataset.look);
-  const next = names[(now + 1) % names.length];
-  setLook(next);
-  keepOption("look", next);
-});
-setLook(readOption("look", "auto"));
-
 // --- the banners of trouble
 
 const banner = document.querySelector("#trouble"), store = document.querySelector("#store");
-network.addEventListener("well", () => banner.replaceChildren());
+const KEPT = `${phrase("kept")} `;
+let fromStore = "";
+app.addEventListener("kept", () => {
+  fromStore = KEPT;
+  if (!banner.textContent) banner.textContent = KEPT;
+  else if (!banner.textContent.startsWith(KEPT)) banner.prepend(KEPT);
+});
+network.addEventListener("well", () => {
+  fromStore = "";
+  banner.replaceChildren();
+});
 network.addEventListener("trouble", ({ detail: { status, again } }) => {
-  const then = `Trying again in ${Math.ceil(again)} s; nothing you drew or handed in is lost.`;
-  banner.replaceChildren(html("span", {}, `${trouble(status)} ${then} `),
-    html("button", { class: "quiet", onclick: () => network.dispatchEvent(new Event("now")) }, "Try now"));
+  const then = phrase("again", { n: Math.ceil(again) });
+  banner.replaceChildren(html("span", {}, `${fromStore}${trouble(status)} ${then} `),
+    html("button", { class: "quiet", onclick: () => network.dispatchEvent(new Event("now")) }, phrase("tryNow")));
 });
 keeping.addEventListener("trouble", ({ detail }) => {
-  store.textContent = detail === "short"
-    ? "This browser is full: what you draw is kept, but undo is lost if you close the tab."
-    : "This browser keeps nothing more: don't close or reload this tab until your answers are received.";
+  store.textContent = phrase(detail === "short" ? "storeShort" : "storeShut");
 });
 
-// --- on paper there is a round's puzzles, one a page
+// --- Ctrl+P prints a round, a puzzle a page
 
-const sheets = document.querySelector("#paper");
-addEventListener("beforeprint", () => {
-  const id = location.hash.match(/^#\/r\/([a-z0-9-]+)(\/\d+)?$/)?.[1];
-  sheets.replaceChildren(...(id ? paper(app, id) : []));
-  document.body.classList.toggle("on-paper", sheets.childElementCount > 0);
+addEventListener("keydown", (event) => {
+  const [, id] = location.hash.match(/^#\/r\/([a-z0-9-]+)(\/\d+)?$/) ?? [];
+  if (!id || event.key !== "p" || !(event.ctrlKey || event.metaKey)) return;
+  event.preventDefault();
+  app.printAs("each", id);
 });
-addEventListener("afterprint", () => sheets.replaceChildren());
 
+// --- languages
+
+for (const element of document.querySelectorAll("[data-phrase]")) element.textContent = phrase(element.dataset.phrase);
+whose.title = phrase("whose");
+document.documentElement.lang = language;
+const languages = document.querySelector("#language");
+languages.setAttribute("aria-label", phrase("language"));
+languages.append(...Object.entries(LANGUAGES).map(([name, own]) =>
+  html("option", { value: name, selected: name === language, lang: name }, own)));
+languages.addEventListener("change", () => {
+  keepOption("language", languages.value);
+  location.reload();
+});
+
+// The worker keeps the page for a reload without a network; a browser that forbids it does without.
+navigator.serviceWorker?.register("worker.js").then(async () => {
+  const loaded = performance.getEntriesByType("resource").map(({ name }) => name), { href, hash } = location;
+  (await navigator.serviceWorker.ready).active.postMessage([href.replace(hash, ""), ...loaded]);
+}).catch(() => {});
+
+chooseLook(document.querySelector("#look"));
 const key = readKey();
 if (key) app.enter(key);
 else app.show();

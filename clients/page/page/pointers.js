@@ -1,7 +1,10 @@
-// Pointers on a board: one draws, two fingers move and zoom, and the wheel zooms with Ctrl.
+// Pointers on a board: one draws, two fingers move and zoom, a finger that comes while another draws moves the board,
+// and the wheel zooms with Ctrl.
 
 import { UNIT } from "./elements.js";
 import { EDGE } from "./picture.js";
+
+const DRAWS = 250; // milliseconds after which a finger that has drawn isn't the first one of a pair that zooms
 
 // Where a pointer is, in cells.
 function where(board, event) {
@@ -17,36 +20,45 @@ function spread(fingers) {
 }
 
 class Pointers {
-  constructor(board) { Object.assign(this, { board, down: new Map(), drawing: false, pinch: null }); }
+  // `draws` is the pointer that draws, `moves` the finger that moves the board meanwhile.
+  constructor(board) { Object.assign(this, { board, down: new Map(), draws: null, moves: null, pinch: null }); }
 
   press(event) {
-    const { board, down } = this;
+    const { board, down } = this, id = event.pointerId;
     event.preventDefault();
     board.svg.focus({ preventScroll: true });
     board.element.classList.remove("by-key");
-    board.svg.setPointerCapture(event.pointerId);
-    down.set(event.pointerId, event);
-    if (down.size === 2) {
-      board.forget();
-      this.drawing = false;
+    board.svg.setPointerCapture(id);
+    down.set(id, event);
+    if (down.size === 1) this.begin(event);
+    else if (this.draws !== null && board.stroke.length && event.timeStamp - this.since > DRAWS) this.moves = id;
+    else if (down.size === 2) {
+      if (this.draws !== null) board.forget();
+      this.draws = null;
       this.pinch = { ...spread(down), scale: board.scale };
-      return;
     }
-    this.drawing = down.size === 1 && event.button !== 1;
-    if (!this.drawing) return;
+  }
+
+  begin(event) {
+    const { board } = this;
+    if (event.button === 1) return;
+    Object.assign(this, { draws: event.pointerId, since: event.timeStamp });
     board.renew();
-    board.kind.press(board, where(board, event), event.button === 2);
+    board.kind.press(board, where(board, event), event);
   }
 
   move(event) {
-    const { board, down } = this;
-    if (!down.has(event.pointerId)) return;
-    down.set(event.pointerId, event);
-    if (this.pinch && down.size === 2) this.zoom(spread(down));
-    else if (this.drawing) {
+    const { board, down } = this, id = event.pointerId, before = down.get(id);
+    if (!before) return;
+    down.set(id, event);
+    if (id === this.moves) {
+      board.element.scrollLeft -= event.clientX - before.clientX;
+      board.element.scrollTop -= event.clientY - before.clientY;
+      if (down.has(this.draws)) board.kind.drag(board, where(board, down.get(this.draws)));
+    } else if (id === this.draws) {
       for (const part of event.getCoalescedEvents?.() ?? []) board.kind.drag(board, where(board, part));
       board.kind.drag(board, where(board, event));
-    }
+    } else if (this.pinch && down.size === 2) this.zoom(spread(down));
   }
 
   zoom(now) {
@@ -57,22 +69,18 @@ class Pointers {
     Object.assign(pinch, { x: now.x, y: now.y });
   }
 
-  lift(event) {
-    if (!this.down.delete(event.pointerId)) return;
-    if (this.drawing) {
-      this.board.kind.lift(this.board, where(this.board, event));
-      this.board.end();
+  // A pointer went up, or the browser took it away.
+  lift(event, isTaken = false) {
+    const { board, down } = this, id = event.pointerId;
+    if (!down.delete(id)) return;
+    if (id === this.moves) this.moves = null;
+    if (id === this.draws) {
+      if (!isTaken) board.kind.lift(board, where(board, event));
+      if (isTaken) board.forget();
+      else board.end();
+      this.draws = null;
     }
-    this.drawing = false;
-    if (!this.down.size) this.pinch = null;
-  }
-
-  // The browser took the pointer away.
-  cancel(event) {
-    if (this.drawing) this.board.forget();
-    this.drawing = false;
-    this.down.delete(event.pointerId);
-    if (!this.down.size) this.pinch = null;
+    if (!down.size) this.pinch = null;
   }
 }
 
@@ -81,7 +89,9 @@ export function listen(board) {
   on("pointerdown", (event) => pointers.press(event));
   on("pointermove", (event) => pointers.move(event));
   on("pointerup", (event) => pointers.lift(event));
-  on("pointercancel", (event) => pointers.cancel(event));
+  on("pointercancel", (event) => pointers.lift(event, true));
+  // Else a drag that ends fast counts as a throw that rolls on, and the next tap, on whatever button, only stops it.
+  board.svg.addEventListener("touchstart", (event) => event.preventDefault(), { passive: false });
   on("contextmenu", (event) => event.preventDefault());
   on("wheel", (event) => {
     if (!event.ctrlKey) return;

@@ -1,13 +1,15 @@
 // Requests to the hall. One job: to get a reply of the hall, whatever the network does.
 //
-// A request that got none (no network; a proxy's 408, 429, 502, 503, 504; the hall's own 503; the page of a stranger
-// between) is sent again with growing pauses, until one comes. That is safe: what reads changes nothing, and what
-// writes carries a token, so that the hall does it once and gives the first reply again.
+// A request that got none (no network; a proxy's status; the hall's own 503; the page of a stranger between) is sent
+// again with growing pauses. That is safe: what reads changes nothing, and what writes carries a token, so that the
+// hall does it once and gives the first reply again.
 
 import { clock } from "./clock.js";
 
 const PAUSES = [0.5, 1, 2, 4, 8, 15]; // seconds; the last one from there on
-const PATIENCE = 20; // seconds without a reply until a request counts as lost
+// Seconds without a reply until a request counts as lost: the machine may be gone, and another one in its place. What
+// takes longer is waited for twice as long at each try, to the second number.
+const PATIENCE = 10, LONGEST_PATIENCE = 40;
 const FOR_GOOD = [200, 400, 403, 404]; // the statuses with which the hall answers for good
 
 // Tells the page of trouble: "trouble" with {again: seconds until the next try, status}, and "well" once a reply came.
@@ -35,21 +37,23 @@ function understood(status, type, text, isNew) {
   return status === 200 ? { ok: true, value } : { ...value, ok: false };
 }
 
-async function once(method, path, { key, isNew, body, signal }) {
+async function once(method, path, seconds, { key, isNew, body, signal }) {
   const patience = new AbortController(), stop = () => patience.abort();
-  const timer = setTimeout(stop, PATIENCE * 1000), sent = performance.now();
+  const timer = setTimeout(stop, seconds * 1000), sent = performance.now();
   signal?.addEventListener("abort", stop);
   try {
-    const headers = { ...(key && { "Hall-Key": key }), ...(body && { "Content-Type": "application/json" }) };
-    const reply = await fetch(path, { method, headers, body: body && JSON.stringify(body), signal: patience.signal,
-      cache: "no-store", credentials: "omit", redirect: "error" });
+    const isText = typeof body === "string", type = isText ? "text/plain" : "application/json";
+    const headers = { ...(key && { "Hall-Key": key }), ...(body && { "Content-Type": type }) };
+    const reply = await fetch(path, { method, headers, body: isText ? body : body && JSON.stringify(body),
+      signal: patience.signal, cache: "no-store", credentials: "omit", redirect: "error" });
     const text = await reply.text();
     clock.learn(reply.headers.get("Date"), sent, performance.now());
     // Each request beyond a proxy's limit counts too, so its word on when to ask again is kept.
     const after = reply.status === 429 ? Number(reply.headers.get("Retry-After")) || 0 : 0;
     return { ...understood(reply.status, reply.headers.get("Content-Type") ?? "", text, isNew), after };
   } catch {
-    return { lost: true, status: 0, after: 0 }; // no network, no whole reply, or no JSON: all the same to the sender
+    // no network, no whole reply, or no JSON: all the same to the sender
+    return { lost: true, status: 0, after: 0, late: patience.signal.aborted };
   } finally {
     clearTimeout(timer);
     signal?.removeEventListener("abort", stop);
@@ -68,13 +72,15 @@ function pause(seconds, signal) {
   });
 }
 
-// The hall's reply to a request; `isNew` where the key wasn't let in yet. Only a caller's `signal` ends the trying;
+// The hall's reply to a request; `isNew` where the key wasn't let in yet. A body is an object, or the text of a sheet.
+// `patient` is how many seconds a reply may take that is known to take long. Only a caller's `signal` ends the trying;
 // then the reply is null.
-export async function ask(method, path, { key, isNew, body, signal } = {}) {
-  for (let tries = 0; !signal?.aborted; tries++) {
-    const reply = await once(method, path, { key, isNew, body, signal });
+export async function ask(method, path, { key, isNew, body, signal, patient = PATIENCE } = {}) {
+  for (let tries = 0, patience = patient; !signal?.aborted; tries++) {
+    const reply = await once(method, path, patience, { key, isNew, body, signal });
     if (signal?.aborted) break;
     if (!reply.lost) { tell("well"); return reply; }
+    if (reply.late) patience = Math.min(2 * patience, Math.max(patient, LONGEST_PATIENCE));
     const least = Math.max(reply.after, PAUSES[Math.min(tries, PAUSES.length - 1)]);
     const again = least * (0.8 + 0.4 * Math.random());
     tell("trouble", { again, status: reply.status });

@@ -1,10 +1,9 @@
-// What the browser keeps. The key lives in the tab alone (sessionStorage); drawings, letters and options survive the
-// tab and the browser (localStorage), for each person and round apart. Where nothing more can be kept (a browser that
-// forbids it, or one that is full), all works on from memory, and the page says so.
+// What the browser keeps: the key in the tab alone (sessionStorage); drawings, sheets, letters and options beyond it
+// (localStorage), for each person and round apart. Where nothing more can be kept, all works on from memory.
 
 import { clock } from "./clock.js";
 
-const DRAWING = "hall.drawing.", LETTER = "hall.letter.", DAY = 86400;
+const DRAWING = "hall.drawing.", LETTER = "hall.letter.", SHEET = "hall.sheet.", DAY = 86400;
 const tab = () => sessionStorage, browser = () => localStorage;
 
 // "short": undo isn't kept any more; "shut": nothing is.
@@ -50,17 +49,16 @@ export function personOf(key) {
   return ((hash ^ (hash >>> 16)) & 0xffff).toString(16);
 }
 
-// --- drawings: {end: when its round ends, text: the puzzle's, marks, past, future}; strokes as told in board.js
+// --- drawings: {end: when its round ends, text: the puzzle's, marks, past, future, tries}, as told in board.js
 
 const names = (begin) => {
   try { return Object.keys(browser()).filter((name) => name.startsWith(begin)); } catch { return []; }
 };
 
-// Throws away what is of rounds that ended so many seconds ago. Only the hall's clock may say so: a computer whose
-// clock is a year ahead would throw away what is being drawn.
+// Throws away what is of rounds that ended so many seconds ago. Only the hall's clock may say so.
 export function sweep(grace = DAY) {
   if (!clock.known) return;
-  for (const name of names(DRAWING)) {
+  for (const name of [...names(DRAWING), ...names(SHEET)]) {
     const end = Number(/^\{"end":(\d+)/.exec(readText(browser, name))?.[1] ?? 0);
     if (end + grace < clock.now()) writeText(browser, name, null);
   }
@@ -82,8 +80,11 @@ export class Drawing {
     return found?.text === this.text ? found : null;
   }
 
-  keep({ marks, past, future }) {
-    const whole = this.written(marks, past, future);
+  // Whether a stroke was drawn.
+  get isBegun() { return Boolean(this.known?.includes('"past":[[') && this.value); }
+
+  keep({ marks, past, future, tries }) {
+    const whole = this.written({ marks, past, future, tries });
     let kept = writeText(browser, this.name, whole);
     if (!kept) {
       sweep(0);
@@ -91,14 +92,14 @@ export class Drawing {
     }
     this.known = whole;
     if (kept) return;
-    const bare = this.written(marks, [], []);
+    const bare = this.written({ marks, past: [], future: [] });
     kept = writeText(browser, this.name, bare);
     if (kept) this.known = bare;
     tell(kept ? "short" : "shut");
   }
 
   // `end` goes first, where sweep looks for it.
-  written(marks, past, future) { return JSON.stringify({ end: this.end, text: this.text, marks, past, future }); }
+  written(drawn) { return JSON.stringify({ end: this.end, text: this.text, ...drawn }); }
 
   // Whether another tab has drawn since this one last read or kept the drawing.
   renewed() {
@@ -111,6 +112,20 @@ export class Drawing {
   follow(signal, f) {
     addEventListener("storage", (event) => { if (event.key === this.name) f(); }, { signal });
   }
+}
+
+// --- sheets: {end, round, sheet}, as the hall told them, for a reload while it is away
+
+export function keepSheet(person, round, sheet) {
+  const text = JSON.stringify({ end: round.start + 60 * round.minutes, round, sheet });
+  const name = `${SHEET}${person}.${round.id}`;
+  if (readText(browser, name) !== text) writeText(browser, name, text);
+}
+
+// By the names of the rounds.
+export function readSheets(person) {
+  const kept = names(`${SHEET}${person}.`).map((name) => parsed(readText(browser, name))).filter(Boolean);
+  return new Map(kept.map((one) => [one.round.id, one]));
 }
 
 // --- letters on their way: see letters.js

@@ -5,6 +5,9 @@
 //   Slitherlink: a place is a side, the horizontal ones row by row, then the upright ones; 1 line, 2 cross
 //   Nurikabe: a place is a cell; 1 wall, 2 dot
 //   Sudoku: a place is a cell; number + 32 * (sum of 2^n over the pencilled numbers n)
+// Behind these stand layers, which no answer has, a place for each cell:
+//   Slitherlink: 1 inside, 2 outside
+//   Sudoku: the sum of 2^n over the notes n in the centre; then the number of a colour
 
 const BOXES = { 4: [2, 2], 6: [3, 2], 9: [3, 3], 16: [4, 4], 25: [5, 5] };
 const CELLS = 1000;
@@ -53,6 +56,16 @@ export const sidesAcross = ({ cols, rows }) => (rows + 1) * cols; // how many ho
 export const placesOf = (puzzle) =>
   puzzle.kind === "slither" ? sidesAcross(puzzle) + puzzle.rows * (puzzle.cols + 1) : puzzle.cols * puzzle.rows;
 
+// How many places there are with those of the layers.
+export const layersOf = (puzzle) =>
+  placesOf(puzzle) + { slither: 1, nurikabe: 0, sudoku: 2 }[puzzle.kind] * puzzle.clues.length;
+
+// The cell at a point, in cells; -1 outside the board.
+export function cellAt({ cols, rows }, at) {
+  const x = Math.floor(at.x), y = Math.floor(at.y);
+  return x >= 0 && y >= 0 && x < cols && y < rows ? y * cols + x : -1;
+}
+
 // The marks of a board on which nothing is drawn; in Sudoku with the givens.
 export const emptyMarks = (puzzle) =>
   Array.from({ length: placesOf(puzzle) }, (_, place) => (puzzle.kind === "sudoku" ? puzzle.clues[place] ?? 0 : 0));
@@ -62,7 +75,8 @@ const digit = (number) => (number < 10 ? String(number) : String.fromCharCode(87
 const number = (byte) => (byte <= "9" ? Number(byte) : byte.charCodeAt(0) - 87);
 
 // An empty Sudoku cell becomes 0, which makes it no filling at all: the page doesn't send such a text.
-export function writeAnswer(puzzle, marks) {
+export function writeAnswer(puzzle, drawn) {
+  const marks = drawn.slice(0, placesOf(puzzle));
   if (puzzle.kind === "sudoku") return marks.map((mark) => digit(numberOf(mark))).join("");
   if (puzzle.kind === "nurikabe") return marks.map((mark) => (mark === 1 ? "#" : ".")).join("");
   const bits = marks.map((mark) => (mark === 1 ? "1" : "0")).join("");

@@ -2,9 +2,10 @@
 
 import { clock } from "./clock.js";
 import { html } from "./elements.js";
+import { locale, phrase } from "./phrases.js";
 
 const format = (options) => {
-  const made = new Intl.DateTimeFormat(undefined, options);
+  const made = new Intl.DateTimeFormat(locale, options);
   return (moment) => made.format(moment * 1000);
 };
 const MINUTE = { hour: "2-digit", minute: "2-digit" };
@@ -17,8 +18,8 @@ export const zone = Intl.DateTimeFormat().resolvedOptions().timeZone;
 export function span(seconds) {
   const whole = Math.max(0, Math.ceil(seconds)), two = (n) => String(n).padStart(2, "0");
   const days = Math.floor(whole / 86400), hours = Math.floor(whole / 3600) % 24, minutes = Math.floor(whole / 60) % 60;
-  const head = days ? `${days} d ${hours}:${two(minutes)}` : hours ? `${hours}:${two(minutes)}` : String(minutes);
-  return `${head}:${two(whole % 60)}`;
+  const head = days || hours ? `${hours}:${two(minutes)}` : String(minutes), time = `${head}:${two(whole % 60)}`;
+  return days ? phrase("days", { n: days, time }) : time;
 }
 
 // Calls f now and again and again, until the signal; not while a call still waits, as for a hall that is away.
@@ -49,15 +50,17 @@ export function countdown(moment, signal, after = () => {}) {
   return element;
 }
 
-export const lengthOf = ({ minutes }) => `${minutes} ${minutes === 1 ? "minute" : "minutes"}`;
+export const lengthOf = ({ minutes }) => phrase("minutes", { n: minutes });
+export const fromTo = (round) => phrase("fromTo", { from: dayAndTime(round.start), to: time(endOf(round)) });
 export const endOf = (round) => round.start + 60 * round.minutes;
 export const closeOf = (round, sheet) => endOf(round) + 60 * sheet.protest_minutes;
 
-// Where a round stands: before, running, protests, closed or published. Only the sheet tells when it closes.
-export function stage(round, sheet) {
+// Where a round stands: before, running, protests, closed or published. Only the sheet tells when it closes; and where
+// it was told, the round has begun, whatever the clock says.
+export function stage(round, sheet, begun = false) {
   const now = clock.now();
   if (round.published) return "published";
-  if (now < round.start) return "before";
+  if (now < round.start && !begun) return "before";
   if (now < endOf(round)) return "running";
   return sheet && now >= closeOf(round, sheet) ? "closed" : "protests";
 }

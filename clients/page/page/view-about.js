@@ -1,26 +1,34 @@
-// What this page is, what it keeps, and what to do where it fails.
+// What this page is, what it keeps, and what to do where it fails; and the rules of the puzzles.
 
 import { html } from "./elements.js";
+import { phrase } from "./phrases.js";
+import { nameOf, picture } from "./picture.js";
+import { styled } from "./styles.js";
+import { readAnswer, readPuzzle } from "./texts.js";
+import { toldPicture } from "./told.js";
 
-const PARTS = [
-  ["What is proved, and what isn't",
-    "The hall judges the answers. It is a program that was proved: a verdict is right exactly where the answer "
-    + "breaks no rule, and an answer that it took stays. This page isn't proved. It was tried in browsers. It shows "
-    + "the puzzles, writes your answers and sends them; what counts is what the hall received, and that stands "
-    + "under My answers as the hall tells it."],
-  ["What is kept where",
-    "Your key is kept in this tab alone, until you leave or close it. What you draw, and answers on their way, "
-    + "are kept in this browser until a day after the round's end. Whoever uses this browser with your key sees "
-    + "them."],
-  ["Where the connection fails",
-    "Draw on. An answer that you hand in is kept, and goes again until the hall replies; the hall takes it once. "
-    + "Only the moment at which it reaches the hall counts."],
-  ["Where the page fails",
-    "Load it anew: nothing drawn is lost. If that doesn't help, take another browser or machine, with your key; "
-    + "there you begin with an empty board, but all that was handed in stands. Else call a director."],
+await styled("page/after.css");
+
+const PARTS = ["aboutProved", "aboutKept", "aboutLine", "aboutPage"];
+// A small puzzle of each kind with its solution.
+const EXAMPLES = [
+  ["rulesSudoku", "sudoku/4/4/1i3h1l4", "1234342143122143"],
+  ["rulesSlitherlink", "slither/4/4/g2j312h30g3g", "01101010101101010010/01010101000100100110"],
+  ["rulesNurikabe", "nurikabe/5/5/k3g4m2l", "..###.#..####.#..#.######"],
 ];
 
 export function aboutView() {
-  return html("section", { class: "page about" }, html("h1", {}, "About this page"),
-    PARTS.map(([title, text]) => [html("h2", {}, title), html("p", {}, text)]));
+  return html("section", { class: "page about" }, html("h1", {}, phrase("about")),
+    PARTS.map((name) => [html("h2", {}, phrase(name)), html("p", {}, phrase(`${name}Text`))]),
+    html("p", {}, html("a", { href: "#/rules" }, phrase("rules"))));
+}
+
+export function rulesView() {
+  return html("section", { class: "page about" }, html("h1", {}, phrase("rules")),
+    html("p", { class: "lead" }, phrase("rulesMore")), EXAMPLES.map(([rule, text, solution]) => {
+      const puzzle = readPuzzle(text), solved = phrase("solution");
+      return [html("h2", {}, nameOf(text)), html("p", {}, phrase(rule)), html("div", { class: "pair small-boards" },
+        html("figure", {}, picture(puzzle)),
+        html("figure", {}, toldPicture(puzzle, readAnswer(puzzle, solution), solved)))];
+    }));
 }

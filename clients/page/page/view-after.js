@@ -1,33 +1,41 @@
 // What remains of a round: the own answers with the solutions, protests with their rulings, and the table.
 
 import { html, refill } from "./elements.js";
-import { nameOf, picture } from "./picture.js";
+import { pointsWords } from "./overview.js";
+import { parts, phrase } from "./phrases.js";
+import { nameOf } from "./picture.js";
 import { ask } from "./requests.js";
+import { styled } from "./styles.js";
 import { readAnswer, readPuzzle } from "./texts.js";
 import { every, exact } from "./times.js";
+import { toldPicture } from "./told.js";
 import { chip } from "./view-puzzle.js";
 import { failed, frame, note, refusals, refused } from "./view-round.js";
-import { NO_TABLE, verdict } from "./words.js";
+import { verdict } from "./words.js";
+
+await styled("page/after.css");
 
 // --- the own answers
 
 function drawn(puzzle, text, words) {
   const marks = text && readAnswer(puzzle, text);
-  return marks && html("figure", {}, picture(puzzle, marks, words), html("figcaption", {}, words));
+  return marks && html("figure", {}, toldPicture(puzzle, marks, words), html("figcaption", {}, words));
 }
 
 function outcome({ number, text, points }, own, solution) {
-  const puzzle = readPuzzle(text), mine = own.length > 1 ? "your last answer" : "your answer";
+  const puzzle = readPuzzle(text), mine = phrase(own.length > 1 ? "lastAnswer" : "yourAnswer");
   const lines = own.map((answer) => html("li", {}, `${exact(answer.moment)} `, chip(answer), " ",
     verdict(answer.verdict)?.reasons.join(" ")));
-  return html("article", { class: "outcome" }, html("h3", {}, `${number}. ${nameOf(text)} · ${points} points`),
-    own.length ? html("ol", { class: "past" }, lines) : html("p", { class: "small" }, "No answer."),
-    html("div", { class: "pair" }, drawn(puzzle, own.at(-1)?.answer, mine), drawn(puzzle, solution, "the solution")));
+  const title = `${number}. ${nameOf(text)} · ${pointsWords(points)}`;
+  return html("article", { class: "outcome" }, html("h3", {}, title),
+    own.length ? html("ol", { class: "past" }, lines) : html("p", { class: "small" }, phrase("noAnswer")),
+    html("div", { class: "pair" }, drawn(puzzle, own.at(-1)?.answer, mine),
+      drawn(puzzle, solution, phrase("solution"))));
 }
 
 export function answersView(app, left, id) {
   return frame(app, left, id, "answers", async (box, { sheet, now, signal }) => {
-    if (now === "before") { box.append(html("p", { class: "lead" }, "There are none before the start.")); return; }
+    if (now === "before") { box.append(html("p", { class: "lead" }, phrase("noneBefore"))); return; }
     const said = html("div", { "aria-live": "polite" }), list = html("div");
     const renew = async () => {
       refill(said, refusals(app, id));
@@ -55,9 +63,9 @@ const plain = (text) => text.trim().replace(/\s/g, " ").replace(/[\u2018\u2019]/
 // Why the hall wouldn't take a text, or "".
 function wrongText(text) {
   const strange = /[^ -~]/u.exec(text)?.[0];
-  if (!text) return "Please say what is wrong.";
-  if (strange) return `“${strange}” can't be sent: please use plain letters, digits and signs alone.`;
-  return text.length > MOST ? `These are ${text.length} signs, and at most ${MOST} can be sent.` : "";
+  if (!text) return phrase("protestEmpty");
+  if (strange) return phrase("protestSign", { sign: strange });
+  return text.length > MOST ? phrase("protestLong", { n: text.length, most: MOST }) : "";
 }
 
 function protestForm(app, round, sheet) {
@@ -68,7 +76,7 @@ function protestForm(app, round, sheet) {
   const look = () => {
     const text = plain(words.value), why = wrongText(text);
     words.setCustomValidity(why);
-    left.textContent = text && why || `${MOST - text.length} left`;
+    left.textContent = text && why || phrase("protestLeft", { n: MOST - text.length });
     left.classList.toggle("bad", Boolean(text && why));
   };
   words.addEventListener("input", look);
@@ -79,34 +87,35 @@ function protestForm(app, round, sheet) {
     look();
   };
   look();
-  return html("form", { class: "form", onsubmit: send }, html("h2", {}, "A protest"),
-    html("label", { for: "which" }, "Puzzle"), which,
-    html("label", { for: "words" }, `What is wrong, in at most ${MOST} signs`), words, left,
-    html("button", { class: "main" }, "Make the protest"));
+  return html("form", { class: "form", onsubmit: send }, html("h2", {}, phrase("protestHead")),
+    html("label", { for: "which" }, phrase("puzzle")), which,
+    html("label", { for: "words" }, phrase("protestWhat", { n: MOST })), words, left,
+    html("button", { class: "main" }, phrase("protestMake")));
 }
 
 function protestLine({ number, text, ruling, points }) {
-  const words = ruling === "upheld" ? `upheld, ${points > 0 ? "+" : ""}${points} points` : ruling;
+  const words = phrase(ruling, { points: `${points > 0 ? "+" : ""}${points}` });
   const look = { open: "wait", upheld: "good", rejected: "bad" }[ruling];
-  return html("article", { class: "protest" }, html("p", {}, html("strong", {}, `Puzzle ${number} `),
+  return html("article", { class: "protest" }, html("p", {}, html("strong", {}, phrase("protestPuzzle", { number })),
     html("span", { class: `chip ${look}` }, words)), html("p", {}, text));
 }
 
-const NO_FORM = { before: "Protests are taken from the end on.", running: "Protests are taken from the end on.",
-  closed: "The time for protests is over.", published: "The time for protests is over." };
+const NO_FORM = { before: "protestsLater", running: "protestsLater", closed: "protestsOver",
+  published: "protestsOver" };
 
 export function protestsView(app, left, id) {
   return frame(app, left, id, "protests", (box, { round, sheet, now, signal }) => {
     const list = html("div"), said = html("div", { "aria-live": "polite" });
     const renew = async () => {
       said.replaceChildren(...app.letters.of(id, "protest").map((letter) =>
-        (letter.reply ? refused(app, letter) : html("p", { class: "note" }, "On its way …"))));
+        (letter.reply ? refused(app, letter) : html("p", { class: "note" }, phrase("sending")))));
       const reply = await ask("GET", `/rounds/${id}/protests`, { key: app.key, signal });
       if (!reply?.ok) return;
       const own = app.own(id, reply.value.protests);
-      refill(list, own.length ? own.map(protestLine) : html("p", { class: "small" }, "You made no protest."));
+      refill(list, own.length ? own.map(protestLine) : html("p", { class: "small" }, phrase("noProtest")));
     };
-    const form = now === "protests" ? protestForm(app, round, sheet) : html("p", { class: "lead" }, NO_FORM[now]);
+    const form = now === "protests" ? protestForm(app, round, sheet)
+      : html("p", { class: "lead" }, phrase(NO_FORM[now]));
     box.append(form, said, list);
     app.letters.addEventListener("change", renew, { signal });
     if (now !== "before") every(20, signal, renew);
@@ -118,7 +127,8 @@ export function protestsView(app, left, id) {
 function tableOf(text, own) {
   const lines = text.split("\n").filter(Boolean).map((line) => line.trim().split(/ +/));
   return html("table", {},
-    html("thead", {}, html("tr", {}, ["Rank", "Name", "Points"].map((title) => html("th", { scope: "col" }, title)))),
+    html("thead", {}, html("tr", {}, ["rank", "name", "points"].map((title) =>
+      html("th", { scope: "col" }, phrase(title))))),
     html("tbody", {}, lines.map((cells) =>
       html("tr", { class: cells[1] === own && "own" }, cells.map((cell) => html("td", {}, cell))))));
 }
@@ -128,11 +138,11 @@ export function tableView(app, left, id) {
     const renew = async () => {
       const reply = await ask("GET", `/rounds/${id}/table`, { signal });
       if (!reply) return;
-      if (reply.denied === 15) box.replaceChildren(note("note", NO_TABLE));
+      if (reply.denied === 15) box.replaceChildren(note("note", parts("noTable")));
       else if (!reply.ok) box.replaceChildren(failed(reply));
       else {
         box.replaceChildren(tableOf(reply.value, app.nameIn(id)),
-          html("div", { class: "row screen" }, html("button", { onclick: () => print() }, "Print")));
+          html("div", { class: "row screen" }, html("button", { onclick: () => print() }, phrase("print"))));
       }
     };
     every(20, signal, renew);

@@ -1,6 +1,7 @@
 // The door: a key, asked from the hall once before it is kept for this tab.
 
 import { html } from "./elements.js";
+import { phrase } from "./phrases.js";
 import { ask } from "./requests.js";
 import { refusal } from "./words.js";
 
@@ -11,7 +12,7 @@ const keyIn = (text) =>
 export function doorView(app, signal) {
   const field = html("input", { id: "key", type: "password", autocomplete: "off", autocapitalize: "off",
     spellcheck: "false", pattern: "[A-Za-z0-9\\-]{8,64}", required: true, "aria-describedby": "slip",
-    title: "8 to 64 letters, digits and dashes",
+    title: phrase("keyForm"),
     oninput: () => { if (keyIn(field.value) !== field.value) field.value = keyIn(field.value); },
     onpaste: (event) => { // a line's end would be gone once it is in the field
       event.preventDefault();
@@ -20,10 +21,10 @@ export function doorView(app, signal) {
     } });
   const show = html("button", { type: "button", class: "quiet", onclick: () => {
     field.type = field.type === "text" ? "password" : "text";
-    show.textContent = field.type === "text" ? "hide" : "show";
-  } }, "show");
+    show.textContent = phrase(field.type === "text" ? "hide" : "show");
+  } }, phrase("show"));
   const said = html("p", { class: "note bad", role: "alert" });
-  const go = html("button", { class: "main" }, "Enter the hall");
+  const go = html("button", { class: "main" }, phrase("enter"));
   const enter = async (event) => {
     event.preventDefault();
     const key = field.value;
@@ -35,9 +36,8 @@ export function doorView(app, signal) {
     else if (reply) said.textContent = refusal(reply).join(" ");
   };
   setTimeout(() => field.focus());
-  return html("form", { class: "door", onsubmit: enter }, html("h1", {}, "Contest hall"),
-    html("p", { class: "lead" }, "Sudoku, Slitherlink and Nurikabe, by the clock."),
-    html("label", { for: "key" }, "Your key"), html("div", { class: "row" }, field, show), said, go,
-    html("p", { class: "small", id: "slip" }, "It stands on your slip: 8 to 64 letters, digits and dashes. "
-      + "It is kept in this tab alone, until you leave or close it."));
+  return html("form", { class: "door", onsubmit: enter }, html("h1", {}, phrase("hall")),
+    html("p", { class: "lead" }, phrase("lead")),
+    html("label", { for: "key" }, phrase("yourKey")), html("div", { class: "row" }, field, show), said, go,
+    html("p", { class: "small", id: "slip" }, phrase("keySlip")));
 }

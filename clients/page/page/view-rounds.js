@@ -2,15 +2,15 @@
 
 import { clock } from "./clock.js";
 import { html } from "./elements.js";
-import { countdown, dayAndTime, endOf, lengthOf, stage, time, zone } from "./times.js";
+import { phrase } from "./phrases.js";
+import { countdown, endOf, fromTo, lengthOf, stage, zone } from "./times.js";
 
-const GROUPS = [["running", "Running now"], ["before", "To come"], ["protests", "Over"], ["published", "Published"]];
-export const MODES = { instant: "each verdict at once", sealed: "verdicts after the end" };
+const GROUPS = ["running", "before", "protests", "published"];
 
 function card(app, signal, round, now) {
-  const line = { running: () => ["ends in ", countdown(endOf(round), signal, app.refresh)],
-    before: () => ["begins in ", countdown(round.start, signal, app.refresh)] }[now]?.();
-  const terms = [`${dayAndTime(round.start)} to ${time(endOf(round))}`, lengthOf(round), MODES[round.mode]];
+  const line = { running: () => [phrase("endsIn"), countdown(endOf(round), signal, app.refresh)],
+    before: () => [phrase("beginsIn"), countdown(round.start, signal, app.refresh)] }[now]?.();
+  const terms = [fromTo(round), lengthOf(round), phrase(round.mode)];
   return html("a", { class: `card round ${now}`, href: `#/r/${round.id}${now === "published" ? "/table" : ""}` },
     html("h3", {}, round.title),
     html("p", {}, terms.join(" · ")),
@@ -24,16 +24,14 @@ export function roundsView(app, signal) {
     const state = JSON.stringify([clock.known, app.told, app.rounds.map((round) => [round, stage(round)])]);
     if (state === shown) return; // so that the list isn't taken from under a reader's hand
     shown = state;
-    const groups = GROUPS.map(([name, title]) => {
+    const groups = GROUPS.map((name) => {
       const rounds = app.rounds.filter((round) => stage(round) === name).sort((a, b) => a.start - b.start);
-      return rounds.length && [html("h2", {}, title),
+      return rounds.length && [html("h2", {}, phrase(name)),
         html("div", { class: "cards" }, rounds.map((round) => card(app, signal, round, name)))];
     });
-    element.replaceChildren(html("h1", {}, "Rounds"), ...groups.filter(Boolean).flat(),
-      app.rounds.length ? "" : html("p", { class: "lead" },
-        app.told ? "No round is announced yet. This list renews itself." : "Asking the hall …"),
-      html("p", { class: "small" }, `Times are in your zone (${zone}); countdowns go by `
-        + `${clock.known ? "the hall's" : "this computer's"} clock.`));
+    element.replaceChildren(html("h1", {}, phrase("rounds")), ...groups.filter(Boolean).flat(),
+      app.told && app.rounds.length ? "" : html("p", { class: "lead" }, phrase(app.told ? "noRounds" : "asking")),
+      html("p", { class: "small" }, phrase(clock.known ? "zone" : "zoneOwn", { zone })));
   };
   app.addEventListener("rounds", draw, { signal });
   draw();
