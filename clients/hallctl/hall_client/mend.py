@@ -4,11 +4,24 @@ import re
 import urllib.parse
 
 KINDS = {"slitherlink": "slither", "slitherlinks": "slither", "nuri": "nurikabe", "numberplace": "sudoku"}
+# The sides of a Sudoku whose numbers are all digits, by its cells.
+SIDES = {16: 4, 36: 6, 81: 9}
 
 
 def without_wrapping(text):
     stripped = text.strip().strip("<>\"'").strip()
     return stripped, "spaces or marks round the address were taken off" if stripped != text else None
+
+
+def of_signs(text):
+    """The text of a Sudoku that is written as a sign for each cell: its digit, a dot or a zero where it is empty."""
+    signs = re.sub(r"\s", "", text)
+    side = SIDES.get(len(signs), 0)
+    if not re.fullmatch(f"[.0-{side}]+", signs):
+        return text, None
+    runs = re.findall("[.0]{1,20}|[1-9]", signs)
+    body = "".join(it if it in "123456789" else chr(ord("f") + len(it)) for it in runs)
+    return f"sudoku/{side}/{side}/{body}", f"{len(signs)} signs were read as a Sudoku of {side} by {side}"
 
 
 def decoded(text):
@@ -53,7 +66,7 @@ def without_ends(text):
     return found, "more than one final slash was taken off" if len(text) - len(found) > 1 else None
 
 
-STEPS = (without_wrapping, decoded, without_address, without_tail, with_kind, without_flags, without_ends)
+STEPS = (without_wrapping, of_signs, decoded, without_address, without_tail, with_kind, without_flags, without_ends)
 
 
 def mended(text):

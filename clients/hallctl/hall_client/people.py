@@ -6,7 +6,9 @@ import re
 import secrets
 import tempfile
 
-from . import check, told, wire
+from . import told, wire
+from .faults import FORMS, Found
+from .list_faults import ListReader, faults_in_list, without_key
 from .local_hall import NoProgram, program
 from .printing import counted, note, text_of
 
@@ -100,9 +102,9 @@ def slip(row, url):
     return "\n".join([*lines, "- " * 36]).rstrip() + "\n"
 
 
-def fault_of(args, numbered):
-    """The first fault of a list whose keys are filled in, as the hall finds it, with the list's lines; none where there
-    is none. Rows come with the lines of the file that they are on."""
+def faults_of(args, numbered):
+    """The faults of a list whose keys are filled in, as the hall finds them, with the list's lines. Rows come with the
+    lines of the file that they are on."""
     lines = [b"\n"] * numbered[-1][0]
     for at, row in numbered:
         lines[at - 1] = as_csv([row])
@@ -110,10 +112,10 @@ def fault_of(args, numbered):
         path = program(args.program)
     except NoProgram as fault:
         note(f"the names alone are looked at, since {fault}")
-        wrong = next((at for at, row in numbered[1:] if not NAME.fullmatch(row[0])), None)
-        return wrong and check.Found("F3", "name", wrong, "a name is 1 to 24 of a-z, 0-9 and the dash"), lines
+        wrong = [at for at, row in numbered[1:] if not NAME.fullmatch(row[0])]
+        return [Found("F3", "name", at, FORMS["name"]) for at in wrong], lines
     with tempfile.TemporaryDirectory(prefix="hallctl-keys-") as room:
-        return check.wrong_in_list(check.ListReader(path, room), lines), lines
+        return faults_in_list(ListReader(path, room), lines), lines
 
 
 def keys(args, _, out):
@@ -129,9 +131,10 @@ def keys(args, _, out):
     filled = [row for row in rows if not row[1].strip()]
     for row in filled:
         row[1] = new_key()
-    fault, lines = fault_of(args, numbered)
-    if fault:
-        note(*fault.lines(args.list, [lines[0], *map(check.without_key, lines[1:])]), "No key was made.")
+    found, lines = faults_of(args, numbered)
+    if found:
+        shown = [lines[0], *map(without_key, lines[1:])]
+        note(*[line for it in found for line in it.lines(args.list, shown)], "No key was made.")
         return told.REFUSED
     if filled or has_empty:
         written(args.list, rows)

@@ -50,6 +50,11 @@ def utc(moment):
     return datetime.datetime.fromtimestamp(moment, datetime.timezone.utc).strftime("%Y-%m-%d %H:%M:%S UTC")
 
 
+def sheet_moment(moment):
+    """The moment as a sheet of version 1 has it."""
+    return datetime.datetime.fromtimestamp(moment, datetime.timezone.utc).strftime("%Y-%m-%dT%H:%M:%SZ")
+
+
 def here(moment):
     """The moment in the zone of this machine."""
     at = datetime.datetime.fromtimestamp(moment, datetime.timezone.utc).astimezone()

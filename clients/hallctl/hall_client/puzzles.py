@@ -1,7 +1,9 @@
 """Puzzles: putting them, having their solutions counted, and seeing how they stand."""
+import re
 import sys
 
 from . import told
+from .drawing import drawn
 from .mend import mended
 from .printing import note
 from .printing import text_of as text_of_file
@@ -33,10 +35,11 @@ def of(place):
 
 
 def text_of(word):
-    """The text that a word names: itself, that of @FILE, or of the input."""
-    if word == "-":
-        return sys.stdin.read()
-    return text_of_file(word[1:]) if word.startswith("@") else word
+    """The text that a word names: itself, that of @FILE, or of the input, without the end of its last line."""
+    if word != "-" and not word.startswith("@"):
+        return word
+    text = sys.stdin.read() if word == "-" else text_of_file(word[1:])
+    return re.sub(r"\r?\n\Z", "", text)
 
 
 def put(args, hall, out):
@@ -84,10 +87,9 @@ def listed(args, hall, out):
 
 
 def show(args, hall, out):
-    """Shows a puzzle."""
+    """Shows a puzzle, and draws it here."""
     data = hall.get(of(args.puzzle))
-    out.say(f"{args.puzzle}: {data['text']}", f"state {data['state']}: {MEANING[data['state']]}",
-            f"to look at it: https://puzz.link/p?{data['text']}")
+    out.say(f"{args.puzzle}: {data['text']}", f"state {data['state']}: {MEANING[data['state']]}", *drawn(data["text"]))
     out.value(data)
     return told.DONE
 

@@ -1,7 +1,6 @@
 """Plays a small round from its list to its table, against a hall of its own on a spare port: what a director will do on
 the day, with the replies."""
 import contextlib
-import datetime
 import io
 import os
 import tempfile
@@ -10,6 +9,7 @@ from pathlib import Path
 
 from . import told
 from .local_hall import program, run, serving, spare_port
+from .printing import sheet_moment
 from .wire import Hall
 
 PEOPLE = [("dora", "director"), ("bob", "author"), ("rex", "referee"), ("eve", "entrant"), ("fay", "entrant")]
@@ -21,10 +21,9 @@ BEFORE, MINUTE = 10, 60
 
 
 def sheet(start):
-    moment = datetime.datetime.fromtimestamp(start, datetime.timezone.utc).strftime("%Y-%m-%dT%H:%M:%SZ")
     puzzles = "".join(f'[[puzzle]]\nauthor = "bob"\nlabel = "{label}"\npoints = {points}\n'
                       for label, _, points in PUZZLES)
-    return (f'version = 1\ntitle = "Rehearsal"\nstart = "{moment}"\nminutes = 1\nprotest_minutes = 1\n'
+    return (f'version = 1\ntitle = "Rehearsal"\nstart = "{sheet_moment(start)}"\nminutes = 1\nprotest_minutes = 1\n'
             f'mode = "instant"\npenalty = 5\nbonus = 2\n{puzzles}')
 
 

@@ -8,6 +8,8 @@ from .rounds import is_so, times
 from .wire import Refused
 
 ANSWERS = ["entrant", "number", "n", "moment", "token", "verdict", "answer"]
+TALLY = ["entrant", "number", "right", "wrong", "untold", "first", "last"]
+SIGNS = {"right": "r", "wrong": "w", "untold": "?"}
 PROTESTS = ["entrant", "token", "number", "ruling", "points", "text"]
 
 
@@ -15,13 +17,46 @@ def rows_of(lines, names):
     return [[it.get(name, "") for name in names] for it in lines]
 
 
+def tallies(lines):
+    """How often each entrant answered each puzzle, and when first and last; a verdict that isn't told is `untold`."""
+    found = {}
+    for it in lines:
+        of = found.setdefault((it["entrant"], it["number"]), {
+            "entrant": it["entrant"], "number": it["number"], "right": 0, "wrong": 0, "untold": 0,
+            "first": it["moment"], "last": it["moment"]})
+        of[it.get("verdict", "untold").split()[0]] += 1
+        of["first"], of["last"] = min(of["first"], it["moment"]), max(of["last"], it["moment"])
+    return [found[key] for key in sorted(found)]
+
+
+def cell(of, start):
+    """A tally in a few letters, with the minutes since the start."""
+    counts = " ".join(f"{of[name]}{sign}" for name, sign in SIGNS.items() if of[name])
+    first, last = ((of[name] - start) // 60 for name in ("first", "last"))
+    return f"{counts} {first}" + (f"-{last}" if last != first else "")
+
+
 def answers(args, hall, out):
-    """Lists the answers of a round."""
+    """Shows how often and when each entrant answered each puzzle of a round; by --texts each answer whole."""
     lines = hall.get(f"/rounds/{args.round}/answers")["answers"]
-    rows = rows_of(lines, ANSWERS)
-    if not args.csv:
-        rows = [[*row[:3], utc(row[3]), *row[4:]] for row in rows]
-    out.table(ANSWERS, rows, lines, args.csv)
+    if args.texts:
+        rows = rows_of(lines, ANSWERS)
+        if not args.csv:
+            rows = [[*row[:3], utc(row[3]), *row[4:]] for row in rows]
+        out.table(ANSWERS, rows, lines, args.csv)
+        return told.DONE
+    found = tallies(lines)
+    if args.csv or args.json:
+        out.table(TALLY, rows_of(found, TALLY), found, args.csv)
+        return told.DONE
+    data = hall.get(f"/rounds/{args.round}")
+    numbers, cells = [it["number"] for it in data["puzzles"]], {}
+    for it in found:
+        cells.setdefault(it["entrant"], {})[it["number"]] = cell(it, data["start"])
+    note(f"{counted(len(lines), 'answer')} of {counted(len(cells), 'entrant')}: r right, w wrong, ? untold; then the"
+         " minutes from the start to the first and the last")
+    out.say(*columns(["entrant", *map(str, numbers)],
+                     [[who, *[of.get(number, "") for number in numbers]] for who, of in cells.items()]))
     return told.DONE
 
 
@@ -127,14 +162,25 @@ def ranked(totals):
     return [(first[totals[name]], name) for name in ordered]
 
 
+def sums_of(tables):
+    """The sum of each name's totals in these tables."""
+    everybody = {who for of in tables.values() for who in of}
+    return {who: sum(of.get(who, 0) for of in tables.values()) for who in everybody}
+
+
+def names_for(path, everybody):
+    """The spoken names and countries of the file, where one is named; who has no line in it is told."""
+    names = spoken(path) if path else None
+    nameless = sorted(set(everybody) - set(names)) if path else []
+    note(*[f"{path} has no line for {', '.join(nameless)}"] * bool(nameless))
+    return names
+
+
 def ranking(args, hall, out):
     """Adds the tables of rounds up."""
     tables = tables_of(hall, args.round)
-    everybody = {who for of in tables.values() for who in of}
-    totals = {who: sum(of.get(who, 0) for of in tables.values()) for who in everybody}
-    names = spoken(args.names) if args.names else None
-    nameless = sorted(everybody - set(names)) if names is not None else []
-    note(*[f"{args.names} has no line for {', '.join(nameless)}"] * bool(nameless))
+    totals = sums_of(tables)
+    names = names_for(args.names, totals)
     head = ["rank", "name", *(["spoken", "country"] if names is not None else []), *args.round, "total"]
     rows = [[rank, who, *(names.get(who, ("", "")) if names is not None else []),
              *[tables[it].get(who, "") for it in args.round], totals[who]] for rank, who in ranked(totals)]

@@ -168,12 +168,26 @@ def listed(args, hall, out):
     return told.DONE
 
 
+def names_of(args, hall, data):
+    """The puzzle of each number, as AUTHOR/LABEL; none where the caller may not list puzzles."""
+    try:
+        found = {number: name for number, name, _ in rows_to_release(args, hall, data)}
+    except Refused:
+        return None
+    if "?" in found.values():
+        note(f"A ? is a puzzle of another author, or one of more than {MANY}: then name the sheet by --sheet.")
+    return found
+
+
 def show(args, hall, out):
-    """Shows a round with its puzzles."""
+    """Shows a round with its puzzles, and to whom may list them with their authors and labels."""
     data = hall.get(f"/rounds/{args.round}")
     out.say(f"{data['id']}: {data['title']}, {data['mode']}, penalty {data['penalty']}, bonus {data['bonus']}")
     say_times(data, hall, out)
-    rows = [[it["number"], it["points"], it["text"]] for it in data["puzzles"]]
-    out.say(*columns(["number", "points", "text"], rows))
+    names = names_of(args, hall, data)
+    if names is not None:
+        data["puzzles"] = [{**it, "puzzle": names[it["number"]]} for it in data["puzzles"]]
+    head = ["number", "points", *(["puzzle"] if names is not None else []), "text"]
+    out.say(*columns(head, [[it[name] for name in head] for it in data["puzzles"]]))
     out.value(data)
     return told.DONE

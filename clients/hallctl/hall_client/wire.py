@@ -11,8 +11,14 @@ import urllib.parse
 
 from . import told
 
-# A proxy tells 504 after 3 minutes. A certificate may take hours, one in the queue and one in the search.
-TIMEOUT, TIMEOUT_OF_CERTIFICATE = 200, 7300
+# Whoever doesn't answer in 10 seconds may be a machine that is gone, and another one in its place. What takes longer is
+# waited for twice as long at each try: a proxy tells 504 after 3 minutes.
+TIMEOUT, LONGEST_TIMEOUT = 10, 200
+# A certificate may take hours, one in the queue and one in the search.
+TIMEOUT_OF_CERTIFICATE = 7300
+# So the system notices within 10 seconds that a machine is gone: it asks after 5 seconds of silence and then each 2,
+# and what was sent is to be confirmed in 9 (here in milliseconds).
+KEEPALIVE = {"TCP_KEEPIDLE": 5, "TCP_KEEPINTVL": 2, "TCP_KEEPCNT": 3, "TCP_USER_TIMEOUT": 9000}
 LARGEST_BODY = 65_536
 
 
@@ -23,6 +29,16 @@ LOCAL = ("localhost", "127.0.0.1", "::1")
 def scheme_of(url):
     """How a hall is asked whose address says nothing of it: in secret, but on this machine."""
     return "http" if urllib.parse.urlsplit(f"//{url}").hostname in LOCAL else "https"
+
+
+def watch(sock, timeout):
+    """Has the system notice that the machine at the other end is gone, and waits no longer for a reply than this."""
+    sock.settimeout(timeout)
+    sock.setsockopt(socket.SOL_SOCKET, socket.SO_KEEPALIVE, 1)
+    for name, value in KEEPALIVE.items():
+        # Not every system has each of them.
+        if hasattr(socket, name):
+            sock.setsockopt(socket.IPPROTO_TCP, getattr(socket, name), value)
 
 
 class NoReply(Exception):
@@ -83,17 +99,20 @@ class Hall:
             say(f"whoever stands between can read your key on its way to {url}: ask by https://")
         # The hall's clock less this machine's, by the last reply that told a moment.
         self.ahead = 0
+        # How long a reply is waited for at the next try.
+        self.timeout = TIMEOUT
 
-    def connection(self, path):
-        timeout = TIMEOUT_OF_CERTIFICATE if path.endswith("/certificate") else TIMEOUT
+    def connection(self):
         kind = http.client.HTTPSConnection if self.is_secret else http.client.HTTPConnection
-        return kind(self.host, self.port, timeout=timeout)
+        return kind(self.host, self.port, timeout=TIMEOUT)
 
     def once(self, method, path, body):
         """The reply to the request, and why there is none where there is none."""
         headers = {"Connection": "close"} | ({"Hall-Key": self.key} if self.key else {})
-        conn = self.connection(path)
+        conn = self.connection()
         try:
+            conn.connect()
+            watch(conn.sock, TIMEOUT_OF_CERTIFICATE if path.endswith("/certificate") else self.timeout)
             # A name of strange letters is the hall's to refuse.
             conn.request(method, self.front + urllib.parse.quote(path), body, headers)
             got = conn.getresponse()
@@ -106,6 +125,8 @@ class Hall:
         except socket.gaierror:
             return None, f"{self.host} is not found"
         except (OSError, http.client.HTTPException) as fault:
+            if isinstance(fault, TimeoutError):
+                self.timeout = min(2 * self.timeout, LONGEST_TIMEOUT)
             return None, f"no reply ({type(fault).__name__})"
         finally:
             conn.close()
@@ -113,6 +134,7 @@ class Hall:
     def ask(self, method, path, body=b""):
         """The reply, whatever it says, after as many tries as it takes."""
         until, pause, tries = time.monotonic() + self.patience, 0, 0
+        self.timeout = TIMEOUT
         while True:
             reply, why = self.once(method, path, body)
             tries += 1

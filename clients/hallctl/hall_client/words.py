@@ -4,7 +4,7 @@ import os
 import re
 import sys
 
-from . import archive, check, people, puzzles, rehearse, results, rounds, told
+from . import archive, check, draft, people, puzzles, rehearse, results, rounds, site, told
 from .local_hall import NoProgram
 from .printing import Out, note, text_of
 from .wire import Hall, NoReply, Refused
@@ -13,7 +13,8 @@ ABOUT = """Holds rounds in a contest hall from a terminal. It asks the hall over
 each request again until it is answered. It is a client beside the hall: nothing of it is proved."""
 STATUSES = """exit status:
   0   done
-  1   done, but not as wished: a puzzle isn't in the state one, a list or sheet has a fault, or it wasn't agreed to
+  1   done, but not as wished: a puzzle isn't in the state one, a list or sheet has a fault or lacks keys, or it
+      wasn't agreed to
   2   refused or denied, by the hall or before it was asked
   3   no reply for as long as --patience says, or no program `hall`
   64  a wrong command line
@@ -98,15 +99,16 @@ def add_puzzles(commands):
 
 
 def add_rounds(commands):
-    of = commands.group("round", "put, release, list and show rounds")
+    of = commands.group("round", "put, release, list, show and edit rounds")
     of.add("put", rounds.put, [ROUND, word("sheet", "the round sheet, a file")])
     of.add("release", rounds.release, [ROUND, word("--sheet", "the sheet that was put, which names the puzzles")])
     of.add("list", rounds.listed, [CSV])
-    of.add("show", rounds.show, [ROUND])
+    of.add("show", rounds.show, [ROUND, word("--sheet", "the sheet that was put, which names the puzzles")])
+    of.add("edit", draft.edit, [ROUND, word("sheet", "the file that is written [ROUND.toml]", nargs="?")])
 
 
 def add_results(commands):
-    commands.add("answers", results.answers, [ROUND, CSV])
+    commands.add("answers", results.answers, [ROUND, CSV, word("--texts", "each answer whole", action="store_true")])
     commands.add("protests", results.protests, [
         ROUND, CSV, word("--open", "those that aren't ruled", action="store_true")])
     commands.add("rule", results.rule, [
@@ -119,6 +121,12 @@ def add_results(commands):
         word("round", "the rounds whose tables are added", nargs="+"), CSV,
         word("--names", "CSV with the first line name,spoken,country")], needs="hall")
     commands.add("archive", archive.archive, [word("dir", "the folder that is made")])
+    commands.add("site", site.site, [
+        word("folder", "the folder that is written, or written anew"),
+        word("round", "the rounds that are shown [all that are released]", nargs="*"),
+        word("--title", "what stands on top of its pages [Contest hall]", default="Contest hall"),
+        word("--address", "where the folder is served [the hall's address and /results]"),
+        word("--names", "CSV with the first line name,spoken,country")])
 
 
 def parser():
