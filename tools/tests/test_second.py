@@ -1,0 +1,520 @@
+"""A second machine: the files of examples/running/pair, with the real programs that they are for.
+
+Where the programs are, each file passes their own checks. Of two machines that lose each other a witness lets one go
+on. A proxy before two halls sends all to the one that answers, and goes on with it. Copies that are made each second of
+a hall that serves are whole, and lack no more than the last seconds. On a volume of GlusterFS one machine dies, and one
+is cut off: nothing that entrants were told is lost; with loose locks something is. What starts daemons of the system,
+or goes by seconds, is run with --all alone, on a machine that has its processors for it.
+"""
+import contextlib
+import json
+import os
+import random
+import shutil
+import signal
+import sqlite3
+import subprocess
+import sys
+import threading
+import time
+import urllib.error
+import urllib.request
+
+import pytest
+from harness import filled, machines, proxies, running
+from harness.checks import check, holds, must_be, need, tell
+from harness.handed_in import Entrant, faults
+from harness.volume import Volume, waited
+
+PAIR = f"{running.ROOT}/examples/running/pair"
+SCRIPTS = ("fence.sh", "unfence.sh", "takeover.sh", "gluster.sh", "ship.sh", "hall-status")
+DRBDADM = "/usr/lib/drbd/drbdadm-84"
+# So many seconds a copy may lack, on a machine that has its processors for it; and so often its maker is killed.
+WINDOW, KILLS = 5, 4
+
+
+def ran(*words, **how):
+    it = subprocess.run(words, capture_output=True, text=True, timeout=300, check=False, **how)
+    return it.returncode, it.stdout + it.stderr
+
+
+def text_of(name):
+    with open(f"{PAIR}/{name}", encoding="ascii") as file:
+        return file.read()
+
+
+def written(path, text):
+    with open(path, "w", encoding="ascii") as file:
+        file.write(text)
+    return path
+
+
+@pytest.mark.parametrize("name", SCRIPTS)
+def test_scripts_are_sound(name):
+    need("shellcheck")
+    check("what shellcheck says", ran("shellcheck", f"{PAIR}/{name}"), (0, ""))
+    check("whether it may be run", os.access(f"{PAIR}/{name}", os.X_OK), True)
+
+
+def test_units_are_sound(room):
+    need("systemd-analyze")
+    places = {"hall-takeover": f"{PAIR}/takeover.sh", "hall-ship": f"{PAIR}/ship.sh"}
+    for name in ("hall-pair.service", "hall-disk.service", "hall-ship.service"):
+        text = text_of(name)
+        for installed, source in places.items():
+            text = text.replace(f"/usr/local/sbin/{installed}", source)
+        # DRBD's own unit may not be there, nor is it asked of.
+        written(f"{room}/{name}", text.replace("drbd.service", "hall-disk.service") if "pair" in name else text)
+    with open(f"{running.ROOT}/examples/running/hall.service", encoding="ascii") as file:
+        written(f"{room}/hall.service", file.read().replace("/usr/local/bin/hall", "/bin/true"))
+    env = {**os.environ, "SYSTEMD_UNIT_PATH": f"{room}:/lib/systemd/system"}
+    for conf in ("hall-pair.conf", "hall-gluster.conf"):
+        os.makedirs(f"{room}/hall.service.d", exist_ok=True)
+        shutil.copy(f"{PAIR}/{conf}", f"{room}/hall.service.d/pair.conf")
+        for unit in ("hall.service", "hall-pair.service", "hall-disk.service", "hall-ship.service"):
+            said = ran("systemd-analyze", "verify", "--man=no", f"{room}/{unit}", env=env)
+            check(f"what systemd says of {unit} with {conf}", said, (0, ""))
+
+
+def test_the_resource_is_one_of_drbd():
+    need(DRBDADM)
+    status, said = ran(DRBDADM, "-c", f"{PAIR}/hall.res", "dump")
+    check("the status", status, 0)
+    for wanted in ("protocol C", "fencing resource-and-stonith", "fence-peer /usr/local/sbin/hall-fence"):
+        holds(wanted, wanted in " ".join(said.split()), said)
+
+
+def test_keepalived_takes_its_file(room):
+    need("keepalived", "unshare", "ip")
+    if os.geteuid() != 0:
+        pytest.skip("only root may make an interface")
+    words = f"ip link add eth0 type veth peer name eth1 && exec keepalived -n -l -t -f {PAIR}/keepalived.conf"
+    told = subprocess.run(["unshare", "-n", "-p", "--fork", "--kill-child", "sh", "-c", words], capture_output=True,
+                          text=True, timeout=60, check=False, start_new_session=True)
+    check("what keepalived says", (told.returncode, told.stdout + told.stderr), (0, ""))
+
+
+class Witness:
+    """An etcd, and two machines that ask it: DRBD's handlers are run under their names."""
+
+    def __init__(self, room):
+        self.room, self.port, self.etcd = room, running.free_port(), None
+        self.url = f"http://127.0.0.1:{self.port}"
+        written(f"{room}/pair", f"WITNESS={self.url}\n")
+
+    def begin(self):
+        """Begins the witness, which has no port before."""
+        peer = f"http://127.0.0.1:{running.free_port()}"
+        words = ["etcd", "--data-dir", f"{self.room}/etcd", "--listen-client-urls", self.url, "--advertise-client-urls",
+                 self.url, "--listen-peer-urls", peer, "--initial-advertise-peer-urls", peer,
+                 "--initial-cluster", f"default={peer}"]
+        self.etcd = subprocess.Popen(words, stdout=subprocess.DEVNULL, stderr=subprocess.DEVNULL)
+        for _ in range(600):
+            if self.asked("endpoint", "health")[0] == 0:
+                return
+            time.sleep(0.1)
+        raise AssertionError("etcd doesn't answer")
+
+    def asked(self, *words):
+        env = {**os.environ, "ETCDCTL_API": "3"}
+        return ran("etcdctl", f"--endpoints={self.url}", "--command-timeout=5s", *words, env=env)
+
+    def name(self):
+        return self.asked("get", "hall", "--print-value-only")[1].strip()
+
+    def begun(self, machine, script, *words):
+        """A handler on a machine of this name."""
+        folder = f"{self.room}/{machine}"
+        os.makedirs(folder, exist_ok=True)
+        written(f"{folder}/hostname", f"#!/bin/sh\necho {machine}\n")
+        os.chmod(f"{folder}/hostname", 0o755)
+        env = {**os.environ, "PATH": f"{folder}:{os.environ['PATH']}", "HALL_PAIR": f"{self.room}/pair",
+               "HALL_KNOWN": f"{folder}/known"}
+        return subprocess.Popen([f"{PAIR}/{script}", *words], env=env)
+
+    def ends(self, machine, script, *words):
+        return self.begun(machine, script, *words).wait(60)
+
+    def end(self):
+        if self.etcd:
+            self.etcd.kill()
+            self.etcd.wait()
+
+
+@pytest.fixture
+def quiet(request):
+    """A machine that whoever runs the tests says is quiet."""
+    if not request.config.option.all:
+        pytest.skip("daemons of the system, and seconds that count: --all runs it")
+
+
+@pytest.fixture
+def witness(quiet, room):
+    need("etcd", "etcdctl")
+    it = Witness(room)
+    try:
+        yield it
+    finally:
+        it.end()
+
+
+def test_the_witness_lets_one_go_on(witness):
+    asking = witness.begun("one", "fence.sh")
+    time.sleep(2)
+    must_be("whether one goes on before the witness is there", asking.poll(), None)
+    witness.begin()
+    must_be("one, which asked first", asking.wait(60), 7)
+    must_be("two, which is out", witness.ends("two", "fence.sh"), 1)
+    must_be("one, asking again", witness.ends("one", "fence.sh"), 7)
+    must_be("the name at the witness", witness.name(), "one")
+    # Two is brought up to date.
+    must_be("before", witness.ends("two", "unfence.sh", "before"), 0)
+    must_be("after", witness.ends("two", "unfence.sh", "after"), 0)
+    must_be("the name once both have all", witness.name(), "")
+    must_be("two, which may go on then", witness.ends("two", "fence.sh"), 7)
+    must_be("one, which is out then", witness.ends("one", "fence.sh"), 1)
+
+
+def test_a_name_that_was_written_anew_stays(witness):
+    """One loses two once more, while two is about to say that it has all."""
+    witness.begin()
+    must_be("one", witness.ends("one", "fence.sh"), 7)
+    must_be("two is brought up to date", witness.ends("two", "unfence.sh", "before"), 0)
+    must_be("one, which lost two again", witness.ends("one", "fence.sh"), 7)
+    must_be("two has what there was", witness.ends("two", "unfence.sh", "after"), 0)
+    must_be("the name at the witness", witness.name(), "one")
+    must_be("two is out", witness.ends("two", "fence.sh"), 1)
+
+
+def test_both_at_once(witness):
+    witness.begin()
+    for _ in range(5):
+        both = [witness.begun(it, "fence.sh") for it in ("one", "two")]
+        check("how both end", sorted(it.wait(60) for it in both), [1, 7])
+        witness.asked("del", "hall")
+
+
+class Between:
+    """An HAProxy with between.cfg before two halls."""
+
+    def __init__(self, room, program):
+        self.room, self.program, self.port = room, program, running.free_port()
+        self.ports = {"one": running.free_port(), "two": running.free_port()}
+        self.halls = {}
+        for name in self.ports:
+            filled.fill(f"{room}/{name}.db", 0)
+        text = text_of("between.cfg").replace("bind 127.0.0.1:8080", f"bind 127.0.0.1:{self.port}")
+        for name, address in (("one", "192.0.2.1:8080"), ("two", "192.0.2.2:8080")):
+            must_be(f"how often the file names {address}", text.count(address), 1)
+            text = text.replace(address, f"127.0.0.1:{self.ports[name]}")
+        self.config = written(f"{room}/between.cfg", text)
+
+    def begin(self, name):
+        words = [self.program, "serve", "--db", f"{self.room}/{name}.db", "--port", str(self.ports[name])]
+        self.halls[name] = subprocess.Popen(words, stderr=subprocess.DEVNULL)
+        running.wait_for(self.ports[name])
+
+    def asked(self):
+        """(status, whose reply it is): only one's and two's lists of rounds differ."""
+        asked = urllib.request.Request(f"http://127.0.0.1:{self.port}/rounds", headers={"Hall-Key": "eve-key-eve"})
+        try:
+            with urllib.request.urlopen(asked, timeout=30) as reply:
+                return reply.status, reply.read()
+        except urllib.error.HTTPError as refused:
+            return refused.code, refused.read()
+
+    def soon(self, wanted):
+        """How long it takes until a reply has this status, at most a minute."""
+        began = time.monotonic()
+        while time.monotonic() < began + 60:
+            if self.asked()[0] == wanted:
+                return time.monotonic() - began
+            time.sleep(0.1)
+        return None
+
+    def counted(self):
+        """How many requests each hall has been sent, as HAProxy counts them."""
+        with contextlib.closing(urllib.request.urlopen(f"http://127.0.0.1:{self.port}/counts;csv", timeout=30)) as got:
+            lines = got.read().decode().splitlines()
+        return {it.split(",")[1]: int(it.split(",")[7]) for it in lines if it.startswith("pair,")}
+
+    def end(self):
+        for it in self.halls.values():
+            it.kill()
+            it.wait()
+
+
+@pytest.fixture
+def between(room, program):
+    need("haproxy")
+    it = Between(room, program)
+    # A page of counts, for the test alone.
+    with open(it.config, "a", encoding="ascii") as file:
+        file.write("    stats uri /counts\n")
+    it.begin("one")
+    proxy = subprocess.Popen(["haproxy", "-db", "-f", it.config], stdout=subprocess.DEVNULL, stderr=subprocess.DEVNULL)
+    try:
+        running.wait_for(it.port)
+        yield it
+    finally:
+        proxy.kill()
+        proxy.wait()
+        it.end()
+
+
+def test_the_proxies_take_their_files(room):
+    need("haproxy", "openssl")
+    proxies.certificate(room)
+    with open(f"{running.ROOT}/examples/running/haproxy.cfg", encoding="ascii") as file:
+        first = written(f"{room}/first.cfg", file.read().replace("/etc/haproxy/hall.pem", f"{room}/hall.pem"))
+    env = {**os.environ, "PAGE": f"{running.ROOT}/clients/page"}
+    for words in ((first, f"{PAIR}/between.cfg"), (f"{PAIR}/behind.cfg",)):
+        files = [part for it in words for part in ("-f", it)]
+        check(f"what haproxy says of {words[-1]}", ran("haproxy", "-c", *files, env=env)[0], 0)
+
+
+def test_a_proxy_before_both_goes_on_with_the_one_that_answers(between):
+    must_be("whether one answers", between.soon(200) is not None, True)
+    between.begin("two")
+    # One stands still with a request, as a machine that is gone: nobody closes its connections.
+    with running.standing_still(between.halls["one"]):
+        began, told = time.monotonic(), []
+        waiting = threading.Thread(target=lambda: told.append(between.asked()[0]))
+        waiting.start()
+        waiting.join(60)
+        must_be("what who waited is told", told, [502])
+        tell(f"a proxy before both: who waited was told so after {time.monotonic() - began:.1f} s")
+        must_be("whether two answers", between.soon(200) is not None, True)
+    # One is there again, and well.
+    time.sleep(5)
+    before = between.counted()
+    for _ in range(10):
+        must_be("the status of a request after", between.asked()[0], 200)
+    after = between.counted()
+    check("what one is sent after it came back", after["one"] - before["one"], 0)
+    check("what two is sent", after["two"] - before["two"] >= 10, True)
+
+
+class Shipped:
+    """ship.sh, which copies a hall's files to a folder, beside entrants who hand in."""
+
+    def __init__(self, db, folder):
+        self.db, self.folder, self.ship = db, folder, None
+        os.makedirs(folder, exist_ok=True)
+
+    def begin(self):
+        self.ship = subprocess.Popen([f"{PAIR}/ship.sh", self.db, self.folder], start_new_session=True,
+                                     stdout=subprocess.DEVNULL, stderr=subprocess.DEVNULL)
+
+    def kill(self):
+        os.killpg(self.ship.pid, signal.SIGKILL)
+        self.ship.wait()
+
+    def copy(self, to):
+        """The last whole copy, put aside."""
+        shutil.copytree(os.path.realpath(f"{self.folder}/now"), to)
+        return f"{to}/hall.db"
+
+
+def test_copies_each_second(quiet, served, db, program, room):
+    need("rsync")
+    shipped, over, seen = Shipped(db, f"{room}/copies"), threading.Event(), []
+    entrants = [Entrant(served[1], f"s{k}", over) for k in range(20)]
+
+    def watched():
+        while not over.wait(0.1):
+            seen.append((time.monotonic(), {it.name_of: it.told for it in entrants}))
+
+    watch = threading.Thread(target=watched)
+    watch.start()
+    # Where more processes run than there are processors, each takes longer.
+    window = WINDOW * max(1, os.getloadavg()[0] / os.cpu_count())
+    rng = random.Random(1)
+    for number in range(KILLS):
+        shipped.begin()
+        time.sleep(window + rng.uniform(1, 4))
+        shipped.kill()
+        least = max((it for it in seen if it[0] < time.monotonic() - window), default=(0, {}))[1]
+        copy = shipped.copy(f"{room}/copy{number}")
+        check(f"copy {number}, but for its last {window:.0f} s", faults(copy, least), [])
+        status, said = ran(program, "check", "--db", copy)
+        check(f"copy {number}, by hall check", (status, "sane" in said), (0, True))
+    over.set()
+    watch.join()
+    for it in entrants:
+        it.join()
+    check("entrants who weren't told that their answers stand", [it.fault for it in entrants if it.fault], [])
+    told = sum(it.told for it in entrants)
+    tell(f"copies each second: {told} answers were handed in, {KILLS} copies lacked at most those of {window:.0f} s")
+
+
+@pytest.fixture
+def db(room):
+    """A round that runs. The published one, which has the same puzzles, is taken out, so that the file is sane."""
+    path = f"{room}/hall.db"
+    filled.fill(path, 2_000)
+    with contextlib.closing(sqlite3.connect(path)) as conn:
+        for table, column in (("answers", "round"), ("round_puzzles", "round"), ("rounds", "id")):
+            conn.execute(f"DELETE FROM {table} WHERE {column} = 'then'")
+        conn.commit()
+    return path
+
+
+def test_what_the_status_says(room):
+    """Of stand-ins for DRBD, its witness and GlusterFS."""
+    states = (
+        ("drbdadm", "Connected", "UpToDate/UpToDate", "", 0, "whole: Primary/Secondary, Connected"),
+        ("drbdadm", "WFConnection", "UpToDate/DUnknown", "two", 1, "NOT WHOLE: Primary/Secondary, WFConnection"),
+        ("drbdadm", "Connected", "UpToDate/UpToDate", "two", 1, "witness: two"),
+        ("gluster", "0", "0", "", 0, "whole: entries that the three copies lack: 0 0 0"),
+        ("gluster", "0", "2", "", 1, "NOT WHOLE: entries that the three copies lack: 0 2 0"),
+        ("gluster", "-", "0", "", 1, "NOT WHOLE: entries that the three copies lack: - 0 0"),
+    )
+    for number, (kind, first, second, note, status, wanted) in enumerate(states):
+        folder = f"{room}/{number}"
+        os.mkdir(folder)
+        scripts = {
+            "drbdadm": f"case $1 in cstate) echo {first};; dstate) echo {second};; *) echo Primary/Secondary;; esac",
+            "gluster": f"printf 'Number of entries: %s\\n' {first} {second} 0",
+            "etcdctl": f"echo {note}" if note else ":",
+        }
+        for name, text in scripts.items():
+            written(f"{folder}/{name}", f"#!/bin/sh\n{text}\n")
+            os.chmod(f"{folder}/{name}", 0o755)
+        pair = written(f"{folder}/pair", "WITNESS=nobody\n") if kind == "drbdadm" else f"{folder}/none"
+        env = {**os.environ, "PATH": f"{folder}:{os.environ['PATH']}", "HALL_PAIR": pair}
+        got, said = ran(f"{PAIR}/hall-status", env=env)
+        check(f"state {number}", (got, wanted in said), (status, True))
+
+
+class Served:
+    """A hall that is served from a volume by `one`, while `two` waits for its lock; and its crowds."""
+
+    def __init__(self, volume, program, db):
+        self.volume, self.program, self.journals = volume, program, []
+        self.places = {name: volume.mount(name) for name in ("one", "two")}
+        waited("both mounts speak to all copies", lambda: all(volume.is_linked(it) for it in self.places))
+        self.outside = volume.switch.add("outside")
+        volume["one"].run("cp", db, self.path("one"), check=True)
+        self.begin("one")
+        waited("one serves", lambda: self.answers("one"))
+        self.begin("two")
+
+    def path(self, name):
+        return f"{self.places[name]}/hall.db"
+
+    def begin(self, name):
+        """The hall as its unit begins it, and a way to it from outside."""
+        machine = self.volume[name]
+        machine.begin_unit("hall.log", self.program, "serve", "--db", self.path(name), "--port", "8080")
+        front = text_of("behind.cfg").replace("192.0.2.1:8080", f"{machine.address}:80")
+        front = front.replace("192.0.2.3", self.outside.address).replace("    user haproxy\n    group haproxy\n", "")
+        machine.begin("haproxy.log", "haproxy", "-db", "-f", written(f"{machine.folder}/behind.cfg", front))
+
+    def answers(self, name):
+        asked = ("curl", "-s", "-o", "/dev/null", "-m", "5", "http://127.0.0.1:8080/rounds")
+        return self.volume[name].run(*asked).returncode == 0
+
+    def crowd(self, machine, seconds, first, *addresses):
+        """Entrants on a machine, who write down what they are told."""
+        self.journals.append(f"{machine.folder}/journal{first}")
+        words = [sys.executable, f"{running.HERE}/crowd.py", str(seconds), str(first), self.journals[-1], *addresses]
+        return machine.begin("crowd.log", *words)
+
+    def outer(self, seconds):
+        """Entrants outside, who ask whoever answers."""
+        return self.crowd(self.outside, seconds, 0, *(self.volume[it].address for it in ("one", "two")))
+
+    def told(self, journal):
+        """The answers that were taken, as entrants were told: whose, place, token, `n`, and the moment."""
+        with open(journal, encoding="ascii") as file:
+            return [(who, place, token, n, moment) for who, place, token, moment, n in map(json.loads, file)]
+
+    def lost(self):
+        """How many answers were told and don't stand, once both halls are ended; it sees too that none stands twice."""
+        for name in self.places:
+            if self.volume[name].first.poll() is None:
+                self.volume[name].end_unit()
+        room, two = self.volume.switch.room, self.volume["two"]
+        waited("nobody has the file", lambda: two.run(self.program, "check", "--db", self.path("two")).returncode != 3)
+        check("hall check", two.run(self.program, "check", "--db", self.path("two")).returncode, 0)
+        two.run("sh", "-c", f"cp {self.path('two')}* {room}", check=True)
+        with contextlib.closing(sqlite3.connect(f"{room}/hall.db")) as conn:
+            rows = conn.execute("SELECT entrant, number, token, n FROM answers WHERE round = 'now'").fetchall()
+        must_be("answers that stand twice", len(rows) - len({it[:3] for it in rows}), 0)
+        told = {it[:4] for journal in self.journals for it in self.told(journal)}
+        must_be("whether entrants were told anything", bool(told), True)
+        return len(told - set(rows)), len(told)
+
+
+def after(told, moment):
+    """How long after a moment the first of these was told."""
+    return min((it[4] - moment for it in told if it[4] > moment + 0.3), default=None)
+
+
+@pytest.fixture
+def parts(quiet, program):
+    """What a volume of GlusterFS needs here."""
+    need("glusterd", "gluster", "glusterfs", "haproxy", "curl", "pgrep", *machines.NEEDED)
+    if not os.path.exists("/dev/fuse") or not machines.can_be_made():
+        pytest.skip("only root can make machines, where the system lets it and has /dev/fuse")
+
+
+def test_a_machine_with_a_volume_dies(parts, db, program, room):
+    with Volume(room) as volume:
+        served = Served(volume, program, db)
+        for words in (("serve", "--port", "8081"), ("check",)):
+            ran_there = volume["two"].run(program, words[0], "--db", served.path("two"), *words[1:])
+            check(f"{words[0]} on the other machine", (ran_there.returncode, "open" in ran_there.stderr), (3, True))
+        crowd = served.outer(30)
+        time.sleep(random.uniform(3, 6))
+        volume["one"].die()
+        died = time.time()
+        crowd.wait(120)
+        first = after(served.told(served.journals[0]), died)
+        must_be("whether the other one answers", first is not None, True)
+        lost, told = served.lost()
+        check("answers that were lost", lost, 0)
+        tell(f"a machine with a volume dies: {told} answers told, {lost} lost, the other answers after {first:.1f} s")
+        volume["one"].boot()
+        volume.begin_glusterd(volume["one"])
+        tell(f"a machine with a volume is back: whole after {waited('all copies are whole', volume.is_whole):.0f} s")
+
+
+def test_a_machine_with_a_volume_is_cut_off(parts, db, program, room):
+    with Volume(room) as volume:
+        served = Served(volume, program, db)
+        outer, inner = served.outer(35), served.crowd(volume["one"], 35, 500, "127.0.0.1:8080")
+        time.sleep(random.uniform(3, 6))
+        volume["one"].cut()
+        began = time.time()
+        time.sleep(random.uniform(10, 14))
+        ended = time.time()
+        volume["one"].mend()
+        for it in (outer, inner):
+            it.wait(120)
+        meanwhile = [it for it in served.told(served.journals[1]) if began + 0.3 < it[4] < ended]
+        check("what is told on the machine that is cut off", meanwhile, [])
+        first = after(served.told(served.journals[0]), began)
+        must_be("whether the other one answers", first is not None, True)
+        lost, told = served.lost()
+        check("answers that were lost", lost, 0)
+        tell(f"a machine with a volume is cut off: {told} answers told, {lost} lost, "
+             f"the other answers after {first:.1f} s")
+
+
+def test_with_loose_locks_answers_are_lost(parts, db, program, room):
+    """So that it is seen that these tests see a loss. The hall that is cut off has nothing to do meanwhile."""
+    with Volume(room, ("client.strict-locks", "off")) as volume:
+        served = Served(volume, program, db)
+        served.crowd(volume["one"], 3, 500, "127.0.0.1:8080").wait(120)
+        volume["one"].cut()
+        outer = served.outer(25)
+        time.sleep(14)
+        volume["one"].mend()
+        time.sleep(2)
+        served.crowd(volume["one"], 4, 800, "127.0.0.1:8080").wait(120)
+        outer.wait(120)
+        lost, told = served.lost()
+        check("whether answers were lost", lost > 0, True)
+        tell(f"a volume with loose locks: {told} answers told, {lost} lost")
