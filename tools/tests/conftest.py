@@ -3,11 +3,15 @@ import fcntl
 import os
 import subprocess
 import tempfile
+import threading
+import time
 
 import pytest
 from harness import checks, database, proxies, running
 
 PROVED, UNPROVED = (f"{running.ROOT}/crates/hall/out/{it}hall" for it in ("", "unproved/"))
+# So many seconds go by between two lines that tell how far the tests are.
+EVERY = 15
 
 
 def pytest_addoption(parser):
@@ -123,6 +127,43 @@ def pytest_runtest_makereport(item, call):
     report.user_properties += [("wrong", it) for it in wrong]
 
 
+class Progress:
+    """Tells how far the tests are, and which have failed since it told last; in a thread, as one may take minutes."""
+
+    def __init__(self, session, stats):
+        self.session, self.stats, self.begun, self.over = session, stats, time.time(), threading.Event()
+        # What is written to standard output while a test runs is kept for that test.
+        self.out = os.fdopen(os.dup(1), "w")
+        threading.Thread(target=self.run, daemon=True).start()
+
+    def run(self):
+        told = 0
+        while not self.over.wait(EVERY):
+            passed, failed, skipped = numbers(self.stats)
+            far = f"{passed + failed + skipped} of {self.session.testscollected} done, {failed} failed"
+            names = [it.nodeid for kind in ("failed", "error") for it in self.stats.get(kind, [])][told:]
+            told += len(names)
+            print(f"tests: {far}, {time.time() - self.begun:.0f} seconds", *names, file=self.out, flush=True)
+
+
+def reporter_of(config):
+    """What reports to whoever started the tests; nothing in the processes that -n makes."""
+    return None if hasattr(config, "workerinput") else config.pluginmanager.get_plugin("terminalreporter")
+
+
+def pytest_sessionstart(session):
+    reporter = reporter_of(session.config)
+    session.config.hall_progress = Progress(session, reporter.stats) if reporter else None
+
+
+@pytest.hookimpl(hookwrapper=True)
+def pytest_report_teststatus(config):
+    """No letter for each test among the lines of Progress."""
+    outcome = yield
+    if config.option.verbose <= 0:
+        outcome.force_result((outcome.get_result()[0], "", ""))
+
+
 def lines(reports, kind):
     """What the reports tell of a kind, with the names of their tests."""
     for report in reports:
@@ -168,13 +209,19 @@ def pytest_terminal_summary(terminalreporter):
 @pytest.hookimpl(trylast=True)
 def pytest_sessionfinish(session):
     """The last line."""
-    reporter = session.config.pluginmanager.get_plugin("terminalreporter")
-    if reporter and not hasattr(session.config, "workerinput"):
+    reporter = reporter_of(session.config)
+    if reporter:
+        session.config.hall_progress.over.set()
         session.config.add_cleanup(lambda: print(counted(reporter.stats), flush=True))
+
+
+def numbers(stats):
+    """How many passed, failed and were skipped."""
+    passed, failed, skipped, errors = (len(stats.get(it, [])) for it in ("passed", "failed", "skipped", "error"))
+    return passed, failed + errors, skipped
 
 
 def counted(stats):
     """How many passed and failed, and how many were skipped, where some were."""
-    passed, failed, skipped = (len(stats.get(it, [])) for it in ("passed", "failed", "skipped"))
-    failed += len(stats.get("error", []))
+    passed, failed, skipped = numbers(stats)
     return f"{passed} passed, {failed} failed" + (f", {skipped} skipped" if skipped else "")

@@ -206,16 +206,6 @@ async def a_thousand(house):
         check("1,000 requests end a connection", client.waited() < SOON, True)
 
 
-def is_gone(client):
-    """Whether the hall has closed a connection of which nothing was read."""
-    try:
-        return client.it.recv(1, socket.MSG_PEEK | socket.MSG_DONTWAIT) == b""
-    except BlockingIOError:
-        return False
-    except ConnectionError:
-        return True
-
-
 async def more_than_there_is_room_for(house):
     """The idle ones make room."""
     async with many(house.port, MOST + 20) as clients:
@@ -223,7 +213,7 @@ async def more_than_there_is_room_for(house):
         async with house.client() as client:
             await client.send(ASKED)
             told, waited = status(await client.reply()), client.waited()
-            gone = sum(map(is_gone, clients))
+            gone = sum(client.is_gone() for client in clients)
     return [("a client among many idle ones", told, 200),
             ("a client among many idle ones is answered soon", waited < SOON, True),
             (f"{gone} idle clients of {len(clients)} made room", 20 <= gone < MOST, True)]
@@ -237,6 +227,22 @@ async def a_taker_among_more_than_there_is_room_for(house):
         async with many(house.port, MOST + 20):
             await house.lets_pass(2 * SOON)
             return [("a reply that is taken slowly in a full house", status(await taker.reply()), 200)]
+
+
+async def who_asked_last_stays(house):
+    """In a house full of those who wait, the ones that asked last stay: others have less time left."""
+    async with many(house.port, 2 * MOST // 3) as early, many(house.port, MOST // 3) as late:
+        for clients in (early, late):
+            await asyncio.gather(*(client.send(ASKED) for client in clients))
+            await asyncio.gather(*(client.reply() for client in clients))
+            await house.lets_pass(SOON)
+        async with many(house.port, 100) as newcomers:
+            await asyncio.gather(*(client.send(ASKED) for client in newcomers))
+            told = [status(await client.reply()) for client in newcomers]
+            gone = [sum(client.is_gone() for client in clients) for clients in (early, late)]
+    return [("newcomers among those who wait", set(told), {200}),
+            (f"{gone[0]} of those who asked first made room, and of those who asked last", gone[1], 0),
+            ("so many made room", gone[0] >= 90, True)]
 
 
 async def a_full_house(house):
@@ -255,6 +261,10 @@ async def a_full_house(house):
             found = [status(it.result()) if it.done() else None for it in told]
     return [("newcomers that a full house answers", early, 0),
             ("newcomers that came to a full house", found, [200] * len(newcomers))]
+
+
+# What is played alone, one after another.
+SCENES = [more_than_there_is_room_for, a_taker_among_more_than_there_is_room_for, who_asked_last_stays, a_full_house]
 
 
 async def one_by_one(scenes):
@@ -278,7 +288,7 @@ async def all_at_once(house):
         if isinstance(ended, Exception):
             check("a client", repr(ended), "no fault")
     check(f"the slowest of {len(slowest)} replies took {max(slowest):.3f} seconds", max(slowest) < SOON, True)
-    for it in (more_than_there_is_room_for, a_taker_among_more_than_there_is_room_for, a_full_house):
+    for it in SCENES:
         await in_time(it, house)
 
 

@@ -25,3 +25,22 @@ def test_the_round_of_the_readme():
     ran = played_round(os.environ["HALL_COMMAND"])
     check("what round.sh tells", (ran.returncode, ran.stdout.splitlines()),
           (0, ["a round from init to table: all replies as README.md tells"]))
+
+
+# In this order: one is given what those before it made.
+PASTED = "hall", "judge", "solve", "init", "check", "replay"
+
+
+def test_the_examples_of_help(tmp_path):
+    """Pasted into a shell in an empty folder, they write what the pages say."""
+    commands = tmp_path / "commands"
+    commands.mkdir()
+    (commands / "hall").symlink_to(os.path.realpath(os.environ["HALL_COMMAND"]))
+    env = {**os.environ, "PATH": f"{commands}:{os.environ['PATH']}"}
+    for name in PASTED:
+        page = Path(ROOT, "examples", "help", f"{name}.out").read_text(encoding="utf-8")
+        lines = [it.removeprefix("  ") for it in page.split("Example:\n")[1].splitlines()]
+        typed = "\n".join(it.removeprefix("$ ") for it in lines if it.startswith("$ "))
+        wanted = "".join(f"{it}\n" for it in lines if not it.startswith("$ "))
+        ran = subprocess.run(["bash", "-c", typed], cwd=tmp_path, env=env, capture_output=True, check=False, text=True)
+        check(f"what is pasted of {name}", ran.stdout if wanted else ran.stdout[:12], wanted or "HTTP/1.1 200")

@@ -7,6 +7,7 @@ from harness import database
 from harness.checks import check
 from harness.database import FIRST_ROWS, FIRST_TABLES, kept, written
 from harness.running import PEOPLE, ROOT, bytes_of, connected, content_of, hall, library, read_off, removed, serving
+from harness.running import set_clock
 from harness.wire import records, replies
 
 NAMES = re.findall(r"CREATE TABLE (\w+)", FIRST_TABLES)
@@ -65,21 +66,34 @@ def test_files_of_the_first_program(room):
     check("the bytes of the files of the first version", [bytes_of(people), bytes_of(round_file)], left)
 
 
+def moment_of(record):
+    return int(record[1:].split(b" ", 1)[0])
+
+
+def runs(asked):
+    """The records, cut where a moment lies before the last one."""
+    found = []
+    for record in asked:
+        if not found or moment_of(record) < moment_of(found[-1][-1]):
+            found.append([])
+        found[-1].append(record)
+    return found
+
+
 def served_at(program, room, path, asked):
-    """What each record's request is replied, where the file is served and the time of day is the record's moment."""
+    """What each record's request is replied, where the file is served and the time of day is the record's moment. While
+    a hall runs its moments never go back, so where they do it is started anew."""
     clock, got = f"{room}/clock", []
     env = {"LD_PRELOAD": library(room, "clock"), "CLOCK": clock}
-    with serving(path, len(asked), program, env) as (server, port):
-        for record in asked:
-            line, request = record.split(b"\n", 1)
-            with open(f"{clock}.next", "w", encoding="ascii") as it:
-                it.write(line[1:].split(b" ")[0].decode())
-            os.replace(f"{clock}.next", clock)
-            with connected(server, port) as client:
-                client.sendall(request)
-                client.shutdown(socket.SHUT_WR)
-                got.append(read_off(client))
-        check("the server's status", server.wait(60), 0)
+    for run in runs(asked):
+        with serving(path, len(run), program, env) as (server, port):
+            for record in run:
+                set_clock(clock, moment_of(record))
+                with connected(server, port) as client:
+                    client.sendall(record.split(b"\n", 1)[1])
+                    client.shutdown(socket.SHUT_WR)
+                    got.append(read_off(client))
+            check("the server's status", server.wait(60), 0)
     return got
 
 

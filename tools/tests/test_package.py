@@ -15,6 +15,7 @@ import sys
 import tempfile
 import urllib.error
 import urllib.request
+from pathlib import Path
 
 import pytest
 from harness import clean_root, running
@@ -100,10 +101,22 @@ def test_the_program_is_as_it_was_built(made):
     must_be("the sum in VERSION", origin[3], "sha256 " + done("sha256sum", made.program).split()[0])
 
 
-def test_lintian_finds_nothing_above_a_note(made):
+def files_below(folder):
+    return sorted(os.path.relpath(f"{at}/{it}", folder) for at, _, names in os.walk(folder) for it in names)
+
+
+def test_all_that_the_pages_install_is_among_the_examples(made):
+    wanted = files_below(f"{running.ROOT}/examples/running")
+    must_be("the examples", files_below(f"{made.files}/usr/share/doc/hall/examples"), wanted)
+
+
+def test_lintian_finds_nothing(made):
+    """Nothing but what tools/build/package/overrides says why."""
     need("lintian")
-    # As root it says that it had better not be.
-    said = done("lintian", "--fail-on", "error,warning", "--allow-root", made.path)
+    shown, failing = ("--display-info", "--pedantic"), "error,warning,info,pedantic"
+    # Bytes of machine code may read as a misspelt word, by chance. And as root it says that it had better not be.
+    left_out = ("--suppress-tags", "spelling-error-in-binary", "--allow-root")
+    said = done("lintian", *shown, "--fail-on", failing, *left_out, made.path)
     must_be("what lintian says", said.strip(), "")
 
 
@@ -120,12 +133,20 @@ def test_the_manual_page_tells_version_commit_and_whether_it_was_proved(made):
     assert " ".join(origin.split()) in page(made, "hall"), f"hall(1) lacks {origin}"
 
 
+def test_each_program_has_a_manual_page_of_its_name(made):
+    for name in os.listdir(f"{made.files}/usr/bin"):
+        path = f"{made.files}/usr/share/man/man1/{name}.1.gz"
+        with gzip.open(path, "rt", encoding="utf-8") as file:
+            text = file.read()
+        must_be(f"the title of {name}(1)", text.split()[:3], [".TH", name, "1"])
+        assert f"\n.SH NAME\n{name} \\- " in text, f"{name}(1) has another name"
+
+
 def test_manual_pages_say_what_help_says(made):
-    for program in filter(os.path.isfile, (made.program, package.HALLCTL)):
-        of = manual.help_of(program)
-        text = page(made, of.name)
-        for it in of.all():
-            assert " ".join(it.text.split()) in text, f"the page {of.name}(1) lacks the help of {it.name}"
+    for program, name in ((made.program, "hall"), (package.HALLCTL, "hallctl")):
+        text = page(made, name)
+        for it in manual.help_of(program, name).all():
+            assert " ".join(it.text.split()) in text, f"the page {name}(1) lacks the help of {it.name}"
 
 
 def test_manual_pages_are_laid_out_without_a_warning(made):
@@ -140,7 +161,7 @@ def test_hallctl_runs_where_it_is_installed(made):
     if not os.path.isfile(package.HALLCTL):
         pytest.skip("clients/hallctl isn't there")
     told = done(f"{made.files}/usr/bin/hallctl", "--help", env={**os.environ, "COLUMNS": str(manual.WIDTH)})
-    must_be("the help of the installed hallctl", told, manual.help_of(package.HALLCTL).text)
+    must_be("the help of the installed hallctl", told, manual.help_of(package.HALLCTL, "hallctl").text)
 
 
 def test_completion_offers_commands_options_and_files(made):
@@ -154,15 +175,32 @@ def test_completion_offers_commands_options_and_files(made):
         (["hall", "serve", "--port", ""], []),
         (["hallctl", "round", "rel"], ["release"]),
         (["hallctl", "round", "release", "noon", "--sheet", there[:-4]], [there]),
+        (["hallctl", "round", "show", "no"], ["noon"]),
+        (["hallctl", "puzzle", "certify", "bob/loop", "bob/"], ["bob/first", "bob/loop"]),
+        (["hallctl", "round", "list", "no"], []),
     ):
         must_be(f"the completion of {words}", completed(made, words), wanted)
 
 
+# Stands for a hallctl that reaches a hall.
+LISTS = """#!/bin/sh
+case "$*" in
+  "--patience 0 round list --csv") printf 'round,title\\nnoon,Noon\\nlate,Late\\n' ;;
+  "--patience 0 puzzle list --csv") printf 'author,label,state\\nbob,first,one\\nbob,loop,new\\n' ;;
+esac
+"""
+
+
 def completed(made, words):
+    stand_in = Path(made.room, "bin", "hallctl")
+    stand_in.parent.mkdir(exist_ok=True)
+    stand_in.write_text(LISTS, encoding="ascii")
+    stand_in.chmod(0o755)
     at = f"{made.files}/usr/share/bash-completion/completions/{words[0]}"
     given = 'COMP_WORDS=("$@"); COMP_CWORD=$(($# - 1))'
     asked = f"source {at}; {given}; _{words[0]}; printf '%s\\n' \"${{COMPREPLY[@]}}\""
-    return done("bash", "-c", asked, "bash", *words).split()
+    env = {**os.environ, "PATH": f"{stand_in.parent}:{os.environ['PATH']}"}
+    return done("bash", "-c", asked, "bash", *words, env=env).split()
 
 
 def test_the_unit_is_sound_and_shut_off(made):
@@ -170,7 +208,7 @@ def test_the_unit_is_sound_and_shut_off(made):
     unit = f"{made.room}/hall.service"
     with open(unit, "w", encoding="utf-8") as file:
         # The program must be where the unit says.
-        text = package.read(f"{made.files}/lib/systemd/system/hall.service")
+        text = package.read(f"{made.files}/usr/lib/systemd/system/hall.service")
         file.write(text.replace("/usr/bin/hall", f"{made.files}/usr/bin/hall"))
     must_be("what systemd-analyze says of the unit", done("systemd-analyze", "verify", "--man=no", unit), "")
     done("systemd-analyze", "security", "--offline=true", f"--threshold={EXPOSURE}", unit)
@@ -188,8 +226,24 @@ def test_the_page_followed_word_by_word_serves_within_three_minutes(made):
     tell(f"package: from the file to {reply} by the page in {took:.1f} s")
 
 
+MADE_THERE = """dpkg --install /root/*.deb >/dev/null
+stat -c '%U %G %a' /var/lib/hall
+getent passwd hall | cut -d: -f6,7
+[ -e /proc/self ] || echo there is no /proc
+"""
+
+
+def test_it_is_installed_where_proc_is_not_mounted(made):
+    need(*clean_root.NEEDED)
+    if os.geteuid() != 0 or not clean_root.can_be_laid_out():
+        pytest.skip("only root can lay a clean root out, where the system lets it")
+    it = clean_root.run(made.path, made.room, MADE_THERE, has_proc=False)
+    wanted = ["hall hall 700", "/var/lib/hall:/usr/sbin/nologin", "there is no /proc"]
+    must_be(f"what stands there, after {it.stderr}", it.stdout.splitlines(), wanted)
+
+
 def test_a_hall_of_an_installed_package_outlives_upgrade_removal_and_purge(made):
-    need("dpkg", "systemd-sysusers", "systemd-tmpfiles")
+    need("dpkg", "systemctl", "systemd-sysusers", "systemd-tmpfiles")
     before = package.make(made.program, made.room, version="0.0.1")
     with Root(made.room) as root:
         root.install(before)
@@ -200,8 +254,10 @@ def test_a_hall_of_an_installed_package_outlives_upgrade_removal_and_purge(made)
         kept = root.database()
         assert all(kept) and len(kept) == 2, "there is no database with its log to be kept"
         must_be("the version before", root.version(), made.version.replace(package.versions()[0][0], "0.0.1"))
+        root.enable()
         root.install(made.path)
         must_be("the version after an upgrade", root.version(), made.version)
+        must_be("whether it is enabled after an upgrade", root.links(), [WANTED])
         must_be("the database after an upgrade", root.database(), kept)
         must_be("the port that was set, after an upgrade", root.port(), port)
         with root.serving(port) as told:
@@ -215,6 +271,11 @@ def test_a_hall_of_an_installed_package_outlives_upgrade_removal_and_purge(made)
         must_be("the database after the purge", root.database(), kept)
         assert "what /var/lib/hall holds is left there" in said, said
         assert not os.path.exists(f"{root.at}/etc/hall"), "the settings are there after the purge"
+        must_be("links to the unit after the purge", root.links(), [])
+
+
+# The link by which systemd starts the hall with the machine.
+WANTED = "etc/systemd/system/multi-user.target.wants/hall.service"
 
 
 class Root:
@@ -241,6 +302,14 @@ class Root:
 
     def install(self, made):
         self.dpkg("--install", made)
+
+    def enable(self):
+        """As `systemctl enable hall` does on the machine."""
+        done("systemctl", f"--root={self.at}", "enable", "hall")
+
+    def links(self):
+        """The links that bear the unit's name."""
+        return [it for it in files_below(f"{self.at}") if it.endswith("/hall.service") and it.startswith("etc/")]
 
     def version(self):
         """The version that is installed."""
@@ -278,7 +347,7 @@ class Root:
     @contextlib.contextmanager
     def serving(self, port):
         """The hall as its unit starts it, and what it replies to a stranger."""
-        unit = package.read(f"{self.at}/lib/systemd/system/hall.service")
+        unit = package.read(f"{self.at}/usr/lib/systemd/system/hall.service")
         words = re.search(r"^ExecStart=(.*)$", unit, re.M)[1]
         for name, value in self.settings().items():
             words = words.replace(f"${{{name}}}", value)

@@ -1,7 +1,7 @@
 """The entrants' page in real browsers, against a real hall behind a real HAProxy with examples/running/haproxy.cfg.
 
-Firefox is tried too where it is installed, and nginx. PAGE of the environment names another copy of the page, such as
-one with a fault; --pictures FOLDER keeps pictures of it.
+Firefox and WebKit are tried too where they are installed, and nginx. PAGE of the environment names another copy of the
+page, such as one with a fault; --pictures FOLDER keeps pictures of it.
 """
 import importlib
 import os
@@ -11,7 +11,8 @@ import pytest
 
 NEEDED = {"chromium": "/usr/bin/chromium", "chromium-driver": "/usr/bin/chromedriver", "haproxy": "/usr/sbin/haproxy"}
 # Each is a module of page_tests with trial(program, pictures); the longest first.
-TRIALS = ("course", "hands", "troubles", "slips", "firefox", "texts", "tabs", "files")
+TRIALS = ("course", "hands", "troubles", "slips", "firefox", "webkit", "eyes", "helps", "languages", "reader",
+          "offline", "texts", "tabs", "files", "mends", "staff_author", "staff_director", "staff_referee", "broken")
 
 
 @pytest.fixture

@@ -5,12 +5,13 @@ the round of README.md through HAProxy. Only ports, paths and the certificate of
 line says so a time.
 """
 import concurrent.futures
+import contextlib
 import os
 import subprocess
 import time
 
 import pytest
-from harness import proxies, trial
+from harness import clients, proxies, trial
 from harness.checks import tell
 from harness.running import PEOPLE, free_port, played_round, wait_for
 from harness.trial import Stalled, StandIn, Trial
@@ -20,6 +21,8 @@ ROUNDS = '{"rounds":[]}'
 STANDS = '{"stands":"in"}'
 CERTIFICATE = "/puzzles/bob/p1/certificate"
 CHALLENGE = "/.well-known/acme-challenge/word"
+# So many entrants come from one address.
+CONTEST = 500
 # Addresses of this machine that the files don't name.
 STRANGE, OTHER = "127.0.0.9", "127.0.0.8"
 # A request is whole in so many seconds, or its client is told so; and many more, on a machine that is busy: one that is
@@ -89,7 +92,7 @@ def asked_by_http2(it, address, *words, body=b""):
 
 
 def often(it, count, path, headers=(), source=STRANGE):
-    """The statuses of so many requests on one connection of an address, the last reply's headers, and the seconds."""
+    """The statuses of so many requests of one key on one connection, the last reply's headers, and the seconds."""
     line = it.connection(source=source)
     told, last, begun = [], None, time.monotonic()
     for _ in range(count):
@@ -103,25 +106,27 @@ def often(it, count, path, headers=(), source=STRANGE):
 
 
 def crowded(it):
-    """One address asks too often, here for what HAProxy refuses by itself, and another is served meanwhile."""
-    for last in range(9, 15):
-        told, headers, took = often(it, 310, "/rounds", [(f"X{k}", "x") for k in range(40)], f"127.0.0.{last}")
+    """One key asks too often, here for what HAProxy refuses by itself, and others of its address are served meanwhile.
+    """
+    for turn in range(6):
+        key = ("Hall-Key", f"often-key-{turn}")
+        told, headers, took = often(it, 310, "/rounds", [*((f"X{k}", "x") for k in range(40)), key])
         if took < 9:
-            it.wants("an address that asks 310 times", [400] * 300 + [429] * 10, told)
+            it.wants("a key that asks 310 times", [400] * 300 + [429] * 10, told)
             it.wants("when it is to come again", ("10", True), (headers["Retry-After"], trial.is_now(headers)))
             break
     else:
         tell("behind HAProxy: too slow today for 300 requests in 10 seconds, so their limit wasn't tried")
-    it.wants("another address", (200, ROUNDS), it.ask("GET", "/rounds"))
+    it.wants("another key", (200, ROUNDS), it.ask("GET", "/rounds", source=STRANGE))
 
 
 def crowded_at_nginx(it):
     """The same at nginx, which lets 100 requests in at once, and then 30 in a second."""
-    told, _, took = often(it, 400, "/rounds")
+    told, _, took = often(it, 400, "/rounds", [("Hall-Key", "rex-key-1")])
     served = told.count(200)
-    it.wants("an address that asks 400 times", ([200] * 100, True, 400),
+    it.wants("a key that asks 400 times", ([200] * 100, True, 400),
              (told[:100], served <= 102 + 30 * took, served + told.count(429)))
-    it.wants("another address", (200, ROUNDS), it.ask("GET", "/rounds"))
+    it.wants("another key", (200, ROUNDS), it.ask("GET", "/rounds", "fay-key-1", source=STRANGE))
 
 
 def certificates(it, answered):
@@ -174,11 +179,13 @@ NAMED_AT_NGINX = "        allow 127.0.0.1;\n        allow ::1;\n        deny all
 
 
 def quick(text):
-    """The file of a proxy that waits 8 seconds for the hall, has one page of its own, and names who may certify."""
+    """The file of a proxy that waits 8 seconds for the hall, has one page of its own, lets an address have 60
+    connections, and names who may certify."""
     page = "http-request return status 200 content-type text/plain string page if { path /own }"
     mark = "    # What HAProxy answers by itself"
     return (text.replace("timeout server 180s", "timeout server 8s")
             .replace("proxy_read_timeout 180s", "proxy_read_timeout 8s")
+            .replace("limit_conn hall_lines 1000", "limit_conn hall_lines 60")
             .replace(mark, f"    {page}\n{mark}")
             .replace("    use_backend certificates", f"{NAMED}    use_backend certificates")
             .replace("    location ~ /certificate$ {\n", f"    location ~ /certificate$ {{\n{NAMED_AT_NGINX}")
@@ -281,6 +288,27 @@ def test_before_a_hall(proxy, program, room):
                 beside(it, *BESIDE[proxy.name])
     if how:
         logged(it, room)
+
+
+def test_a_contest_behind_one_address(proxy, program, room):
+    """Five hundred entrants ask five times each, all at once; a key alone asks no more often than it may."""
+    clients.allow_many_files()
+    front, back = free_port(), free_port()
+    it = Trial(proxy.name, front)
+    people = "".join(f"e{k},{k:04}-key,entrant\n" for k in range(CONTEST))
+    proxies.write(f"{room}/people.csv", f"name,key,roles\n{people}")
+    with trial.ended_after(proxy.start(front, back, room)), contextlib.ExitStack() as those:
+        wait_for(front)
+        those.enter_context(trial.serving(program, room, f"{room}/people.csv", back))
+        lines = [those.enter_context(contextlib.closing(it.connection(source=STRANGE))) for _ in range(CONTEST)]
+        for _ in range(5):
+            for k, line in enumerate(lines):
+                line.request("GET", "/rounds", headers={"Hall-Key": f"{k:04}-key"})
+            told = []
+            for line in lines:
+                reply = line.getresponse()
+                told.append((reply.status, reply.read().decode()))
+            it.wants("what each of a contest is told", {(200, ROUNDS)}, set(told))
 
 
 def logged(it, room):

@@ -1,4 +1,5 @@
-"""A root of a machine without a hall, in which the first way of docs/RUNNING.md is followed word by word.
+"""A root of a machine without a hall, in which a script runs, as one that follows the first way of docs/RUNNING.md word
+by word.
 
 The root is this machine's own, with all that changes put aside, and with neither its network nor its processes.
 systemd isn't there, so a stand-in starts what the unit says.
@@ -6,6 +7,7 @@ systemd isn't there, so a stand-in starts what the unit says.
 import os
 import re
 import subprocess
+import tempfile
 
 from .running import ROOT
 
@@ -14,7 +16,7 @@ NEEDED = ("apt", "chroot", "curl", "ip", "mount", "openssl", "runuser", "unshare
 LIMIT = 600
 SYSTEMCTL = r"""#!/bin/sh
 [ "$*" = "enable --now hall" ] || { echo "systemctl: $*" >&2; exit 1; }
-of_unit() { sed -n "s/^$1=//p" /lib/systemd/system/hall.service; }
+of_unit() { sed -n "s/^$1=//p" /usr/lib/systemd/system/hall.service; }
 . "$(of_unit EnvironmentFile)"
 eval "set -- $(of_unit ExecStart)"
 cd "$(of_unit WorkingDirectory)" || exit 1
@@ -26,7 +28,7 @@ mount -t tmpfs tmpfs {room}
 mkdir {room}/changed {room}/work {room}/root
 mount -t overlay overlay -o lowerdir=/,upperdir={room}/changed,workdir={room}/work {room}/root
 mount --rbind /dev {room}/root/dev
-mount -t proc proc {room}/root/proc
+{proc}
 mount -t tmpfs tmpfs {room}/root/run
 mount -t tmpfs -o mode=1777 tmpfs {room}/root/tmp
 # So that nothing that is there is fetched anew.
@@ -62,19 +64,23 @@ def lines():
     return given[:-1], command, reply
 
 
-def follow(made, room):
-    """Follows the page with this package: what was written, the last reply, what it should be, and the seconds."""
-    files, folder = f"{room}/clean-files", f"{room}/clean"
-    for it in (files, folder):
-        os.mkdir(it)
-    before, last, wanted = lines()
-    for name, text in (("systemctl", SYSTEMCTL), ("followed", FOLLOWED.format(lines="\n".join(before), last=last)),
-                       ("lay-out", LAID_OUT.format(room=folder, files=files))):
+def run(made, room, script, has_proc=True):
+    """Runs the script in such a root, where this package lies in /root."""
+    files, folder = (tempfile.mkdtemp(prefix=f"clean-{it}-", dir=room) for it in ("files", "root"))
+    proc = f"mount -t proc proc {folder}/root/proc" if has_proc else ""
+    for name, text in (("systemctl", SYSTEMCTL), ("followed", script),
+                       ("lay-out", LAID_OUT.format(room=folder, files=files, proc=proc))):
         with open(f"{files}/{name}", "w", encoding="utf-8") as file:
             file.write(text)
     os.link(made, f"{files}/{os.path.basename(made)}")
     words = ["unshare", "--mount", "--net", "--pid", "--fork", "--kill-child", "sh", f"{files}/lay-out"]
-    ran = subprocess.run(words, capture_output=True, text=True, timeout=LIMIT, check=False)
+    return subprocess.run(words, capture_output=True, text=True, timeout=LIMIT, check=False)
+
+
+def follow(made, room):
+    """Follows the page with this package: what was written, the last reply, what it should be, and the seconds."""
+    before, last, wanted = lines()
+    ran = run(made, room, FOLLOWED.format(lines="\n".join(before), last=last))
     found = re.search(r"^(.*)\n(\d+) milliseconds\n$", ran.stdout, re.M)
     reply, took = (found[1], int(found[2]) / 1000) if found else ("", LIMIT)
     return ran.stdout + ran.stderr, reply, wanted, took

@@ -95,6 +95,15 @@ class Client:
             pass
         return bytes(self.read)
 
+    def is_gone(self):
+        """Whether the hall has closed it, where nothing of it was left unread."""
+        try:
+            return self.it.recv(1, socket.MSG_PEEK | socket.MSG_DONTWAIT) == b""
+        except BlockingIOError:
+            return False
+        except ConnectionError:
+            return True
+
     def took(self):
         return time.monotonic() - self.since
 

@@ -1,5 +1,6 @@
-/* Tells the moment that stands in the file CLOCK, in decimal seconds since 1970, as the time of day. Made a library
-   that is loaded before the C library. */
+/* Tells the moment that stands in the file CLOCK, in decimal seconds since 1970, as the time of day, and the second
+   that stands in the file STEADY as that of the clock that nobody sets. Made a library that is loaded before the C
+   library. */
 #define _GNU_SOURCE
 #include <dlfcn.h>
 #include <stdio.h>
@@ -8,8 +9,9 @@
 
 int clock_gettime(clockid_t clock, struct timespec *told) {
     static int (*next)(clockid_t, struct timespec *);
-    const char *path = getenv("CLOCK");
-    FILE *file = clock == CLOCK_REALTIME && path ? fopen(path, "r") : NULL;
+    const char *name = clock == CLOCK_REALTIME ? "CLOCK" : clock == CLOCK_MONOTONIC ? "STEADY" : NULL;
+    const char *path = name ? getenv(name) : NULL;
+    FILE *file = path ? fopen(path, "r") : NULL;
     long long moment;
     if (file) {
         int read = fscanf(file, "%lld", &moment);

@@ -8,10 +8,10 @@ from .database import RIGHT, SUDOKU, TABLES, WRONG
 PUZZLES = 25
 
 
-def fill(path, answers, tables=TABLES):
+def fill(path, answers, tables=TABLES, others=20):
     """A round that runs now (`now`) and a published one (`then`), each with 25 puzzles; `answers` answers of others in
-    the first, 10 of eve's and 50 of ivy's, and 1,000 of others in the second."""
-    now, entrants = int(time.time()), [f"e{k}" for k in range(max(20, answers // 1000))]
+    the first, 10 of eve's and 50 of ivy's, and 1,000 of others in the second. There are at least so many others."""
+    now, entrants = int(time.time()), [f"e{k}" for k in range(max(others, answers // 1000))]
     names = ["eve", "ivy", *(f"s{k}" for k in range(40)), *entrants]
     places = [(round, k + 1, f"p{k}") for round in ("now", "then") for k in range(PUZZLES)]
     rounds = [("now", "Now", now - 600, 1440, 60, 0), ("then", "Then", now - 100_000, 60, 0, 1)]

@@ -3,7 +3,9 @@ import contextlib
 import itertools
 import os
 import random
+import shlex
 import shutil
+import signal
 import socket
 import sqlite3
 import subprocess
@@ -50,6 +52,23 @@ def library(room, name):
     built = f"{room}/{name}.so"
     subprocess.run(["cc", "-O1", "-shared", "-fPIC", "-o", built, f"{HERE}/{name}.c", "-ldl"], check=True)
     return built
+
+
+def set_clock(path, second):
+    """Puts a second into the file by which the library of clock.c tells it, and never half of it."""
+    Path(f"{path}.next").write_text(str(second), encoding="ascii")
+    os.replace(f"{path}.next", path)
+
+
+def traced(program, room, *words):
+    """A command that runs the program under strace, which is told these words and writes the calls that it is told of
+    to `calls` in the folder. Its process is the program's own."""
+    strace = shutil.which("strace") or "strace"
+    told = [strace, "-D", "-f", "-qq", "--seccomp-bpf", "-o", f"{room}/calls", *words, os.path.abspath(program)]
+    with open(f"{room}/traced", "w", encoding="utf-8") as file:
+        file.write(f'#!/bin/sh\nexec {shlex.join(told)} "$@"\n')
+    os.chmod(f"{room}/traced", 0o755)
+    return f"{room}/traced"
 
 
 def own_ports():
@@ -102,12 +121,24 @@ def wait_for(port):
     raise ConnectionRefusedError(port)
 
 
+@contextlib.contextmanager
+def standing_still(server):
+    """The server's process does nothing as long as the block lasts."""
+    server.send_signal(signal.SIGSTOP)
+    try:
+        while ") T " not in Path(f"/proc/{server.pid}/stat").read_text(encoding="ascii") and server.poll() is None:
+            time.sleep(0.003)
+        yield
+    finally:
+        server.send_signal(signal.SIGCONT)
+
+
 def connected(server, port, patience=PATIENCE):
     """A connection to the server; none where that ended, as where another program took the port."""
     while server.poll() is None:
         try:
             return socket.create_connection(("127.0.0.1", port), timeout=patience)
-        except ConnectionRefusedError:
+        except (ConnectionRefusedError, ConnectionResetError):
             time.sleep(0.003)
     return None
 

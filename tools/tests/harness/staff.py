@@ -85,7 +85,8 @@ def puzzles(day):
         day.check(f"{author}'s certificates", day.data(author, "puzzle", "certify", *own), dict.fromkeys(own, "one"))
     day.check("puzzles without a certificate", day.data("dora", "puzzle", "list", "--lacking"), [])
     shown = day.run(AUTHORS[0], "puzzle", "show", f"{AUTHORS[0]}/r1-1")[1]
-    day.holds("puzzle show", shown, "state one: there is exactly one solution", "https://puzz.link/p?")
+    day.holds("puzzle show", shown, "state one: there is exactly one solution", "\n+")
+    day.check("no address in it", "http" in shown, False)
     day.run("dora", "puzzle", "list", "--csv", has=["author,label,state\nauthor-1,r1-1,one\n"])
 
 
@@ -96,6 +97,7 @@ def releases(day):
         if of.number < 3:
             day.run(None, "check", f"{of.id}.toml", has=["is a round sheet", f"{of.count} puzzles"])
         day.run("dora", "round", "put", of.id, f"{of.id}.toml", has=[f"{of.id} is a draft: Round {of.number + 1}"])
+    edited(day)
     got = day.run("dora", "round", "release", "r1", said="n\n", status=1)
     day.holds("a release is asked for", got[1] + got[2], "2026-05-02 09:00:00 UTC", "Sat 2026-05-02 11:00:00 CEST",
               "in 23 h 59 min", "stopped or taken back", "Nothing was done")
@@ -105,6 +107,20 @@ def releases(day):
     listed = day.data("entrant-1", "round", "list")
     day.check("released rounds", [it["id"] for it in listed], ["again", *[of.id for of in day.rounds]])
     day.run("dora", "round", "list", has=["to come", day.rounds[-1].id])
+
+
+def edited(day):
+    """A draft's sheet is written anew, and makes the same draft."""
+    data = day.data("dora", "round", "show", "r1")
+    day.check("r1's puzzles", [it["puzzle"] for it in data["puzzles"]],
+              ["/".join(it[:2]) for it in day.rounds[0].puzzles])
+    told = ["testers", "in UTC", "edited.toml is the sheet of r1"]
+    beside = day.run("dora", "round", "edit", "r1", "edited.toml", has=told)[2]
+    day.check("a draft isn't released", "is released" in beside, False)
+    day.run("dora", "round", "edit", "r1", "edited.toml", status=2, has=["is there already"])
+    day.run("dora", "round", "put", "edited", "edited.toml")
+    day.check("the draft of it", day.data("dora", "round", "show", "edited"), {**data, "id": "edited"})
+    day.run("dora", "round", "edit", "again", "released.toml", has=["again is released"])
 
 
 def play(day, of):
@@ -123,7 +139,12 @@ def play(day, of):
         if status != 200 or json.loads(body)["received"] != counts[entrant, number]:
             day.check(f"{of.id}, {entrant}'s answer {token}", (status, body), (200, counts[entrant, number]))
     day.sent += len(sent)
-    day.check(f"{of.id}, {len(sent)} answers", len(day.data("dora", "answers", of.id)), len(sent))
+    told = day.data("dora", "answers", of.id, "--texts")
+    day.check(f"{of.id}, {len(sent)} answers", len(told), len(sent))
+    day.check(f"{of.id}, answers of each", day.data("dora", "answers", of.id), staff_day.tallies(told))
+    if of.number == 0:
+        day.run("dora", "answers", of.id, has=[f"{len(sent)} answers of ", "entrant-1 ", "r right, w wrong"])
+        day.run("dora", "answers", of.id, "--csv", has=["entrant,number,right,wrong,untold,first,last\nentrant-1,"])
 
 
 def protest(day, of):
@@ -156,7 +177,7 @@ def publish(day, of):
     """The director publishes, and the table is what the listings give."""
     day.room.at(of.close)
     day.run("dora", "publish", of.id, said="y\n", has=[f"{of.id} is published", "open 0"])
-    data, rows = day.data("dora", "round", "show", of.id), day.data("dora", "answers", of.id)
+    data, rows = day.data("dora", "round", "show", of.id), day.data("dora", "answers", of.id, "--texts")
     wanted = staff_day.reckoned(data, rows, day.data("dora", "protests", of.id))
     day.check(f"the table of {of.id}", day.data(None, "table", of.id), wanted)
     text = day.run(None, "table", of.id)[1]
@@ -186,7 +207,7 @@ def ranking(day, totals):
 def archive(day):
     """The archive is whole, and holds no key."""
     left_out = "again has no solutions yet: denied 9"
-    day.run("dora", "archive", "day", has=[f"rounds {3 + len(day.rounds)}", "keys are nowhere in it", left_out])
+    day.run("dora", "archive", "day", has=[f"rounds {4 + len(day.rounds)}", "keys are nowhere in it", left_out])
     folder = Path(f"{day.room.room}/day")
     words = ["sha256sum", "--check", "--quiet", "SHA256SUMS"]
     sums = subprocess.run(words, cwd=folder, capture_output=True, check=False)
@@ -194,7 +215,7 @@ def archive(day):
     text = "".join(it.read_text(encoding="utf-8") for it in folder.rglob("*") if it.is_file())
     day.check("keys in the archive", [name for name, key in day.keys.items() if key in text], [])
     answers = json.loads((folder / "r1/answers.json").read_text(encoding="utf-8"))
-    day.check("the archive's answers", answers, day.data("dora", "answers", "r1"))
+    day.check("the archive's answers", answers, day.data("dora", "answers", "r1", "--texts"))
     table = (folder / "r1/table.txt").read_text(encoding="ascii")
     day.check("the archive's table", table, day.run(None, "table", "r1")[1])
     day.run("dora", "archive", "day", status=2, has=["isn't empty"])

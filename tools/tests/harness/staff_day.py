@@ -102,6 +102,17 @@ def keys_of(path):
         return {row["name"]: row["key"] for row in csv.DictReader(file)}
 
 
+def tallies(rows):
+    """What is told of the answers of each entrant to each puzzle."""
+    found = []
+    for entrant, number in sorted({(row["entrant"], row["number"]) for row in rows}):
+        own = [row for row in rows if (row["entrant"], row["number"]) == (entrant, number)]
+        right, moments = sum(row["verdict"] == "right" for row in own), [row["moment"] for row in own]
+        found.append({"entrant": entrant, "number": number, "right": right, "wrong": len(own) - right, "untold": 0,
+                      "first": min(moments), "last": max(moments)})
+    return found
+
+
 def worth(data, number, rows):
     """What the rows of one entrant to one puzzle give, and the moment of the right answer that counts."""
     points = next(it["points"] for it in data["puzzles"] if it["number"] == number)

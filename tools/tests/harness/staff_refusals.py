@@ -20,7 +20,78 @@ SHEETS = [
     ('label = "r1-2"', "", ":13: F2 label"), ("09:00:00Z", "09:00", ":3: F5"), ("bonus = 2\n", "", ": F2 bonus"),
     ('author = "author-2"\nlabel = "r1-2"', 'author = "author-1"\nlabel = "r1-1"', ":13: F4"),
     ("version = 1", "version = 2", ":3: F5"), ("points = 20", "points = true", ":12: F2 points"),
-    ('"Round 1"', '"Frühling"', ":2: F3 title"),
+    ('"Round 1"', '"Frühling"', ":2: F3 title"), ("05-02T", "11-31T", ":3: F5: There is no 31 November 2026."),
+    ("T09:00:00Z", "T24:00:00Z", ":3: F5: There is no time 24:00:00."),
+]
+# A start of another version lacks its zone too.
+NOT_ALONE = "version = 1"
+# What `check` tells of a list and of sheets with more than one fault: line, code and field of each.
+ALL = [
+    ("all.csv", """name,key,roles
+dora,dora-key-1,director
+Bob,,author
+rex,,judge
+eve,,entrant+director
+fay,short,entrant
+"gus",,"entrant"
+dora,,entrant
+,,
+hal,,entrant,
+ivy,dora-key-1,entrant
+""", [(3, "F3", "name"), (4, "F3", "roles"), (5, "20", None), (6, "F3", "key"), (8, "F4", None), (9, "F2", "name"),
+      (10, "F1", None), (11, "F4", None)], 5),
+    ("head.csv", "Name,Key,Roles\nbob,bob-key-1,author\nrex,,judge\n", [(1, "F1", None), (3, "F3", "roles")], 1),
+    ("all.toml", """version = 2
+title = “Noon”
+start = "2026-02-30T11:00:00"
+zone = "Europe/Berlin"
+minutes = "60"
+protest_minutes = 30
+mode = instant
+penality = 5
+[[puzzle]]
+author = "bob"
+label = "first"
+points = 4000
+[[puzzle]]
+author = "Bob"
+points = 30
+[[puzzle]]
+author = "bob"
+label = "first"
+points = 30
+""", [(None, "F2", "bonus"), (2, "F1", None), (3, "F5", None), (4, "F8", "zone"), (5, "F2", "minutes"), (7, "F1", None),
+      (8, "F1", None), (12, "F3", "points"), (13, "F2", "label"), (14, "F3", "author"), (16, "F4", None)], 0),
+    ("testers.toml", """version = 3
+title = "Noon"
+start = "2026-02-28T11:00:00"
+zone = "UTC0"
+minutes = 0
+protest_minutes = 30
+mode = "sealed"
+penalty = 5
+bonus = 2
+testers = [
+  "rex",
+  "rex",
+]
+""", [(None, "F2", "puzzle"), (5, "F3", "minutes"), (10, "F4", None)], 0),
+    ("open.toml", """version = 3
+title = "Noon [1 ü"
+start = "2026-02-28T25:00:00"
+zone = "UTC0"
+minutes = 60
+protest_minutes = 30
+mode = "sealed"
+penalty = 5
+bonus = 2
+testers = ["rex", "tom"
+[[puzzle]]
+author = "bob"
+label = "first"
+points = 0
+""", [(2, "F3", "title"), (3, "F5", None), (10, "F1", None), (14, "F3", "points")], 0),
+    ("many.csv", "name,key,roles\n" + "A,,author\n" * 43, [(n, "F3", "name") for n in range(2, 45)], 43),
 ]
 
 
@@ -31,7 +102,7 @@ SAVED = [
     ("tabs.csv", LIST.replace(",", "\t").encode(), "save it with commas"),
     ("sheet.xlsx", b"PK\3\4\24\0", "a spreadsheet's own file"), ("wide.csv", LIST.encode("utf-16"), "save it as UTF-8"),
     ("latin.csv", LIST.replace("bob,", "böb,").encode("latin-1"), "no text in UTF-8"), ("empty.csv", b"", "is empty"),
-    ("keyless.csv", LIST.replace("bob-key-1", "").encode(), "`hallctl keys` fills it in"),
+    ("keyless.csv", LIST.replace("bob-key-1", "").encode(), "which `hallctl keys` fills in"),
     ("commas.csv", f"{LIST},,\n".encode(), "commas alone"), ("capital.csv", LIST.replace("author", "Author").encode(),
                                                              "joined by +"),
     ("curly.toml", 'version = 2\ntitle = “Noon”\n'.encode(), "write plain ones"),
@@ -47,15 +118,28 @@ def wrong_files(day):
     for good, name, changes in ((people, "wrong.csv", LISTS), (sheet, "wrong.toml", SHEETS)):
         for old, new, begins in changes:
             Path(f"{room}/{name}").write_text(good.replace(old, new, 1), encoding="utf-8")
-            day.run(None, "check", name, status=1, has=[f"{name}{begins}"])
-        fault = day.data(None, "check", name, status=1)["fault"]
-        day.holds(f"{name} in JSON", begins, fault["code"])
+            got = day.run(None, "check", name, status=1, has=[f"{name}{begins}"])[1]
+            day.check(f"faults beside {begins}", got.count(f"{name}:") - 1, old == NOT_ALONE)
     day.run(None, "check", "none.csv", status=2, has=["No such file"])
     day.run(None, "check", "wrong.csv", "--program", f"{room}/nothing", status=3, has=["isn't found"])
     Path(f"{room}/wrong.csv").write_text("name,key\nbob,\n", encoding="ascii")
     day.run(None, "keys", "wrong.csv", status=2, has=["hallctl check wrong.csv"])
     saved(day)
     slips(day)
+    all_faults(day)
+
+
+def all_faults(day):
+    """Each fault of a file that has several is told, on its line."""
+    for name, text, faults, keyless in ALL:
+        Path(f"{day.room.room}/{name}").write_text(text, encoding="utf-8")
+        got = day.data(None, "check", name, status=1)
+        told = [(it["line"], it["code"], it["field"]) for it in got["faults"]]
+        day.check(f"the faults of {name}", [told, got["keyless"]], [faults, keyless])
+    told = ["many.csv:41: F3 name", "and 3 more faults", "43 people have no key"]
+    day.run(None, "check", "many.csv", status=1, has=told)
+    told = "keyless.csv: 1 person has no key yet, which `hallctl keys` fills in; all else is well\n"
+    day.check("what is told of keys alone", day.run(None, "check", "keyless.csv", status=1)[1], told)
 
 
 def saved(day):
@@ -105,6 +189,10 @@ def retries(day):
     day.run(author, "puzzle", "put", f"{author}/again", SUDOKU, status=2, has=["status 413"])
     plan += ["drop"]
     day.run(author, "puzzle", "certify", f"{author}/again", has=["again: one", "no reply"])
+    # A machine that takes the request and never answers is left, while it still holds it.
+    plan += ["hold"]
+    beside = day.run(author, "puzzle", "put", f"{author}/again", SUDOKU, has=["again is one"])[2]
+    day.check("sent again where nobody answers", [beside.count("no reply (TimeoutError)"), plan], [1, []])
     # A release is not the same twice: the hall denies the second, and hallctl sees that the first was done.
     puzzle = f'[[puzzle]]\nauthor = "{author}"\nlabel = "again"\npoints = 1\n'
     sheet = day.rounds[0].sheet().split("[[puzzle]]")[0].replace("2026-05-02", "2026-06-02") + puzzle
@@ -168,6 +256,30 @@ def nobody(day):
         day.run(name, "round", "list", status=status, has=["is no key"] if status else ["start here"])
 
 
+EASY = "53..7....6..195....98....6.8...6...34..8.3..17...2...6.6....28....419..5....8..79"
+EASY_TEXT = "sudoku/9/9/53h7j6h195j98j6g8i6i34h8g3h17i2i6g6j28j419h5j8h79"
+SIGNS = "81 signs were read as a Sudoku of 9 by 9"
+# Texts in a file or as a word, what the hall makes of them, and what is told to be mended.
+WRITTEN = [
+    (f"@{SUDOKU}\n", SUDOKU, []), (f"@\ufeff{SUDOKU}\r\n", SUDOKU, []),
+    (f"@{SUDOKU}\n\n", SUDOKU, ["spaces or marks round the address were taken off"]),
+    (EASY, EASY_TEXT, [SIGNS]), (EASY.replace(".", "0"), EASY_TEXT, [SIGNS]),
+    ("@" + "\n".join(EASY[at:at + 9] for at in range(0, 81, 9)) + "\n", EASY_TEXT, [SIGNS]),
+    ("1.........3....2", "sudoku/4/4/1o3j2", ["16 signs were read as a Sudoku of 4 by 4"]),
+]
+
+
+def written(day):
+    """What is put as signs or in a file, and what is told to be mended."""
+    author = "author-3"
+    for given, text, told in WRITTEN:
+        Path(f"{day.room.room}/text").write_text(given.removeprefix("@"), encoding="utf-8")
+        got = day.data(author, "puzzle", "put", f"{author}/written", "@text" if given.startswith("@") else given)
+        day.check(f"what {given!r} is", [got["text"], got["mended"]], [text, told])
+    for signs in (EASY[1:], EASY[1:] + "x", "1.........5....2"):
+        day.run(author, "puzzle", "put", f"{author}/written", signs, status=2, has=["refused E2"])
+
+
 def puzzles_refused(day):
     """Texts that are none, puzzles of others, and searches that don't say one."""
     author = "author-2"
@@ -213,12 +325,14 @@ def rounds_refused(day):
     day.run("dora", "round", "show", "x9", status=2, has=["denied 4", "hallctl round list"])
     day.run("entrant-1", "round", "show", "r1", status=2, has=["denied 7"])
     if len(day.rounds) > 2:
-        day.run("tom", "round", "show", "r3", has=["Round 3"])
+        shown = day.run("tom", "round", "show", "r3", has=["Round 3"])[1]
+        day.check("a referee isn't told whose puzzles they are", "author-" in shown, False)
 
 
 def refusals(day):
     """What the hall denies before and after its time, each with its sentence and what to do."""
     room = day.room
+    written(day)
     puzzles_refused(day)
     rounds_refused(day)
     Path(f"{room.room}/other.csv").write_text(f"name,key,roles\nrex,{day.keys['rex']},director\n", encoding="ascii")

@@ -13,7 +13,7 @@ import threading
 import time
 from pathlib import Path
 
-from .running import ROOT, connected, free_port, library
+from .running import ROOT, connected, free_port, library, set_clock
 
 HALLCTL = f"{ROOT}/clients/hallctl/hallctl"
 PATIENCE = 120
@@ -40,6 +40,9 @@ class Handler(socketserver.StreamRequestHandler):
             return
         between = self.server
         plan = between.plan.pop(0) if between.plan else "pass"
+        if plan == "hold":
+            between.is_closed.wait(PATIENCE)
+            return
         if plan not in ("pass", "drop"):
             self.wfile.write(plan)
             return
@@ -54,8 +57,8 @@ class Handler(socketserver.StreamRequestHandler):
 
 
 class Between(socketserver.ThreadingTCPServer):
-    """The proxy. `plan` says what becomes of the next requests: they pass, their reply is dropped, or bytes that are
-    answered in the hall's place."""
+    """The proxy. `plan` says what becomes of the next requests: they pass, their reply is dropped, they are
+    taken and held without an answer, or bytes that are answered in the hall's place."""
 
     allow_reuse_address = daemon_threads = True
     DOWN = (b"HTTP/1.1 503 Service Unavailable\r\nContent-Type: application/json\r\nContent-Length: 17\r\n\r\n",
@@ -64,6 +67,7 @@ class Between(socketserver.ThreadingTCPServer):
     def __init__(self, port, moment):
         super().__init__(("127.0.0.1", 0), Handler)
         self.hall, self.moment, self.plan, self.replies, self.was_down = port, moment, [], [], threading.Event()
+        self.is_closed = threading.Event()
         threading.Thread(target=self.serve_forever, daemon=True).start()
 
     def url(self):
@@ -96,10 +100,12 @@ class Room:
         self.conn = None
 
     def at(self, moment):
-        """Sets the hall's clock."""
-        self.now = moment
-        Path(f"{self.clock}.next").write_text(str(moment), encoding="ascii")
-        os.replace(f"{self.clock}.next", self.clock)
+        """Sets the hall's clock. Within a run moments never go back, so a hall that serves is started anew for that."""
+        goes_back, self.now = moment < self.now, moment
+        set_clock(self.clock, moment)
+        if goes_back and self.server:
+            self.kill()
+            self.start()
 
     def start(self):
         """Starts the hall, and waits until it listens."""
@@ -120,6 +126,7 @@ class Room:
     def close(self):
         if self.server and self.server.poll() is None:
             self.kill()
+        self.between.is_closed.set()
         self.between.shutdown()
 
     def key_file(self, name, key):

@@ -4,6 +4,7 @@ import contextlib
 import json
 
 from selenium import webdriver
+from selenium.common.exceptions import WebDriverException
 from selenium.webdriver.chrome.service import Service
 from selenium.webdriver.common.action_chains import ActionChains
 from selenium.webdriver.common.keys import Keys
@@ -20,7 +21,19 @@ return [r.left + (arguments[0] * 40 - v.x) / v.width * r.width,
   r.top + (arguments[1] * 40 - v.y) / v.height * r.height]"""
 TEXT = """const e = document.querySelector(arguments[0]);
 return e ? (e.innerText ?? e.textContent) : ''"""
+# How often a browser is started at the most, where its driver gives it up, as on a busy machine.
+STARTS = 3
 NEXT, UNDO, REDO = "button.hand", "button[aria-label^=Undo]", "button[aria-label^=Redo]"
+
+
+def started(options):
+    """The driver of a browser that has started."""
+    for left in reversed(range(STARTS)):
+        try:
+            return webdriver.Chrome(service=Service(DRIVER), options=options)
+        except WebDriverException:
+            if not left:
+                raise
 
 
 class Browser:
@@ -33,7 +46,7 @@ class Browser:
         if phone:
             options.add_experimental_option("mobileEmulation", PHONE)
         self.place, self.pictures = place, pictures
-        self.driver = webdriver.Chrome(service=Service(DRIVER), options=options)
+        self.driver = started(options)
         self.js = self.driver.execute_script
 
     def __enter__(self):

@@ -1,4 +1,5 @@
-"""The same page in Firefox: a round by clicks, drags and keys, a reload, and what is kept."""
+"""The same pages in Firefox: a round by clicks, drags and keys, a reload, and what is kept; and a new round by staff.
+`play` is for any engine."""
 import os
 import time
 
@@ -8,6 +9,7 @@ from page_tests import drawn
 from page_tests.chromium import NEXT, SPOT, UNDO
 from page_tests.marionette import FIREFOX, Firefox
 from page_tests.place import Place, none, solved, until
+from page_tests.staff_hands import FILL, PRESS
 
 LINES, WALLS = ".board .line", ".board .wall"
 SHIFT, RIGHT, DOWN, LEFT, ENTER = "\ue008", "\ue014", "\ue015", "\ue012", "\ue007"
@@ -21,24 +23,55 @@ def trial(program, pictures):
     if not os.path.exists(FIREFOX):
         pytest.skip("not installed: firefox-esr")
     with Place(program) as place, Firefox(pictures) as browser:
-        puzzles = {label: solved(program, name) for label, name in
-                   {"sl": "slither.txt", "nu": "nurikabe.txt", "su": "real/sudoku9.txt"}.items()}
-        for label, (text, _) in puzzles.items():
-            place.put_puzzle(label, text)
-        place.put_round("f", "Firefox", time.time() + 12, list(puzzles))
-        want = holds
-        browser.load(place.url)
-        browser.js(HEAR)
-        until(lambda: browser.js("return document.activeElement.id") == "key")
-        browser.keys(*"eve-key-1", ENTER)
-        want("Firefox: the rounds are listed", browser.shows("Firefox"))
-        browser.js("location.hash = '#/r/f'")
-        want("Firefox: the puzzles come by themselves", browser.shows("Slitherlink"))
-        browser.picture("firefox-round")
-        slitherlink(place, browser, want, puzzles["sl"])
-        nurikabe(browser, want, puzzles["nu"])
-        sudoku(browser, want, puzzles["su"])
-        none("Firefox: the page's code had no fault", browser.js("return window.faults"))
+        play(program, place, browser)
+
+
+def play(program, place, browser):
+    """A round from the door to the last verdict."""
+    want = lambda name, *found: holds(f"{browser.name}: {name}", *found)
+    puzzles = {label: solved(program, name) for label, name in
+               {"sl": "slither.txt", "nu": "nurikabe.txt", "su": "real/sudoku9.txt"}.items()}
+    for label, (text, _) in puzzles.items():
+        place.put_puzzle(label, text)
+    place.put_round("f", browser.name, time.time() + 12, list(puzzles))
+    browser.load(place.url)
+    browser.js(HEAR)
+    until(lambda: browser.js("return document.activeElement.id") == "key")
+    browser.keys(*"eve-key-1", ENTER)
+    want("the rounds are listed", browser.shows(browser.name))
+    browser.js("location.hash = '#/r/f'")
+    want("the puzzles come by themselves", browser.shows("Slitherlink"))
+    browser.picture(f"{browser.name.lower()}-round")
+    slitherlink(place, browser, want, puzzles["sl"])
+    nurikabe(browser, want, puzzles["nu"])
+    sudoku(browser, want, puzzles["su"])
+    none(f"{browser.name}: the page's code had no fault", browser.js("return window.faults"))
+    staff(place, browser, want)
+    none(f"{browser.name}: nor had that of staff's", browser.js("return window.faults"))
+
+
+def staff(place, browser, want):
+    """A director builds a round, and an author sees what is pasted."""
+    browser.js("sessionStorage.clear()")
+    browser.load(f"{place.url}staff.html#/director/NEW")
+    browser.js(HEAR)
+    until(lambda: browser.js("return document.activeElement.id") == "key")
+    browser.keys(*"dora-key-1", ENTER)
+    until(lambda: browser.js("return document.querySelectorAll('.card.pick').length") == 3)
+    browser.js("document.querySelector('.card.pick').scrollIntoView()")
+    pictures = until(lambda: browser.js("return document.querySelectorAll('.card.pick svg.sheet').length") == 3)
+    want("a director sees the puzzles to choose from", pictures)
+    for label, value in (("Id", "late"), ("Title", "Late"), ("Start", "2027-07-01T11:00")):
+        browser.js(FILL, label, value)
+    browser.js("document.querySelector('.card.pick').click()")
+    browser.js(PRESS, "Put the draft")
+    want("and puts a round", browser.shows("The hall keeps this draft"))
+    browser.picture(f"{browser.name.lower()}-draft")
+    browser.js("location.hash = '#/author'")
+    until(lambda: browser.js("return document.querySelector('textarea')"))
+    browser.js(FILL, "An address of puzz.link, a puzzle's text, or the signs of a Sudoku", "slither/2/2/2222")
+    seen = until(lambda: browser.js("return document.querySelectorAll('.preview svg.sheet').length") == 1)
+    want("what an author pastes is drawn", seen)
 
 
 def open_puzzle(browser, number, name):
@@ -65,22 +98,22 @@ def slitherlink(place, browser, want, puzzle):
     lines = drawn.sides(*puzzle)
     for side in lines[:-1]:
         browser.drag(spots(browser, [side]))
-    want("Firefox: clicks draw lines", browser.count(LINES) == len(lines) - 1, browser.count(LINES))
+    want("clicks draw lines", browser.count(LINES) == len(lines) - 1, browser.count(LINES))
     hand_in(browser)
-    want("Firefox: an unfinished board asks first", browser.shows("loose end", "dialog"))
-    browser.picture("firefox-asks")
+    want("an unfinished board asks first", browser.shows("loose end", "dialog"))
+    browser.picture(f"{browser.name.lower()}-asks")
     browser.keys(ENTER)
-    want("Firefox: Enter goes back", until(lambda: not browser.count("dialog")) and not place.answers("f", "eve"))
+    want("Enter goes back", until(lambda: not browser.count("dialog")) and not place.answers("f", "eve"))
     browser.drag(spots(browser, [lines[-1]]))
     browser.js("document.querySelector(arguments[0]).click()", UNDO)
-    want("Firefox: undo", browser.count(LINES) == len(lines) - 1)
+    want("undo", browser.count(LINES) == len(lines) - 1)
     browser.drag(spots(browser, [lines[-1]]))
     hand_in(browser)
-    want("Firefox: Slitherlink is right", browser.shows("Right.", ".said"), browser.text(".said"))
-    browser.picture("firefox-slitherlink")
+    want("Slitherlink is right", browser.shows("Right.", ".said"), browser.text(".said"))
+    browser.picture(f"{browser.name.lower()}-slitherlink")
     browser.keys(RIGHT)
     browser.chord(SHIFT, RIGHT)
-    want("Firefox: keys draw", browser.count(LINES) in (len(lines) - 1, len(lines) + 1), browser.count(LINES))
+    want("keys draw", browser.count(LINES) in (len(lines) - 1, len(lines) + 1), browser.count(LINES))
 
 
 def nurikabe(browser, want, puzzle):
@@ -88,14 +121,14 @@ def nurikabe(browser, want, puzzle):
     for run in drawn.runs(drawn.walls(*puzzle)):
         browser.drag(spots(browser, run))
     before = browser.count(WALLS)
-    browser.ask("WebDriver:Refresh")
+    browser.reload()
     browser.js(HEAR)
     ready(browser, "2. Nurikabe")
-    want("Firefox: drags draw walls, and a reload keeps them", browser.count(WALLS) == before == puzzle[1].count("#"),
+    want("drags draw walls, and a reload keeps them", browser.count(WALLS) == before == puzzle[1].count("#"),
          before)
     hand_in(browser)
-    want("Firefox: Nurikabe is right", browser.shows("Right.", ".said"), browser.text(".said"))
-    browser.picture("firefox-nurikabe")
+    want("Nurikabe is right", browser.shows("Right.", ".said"), browser.text(".said"))
+    browser.picture(f"{browser.name.lower()}-nurikabe")
 
 
 def sudoku(browser, want, puzzle):
@@ -105,5 +138,5 @@ def sudoku(browser, want, puzzle):
             browser.keys(number, RIGHT)
         browser.keys(DOWN, *[LEFT] * 8)
     hand_in(browser)
-    want("Firefox: Sudoku by keys is right", browser.shows("Right.", ".said"), browser.text(".said"))
-    browser.picture("firefox-sudoku")
+    want("Sudoku by keys is right", browser.shows("Right.", ".said"), browser.text(".said"))
+    browser.picture(f"{browser.name.lower()}-sudoku")

@@ -1,10 +1,11 @@
 """Keys alone, fingers, large boards, what a screen reader is told, paper, dark and high contrast."""
 import re
+import statistics
 import time
 
 from selenium.webdriver.common.keys import Keys
 
-from harness.checks import holds
+from harness.checks import holds, tell
 from page_tests import drawn
 from page_tests.chromium import NEXT, UNDO, Browser
 from page_tests.place import Place, none, solved, until
@@ -23,6 +24,19 @@ Promise.all([import('/page/texts.js'), import('/page/store.js')]).then(([texts, 
   done(1);
 });"""
 
+# Measures from a pointer's event to the end of all that it made the page do.
+TIMES = """window.took = [];
+window.unheard = new AbortController();
+let begun = 0;
+const { signal } = window.unheard;
+for (const name of ['pointerdown', 'pointerup']) {
+  addEventListener(name, () => { begun = performance.now(); }, { capture: true, signal });
+  addEventListener(name, () => {
+    document.querySelector('.board').getBoundingClientRect();
+    window.took.push(performance.now() - begun);
+  }, { signal });
+}"""
+
 
 def trial(program, pictures):
     with Place(program) as place:
@@ -35,6 +49,7 @@ def trial(program, pictures):
             nurikabe_by_keys(browser, holds, puzzles["nu"])
             told(browser, holds)
             large(browser, holds, puzzles)
+            quick(browser)
             paper(browser, holds)
             looks(browser)
             none("the page's code had no fault", browser.faults())
@@ -123,10 +138,34 @@ def large(browser, want, puzzles):
         browser.picture(f"large-{number}")
 
 
+def quick(browser):
+    """With all helps on: how long the page's own work for a click takes on the largest boards, layout and all."""
+    for number in (4, 5, 6):
+        browser.open("k", number, NAMES[number - 1])
+        browser.js("for (const it of document.querySelectorAll('.check input')) if (!it.checked) it.click()")
+        browser.js(TIMES)
+        left, top, width, height = browser.js("""const { left, top, width, height } =
+document.querySelector('.board').getBoundingClientRect();
+return [left, top, width, height]""")
+        for k in range(60):
+            spot = left + width * (0.05 + k * 0.618 % 0.9), top + height * (0.05 + k * 0.414 % 0.9)
+            browser.mouse("Pressed", spot)
+            browser.mouse("Released", spot, buttons=0)
+        took = browser.js("return window.took")
+        middle = statistics.median(took)
+        name = NAMES[number - 1]
+        holds(f"{name}: clicks take less than 12 ms", len(took) == 120 and middle < 12, [len(took), middle])
+        tell(f"page: a click on the largest {name} takes {middle:.1f} ms, at most {max(took):.1f}")
+        browser.js("window.unheard.abort()")
+
+
 def paper(browser, want):
     """A round on paper has one puzzle a page."""
     browser.go("#/r/k")
     browser.shows("Print the puzzles")
+    browser.js("window.print = () => { window.asked = true; }")
+    browser.chord(Keys.CONTROL, "p")
+    until(lambda: browser.js("return window.asked"))
     printed = browser.paper("paper")
     pages = len(re.findall(rb"/Type\s*/Page\b", printed))
     want("a round's puzzles are printed one a page", pages == len(FILES), pages)
@@ -185,11 +224,15 @@ def one_finger(browser, want, puzzle):
     want("undone and handed in, it is right", browser.shows("Right.", ".said"), browser.text(".said"))
 
 
+def sideways(browser, want, page):
+    wide = browser.js("return [document.documentElement.scrollWidth, screen.width]")
+    want(f"{page} doesn't scroll sideways on a phone", wide[0] <= wide[1], wide)
+
+
 def phone(browser, want):
     browser.open("k", 3, "Slitherlink")
     browser.picture("phone-slitherlink31")
-    wide = browser.js("return [document.documentElement.scrollWidth, innerWidth]")
-    want("the page doesn't scroll sideways on a phone", wide[0] <= wide[1], wide)
+    sideways(browser, want, "a puzzle")
     browser.open("k", 5, "Sudoku")
     browser.picture("phone-sudoku25")
     browser.push("button[aria-label='The whole board']")
@@ -198,4 +241,5 @@ def phone(browser, want):
     want("the whole board is seen where it is asked for", whole, browser.js(sizes))
     browser.go("#/r/k")
     browser.shows("Print the puzzles")
+    sideways(browser, want, "a round")
     browser.picture("phone-round")

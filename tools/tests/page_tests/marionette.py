@@ -18,6 +18,8 @@ PREFERENCES = {"marionette.port": None, "browser.shell.checkDefaultBrowser": Fal
 
 
 class Firefox:
+    name = "Firefox"
+
     def __init__(self, pictures):
         self.pictures, self.count_sent = pictures, 0
         self.profile, port = tempfile.mkdtemp(prefix="page-firefox-"), free_port()
@@ -69,6 +71,9 @@ class Firefox:
 
     def load(self, url):
         self.ask("WebDriver:Navigate", url=url)
+
+    def reload(self):
+        self.ask("WebDriver:Refresh")
 
     def text(self, css="main"):
         return self.js("return document.querySelector(arguments[0])?.innerText ?? ''", css)

@@ -130,20 +130,20 @@ class Place:
         """A moment to begin a round at: so far ahead that a browser as quick as since `begun` is there before."""
         return int(time.time() + 5 + 3 * (time.monotonic() - begun))
 
-    def put_puzzle(self, label, text):
+    def put_puzzle(self, label, text, author="bob"):
         """The text by which the hall keeps the puzzle, which has exactly one solution."""
-        kept = self.ask("PUT", f"/puzzles/bob/{label}", "bob", {"text": text})["text"]
-        told = self.ask("POST", f"/puzzles/bob/{label}/certificate", "bob", {"budget": BUDGET})
+        kept = self.ask("PUT", f"/puzzles/{author}/{label}", author, {"text": text})["text"]
+        told = self.ask("POST", f"/puzzles/{author}/{label}/certificate", author, {"budget": BUDGET})
         if told != {"state": "one"}:
             raise ValueError(f"{label}: {told}")
         return kept
 
-    def put_round(self, round_id, title, start, labels, **sheet):
-        """A released round of bob's puzzles, of 40 points, 50, and so on."""
+    def put_round(self, round_id, title, start, labels, author="bob", **sheet):
+        """A released round of an author's puzzles, of 40 points, 50, and so on."""
         fields = {"version": 1, "title": title, "minutes": MINUTES, "protest_minutes": MINUTES, "mode": "instant",
                   "start": time.strftime("%Y-%m-%dT%H:%M:%SZ", time.gmtime(start)), "penalty": 5, "bonus": 2, **sheet}
         lines = [f"{name} = {json.dumps(value)}" for name, value in fields.items()]
-        lines += [f'[[puzzle]]\nauthor = "bob"\nlabel = "{label}"\npoints = {40 + 10 * i}'
+        lines += [f'[[puzzle]]\nauthor = "{author}"\nlabel = "{label}"\npoints = {40 + 10 * i}'
                   for i, label in enumerate(labels)]
         self.ask("PUT", f"/rounds/{round_id}", "dora", "\n".join(lines))
         told = self.ask("POST", f"/rounds/{round_id}/release", "dora")

@@ -1,6 +1,9 @@
 """What may go wrong: cut starts, late answers, a full or shut browser, strangers between, crowds; and nginx."""
+import contextlib
 import http.client
 import re
+import socket
+import threading
 import time
 
 from harness.checks import holds, tell
@@ -29,6 +32,8 @@ const headers = { 'Content-Type': 'application/json', 'Retry-After': '10' };
 window.fetch = (path, ...more) => (path.includes('/answers/') && left-- > 0
   ? Promise.resolve(new Response('{"fault":"proxy"}', { status: 429, headers })) : real(path, ...more));"""
 
+ANSWER = re.compile(rb"PUT /rounds/r/answers/1/(\w+) ")
+
 # A proxy that tells no time, before a computer whose clock is two hours ahead.
 TIMELESS = """const now = Date.now, get = Headers.prototype.get;
 Date.now = () => now() + 7200000;
@@ -55,6 +60,7 @@ def trial(program, pictures):
         kept_little(place, pictures, want)
         stranger(place, pictures, want)
         crowded(place, pictures, want)
+        never_answered(place, pictures, want)
         timeless(place, pictures, want)
         crowd(place, want)
         behind_nginx(place, pictures, want)
@@ -172,6 +178,48 @@ def crowded(place, pictures, want):
         want("and kept: asked again when the proxy says", seconds and 8 <= int(seconds[1]) <= 12, seconds)
         browser.try_now()
         want("or where the reader wants it", until(lambda: len(place.answers("r", "dan")) == 1))
+
+
+@contextlib.contextmanager
+def silence(port):
+    """Takes connections at the port, reads what comes, and never answers: all the bytes of each. They are held until
+    the block ends, also once `close` of the listener lets another one listen there."""
+    held = []
+    with contextlib.ExitStack() as kept, socket.create_server(("127.0.0.1", port)) as listener:
+        def read(line, place):
+            with contextlib.suppress(OSError):
+                while got := line.recv(65_536):
+                    held[place] += got
+
+        def take():
+            with contextlib.suppress(OSError):
+                while True:
+                    line = kept.enter_context(listener.accept()[0])
+                    held.append(b"")
+                    threading.Thread(target=read, args=(line, len(held) - 1), daemon=True).start()
+        threading.Thread(target=take, daemon=True).start()
+        yield listener, held
+
+
+def never_answered(place, pictures, want):
+    """A machine that takes an answer and is silent for good, while another one comes in its place."""
+    with Browser(place, pictures) as browser:
+        browser.enter("hal")
+        browser.open("r", 1, "Nurikabe")
+        browser.wall()
+        place.kill_proxy()
+        with silence(place.front) as (listener, held):
+            browser.hand_in()
+            browser.choose(2)
+            sent = until(lambda: next((found[1] for it in held if (found := ANSWER.search(it))), None))
+            want("an answer is sent to a machine that is silent", sent)
+            listener.shutdown(socket.SHUT_RDWR)
+            listener.close()
+            place.start_proxy()
+            want("and the answer goes again", until(lambda: len(place.answers("r", "hal")) == 1))
+            got = [it["token"] for it in place.answers("r", "hal")]
+            want("by the same token", got == [sent and sent.decode()], got, sent)
+            want("while the first one is still held", any(ANSWER.search(it) for it in held))
 
 
 def timeless(place, pictures, want):
