@@ -1,11 +1,12 @@
 /* A crowd of clients at a port of the loopback, in one process. The standard input holds their requests, each after a
-   line with its client's number and its length. All clients begin within SPREAD milliseconds, each from an address of
-   its own (127.1.x.y), and ask their requests one after another: on one connection as long as it is kept (KEEP 1), or
-   on a connection each (KEEP 0). A try without a whole reply is lost; one that is answered 408, 429, 502, 503 or 504 is
+   line with its client's number and its length. All clients begin within SPREAD milliseconds, from so many ADDRESSES in
+   turn (127.1.x.y), and ask their requests one after another: on one connection as long as it is kept (KEEP 1), or on a
+   connection each (KEEP 0). A try without a whole reply is lost; one that is answered 408, 429, 502, 503 or 504 is
    refused. Either is made again after a pause. After LIMIT seconds all is over.
 
    It writes the nanoseconds that all took, and then a line for each request: microseconds from its first try to its
-   whole reply, status (0: never answered), tries lost, tries refused, and a number made of the body. */
+   whole reply, status (0: never answered), tries lost, tries refused, a number made of the body, and the microseconds
+   since 1970 at which the last byte of its last try was sent. */
 #define _GNU_SOURCE
 #include <arpa/inet.h>
 #include <errno.h>
@@ -28,7 +29,7 @@ static const long MS = 1000000, PATIENCE = 60000 * MS, LEAST_PAUSE = 50 * MS, MO
 struct asked {
     char *bytes;
     size_t length, next;
-    long begun, took;
+    long begun, took, sent;
     int status;
     unsigned lost, refused, tries, hash;
 };
@@ -45,14 +46,16 @@ struct client {
 
 static struct asked *asked;
 static struct client *clients;
-static size_t count, crowd, busy;
+static size_t count, crowd, busy, addresses;
 static int port, keep, events;
 
-static long now(void) {
+static long told_by(clockid_t clock) {
     struct timespec at;
-    clock_gettime(CLOCK_MONOTONIC, &at);
+    clock_gettime(clock, &at);
     return at.tv_sec * 1000000000L + at.tv_nsec;
 }
+
+static long now(void) { return told_by(CLOCK_MONOTONIC); }
 
 static void fail(const char *what) {
     perror(what);
@@ -91,7 +94,7 @@ static void hang_up(struct client *it) {
 }
 
 static void open_line(struct client *it) {
-    unsigned who = it - clients;
+    unsigned who = (it - clients) % addresses;
     int one = 1;
     in_addr_t own = htonl(0x7f010000 + who / 250 * 256 + who % 250 + 1);
     struct sockaddr_in from = {.sin_family = AF_INET, .sin_addr.s_addr = own};
@@ -167,6 +170,7 @@ static void go_on(struct client *it) {
         if (size < 0)
             break; /* not yet; or no more, and there may be a reply all the same */
         it->sent += size;
+        one->sent = told_by(CLOCK_REALTIME);
     }
     while (it->state == ASKING) {
         ssize_t size = recv(it->conn, chunk, CHUNK, 0);
@@ -240,16 +244,17 @@ static long run(long spread, long limit) {
 
 int main(int words, char **word) {
     size_t who, length;
-    if (words != 5)
+    if (words != 6)
         return 2;
     port = atoi(word[1]);
     keep = atoi(word[2]);
+    addresses = atol(word[5]);
     events = epoll_create1(0);
     while (scanf("%zu %zu%*1[\n]", &who, &length) == 2)
         add(who, length);
     printf("%ld\n", run(atol(word[3]) * MS, atol(word[4]) * 1000 * MS));
     for (size_t k = 0; k < count; k++)
-        printf("%ld %d %u %u %u\n", asked[k].took / 1000, asked[k].status, asked[k].lost, asked[k].refused,
-               asked[k].hash);
+        printf("%ld %d %u %u %u %ld\n", asked[k].took / 1000, asked[k].status, asked[k].lost, asked[k].refused,
+               asked[k].hash, asked[k].sent / 1000);
     return 0;
 }

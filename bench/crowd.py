@@ -2,7 +2,7 @@
 """Measures a crowd at `hall serve`: 1,000 clients at once (crowd.c), beside the plain server of serve.py.
 
     python3 bench/crowd.py [--program PATH] [--clients N] [--each N] [--limit SECONDS] [--folder FOLDER]
-        [--rounds one,many] [--kinds KIND,..] [--stalling] [NAME..]
+        [--rounds one,many] [--kinds KIND,..] [--addresses N] [--stalling] [NAME..]
 
 It does so in each setting whose name begins with one of the NAMEs, straight, through HAProxy and through nginx, over
 rounds of 1 and of 25 puzzles. The kinds: a ReadRound of each client at the same moment (start); ReadRounds one after
@@ -25,6 +25,7 @@ import tempfile
 import threading
 import time
 from dataclasses import dataclass, field
+from typing import NamedTuple
 
 from lent import Plain, sized
 from harness import proxies
@@ -94,25 +95,42 @@ class Told:
                 f"clients busy {self.busy / self.spent:.0%}")
 
 
-def crowd(client, port, kind, round, clients, each, keep, limit):
+class Asked(NamedTuple):
+    """What crowd.c tells of a request."""
+    took: int
+    status: int
+    lost: int
+    refused: int
+    body: int
+    sent: int
+
+
+def ran(client, port, requests, keep, limit, spread=0, addresses=0):
+    """The seconds that it took clients to make these requests, each after its client's number, and what came of
+    each."""
+    texts = [(k, sized(*request)) for k, request in requests]
+    text = "".join(f"{k} {text if keep else closing(text)}" for k, text in texts)
+    words = [client, str(port), str(int(keep)), str(spread), str(limit), str(addresses or len(texts))]
+    told = subprocess.run(words, input=text.encode(), stdout=subprocess.PIPE, check=True).stdout.decode()
+    first, *lines = told.split("\n")[:-1]
+    return int(first) / 1e9, [Asked(*map(int, line.split())) for line in lines]
+
+
+def crowd(client, port, kind, round, args, each, keep):
     """Has the crowd ask, and tells what came of it: each is to be answered 200, a repeated Submit as the first was."""
-    requests = [(k, sized(*request)) for k in range(clients) for request in asked(kind, round, k, each)]
-    text = "".join(f"{k} {text if keep else closing(text)}" for k, text in requests)
+    requests = [(k, request) for k in range(args.clients) for request in asked(kind, round, k, each)]
     before = processor_time()
-    ran = subprocess.run([client, str(port), str(int(keep)), "0", str(limit)], input=text.encode(),
-                         stdout=subprocess.PIPE, check=True)
-    first, *lines = ran.stdout.decode().split("\n")[:-1]
-    told, before = Told(int(first) / 1e9, processor_time() - before), None
-    for place, line in enumerate(lines):
-        took, status, lost, refused, body = map(int, line.split())
-        told.lost, told.refused = told.lost + lost, told.refused + refused
-        if status == 0:
+    spent, found = ran(client, port, requests, keep, args.limit, addresses=args.addresses)
+    told, before = Told(spent, processor_time() - before), None
+    for place, it in enumerate(found):
+        told.lost, told.refused = told.lost + it.lost, told.refused + it.refused
+        if it.status == 0:
             told.never += 1
         else:
-            told.took.append(took)
+            told.took.append(it.took)
             again = kind == "Submit" and place % each == 1 and before
-            told.wrong += status != 200 or (again and again != body)
-        before = body if status == 200 else None
+            told.wrong += it.status != 200 or (again and again != it.body)
+        before = it.body if it.status == 200 else None
     return told
 
 
@@ -284,7 +302,7 @@ def measure(tools, name, setting, args):
             for round, kind in itertools.product(args.rounds.split(","), args.kinds.split(",")):
                 part, least = KINDS[kind]
                 each = max(least, int(args.each * part))
-                told = crowd(f"{tools}/crowd", front, kind, round, args.clients, each, setting.keep, args.limit)
+                told = crowd(f"{tools}/crowd", front, kind, round, args, each, setting.keep)
                 print(f"{name}; {PUZZLES[round]} puzzles; {kind:9} {told.line()}", flush=True)
         finally:
             if stalling:
@@ -305,6 +323,7 @@ def main():
     parser.add_argument("--limit", type=int, default=60)
     parser.add_argument("--rounds", default=",".join(PUZZLES))
     parser.add_argument("--kinds", default=",".join(KINDS))
+    parser.add_argument("--addresses", type=int, default=0)
     parser.add_argument("--folder")
     parser.add_argument("--stalling", action="store_true")
     parser.add_argument("names", nargs="*", default=[""])

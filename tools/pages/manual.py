@@ -11,6 +11,10 @@ HEADING = re.compile(r"^(usage|positional arguments|options|commands|exit status
 COMMAND = re.compile(r"^ {2,4}([a-z][a-z-]*)(?: {2,}|$)")
 # An option as help lists it, and what stands for its value.
 OPTION = re.compile(r"^ +(?:-\w, +)?(--[a-z-]+)(?:[ =](<\w+>|[A-Z_]+))?")
+# A word that is no option, as help lists it.
+WORD = re.compile(r"^ {2}(\w+)(?: {2,}|$)")
+# What asks the hall for the ids of such a word, and what makes a word of each line.
+IDS = {"round": ("round list", "cut -d, -f1"), "puzzle": ("puzzle list", "cut -d, -f1,2 --output-delimiter=/")}
 # Values that are files.
 FILES = ("<F>", "<G>", "<L>", "KEY_FILE", "NAMES", "PROGRAM", "SHEET")
 # Help that wraps its lines does so at this width.
@@ -18,17 +22,18 @@ WIDTH = 100
 
 
 class Help:
-    """What a command says of itself, and the commands below it."""
+    """What a command of this name says of itself, and the commands below it."""
 
-    def __init__(self, program, *words):
-        self.name = " ".join([os.path.basename(program), *words])
+    def __init__(self, program, name, *words):
+        self.name = " ".join([name, *words])
         env = {**os.environ, "COLUMNS": str(WIDTH), "PYTHONDONTWRITEBYTECODE": "1"}
         asked = [program, *words, "--help"]
-        self.text = subprocess.run(asked, capture_output=True, text=True, check=True, env=env, timeout=60).stdout
+        self.text = subprocess.run(asked, capture_output=True, text=True, check=True, env=env, timeout=300).stdout
         lines = self.text.rstrip("\n").split("\n")
         self.options = [it.groups() for it in filter(None, map(OPTION.match, lines))]
+        self.ids = [it[1] for it in filter(None, map(WORD.match, self.section("positional arguments"))) if it[1] in IDS]
         names = [it[1] for it in filter(None, map(COMMAND.match, self.section("commands")))]
-        self.below = [Help(program, *words, it) for it in names]
+        self.below = [Help(program, name, *words, it) for it in names]
 
     def section(self, name):
         """The lines of a section."""
@@ -55,9 +60,9 @@ class Help:
 
 
 @functools.cache
-def help_of(program):
-    """What the program says of itself. It is asked once."""
-    return Help(program)
+def help_of(program, name):
+    """What the program says of itself, which is installed by this name. It is asked once."""
+    return Help(program, name)
 
 
 def escaped(text):
@@ -86,7 +91,7 @@ def page_lines(text):
 
 def page(of, version, day, others, origin=""):
     """The page of the first section for a command, with what tells of which sources it is, in lines."""
-    lines = [f'.TH {of.name.upper()} 1 "{day}" "{of.name} {version}" "User Commands"']
+    lines = [f'.TH {of.name} 1 "{day}" "{of.name} {version}" "User Commands"']
     lines += [".SH NAME", f"{of.name} \\- {escaped(of.summary())}", ".SH DESCRIPTION", *page_lines(of.text)]
     if of.below:
         lines.append(".SH COMMANDS")
@@ -117,14 +122,23 @@ _{name}() {{
   case $path in
 {words}
   esac
-  mapfile -t COMPREPLY < <(compgen -W "$words" -- "$current")
+{ids}  mapfile -t COMPREPLY < <(compgen -W "$words" -- "$current")
 }}
 complete -o default -F _{name} {name}
 """
 
 
+def ids_of(of):
+    """The lines that add the ids of the hall that HALL_URL names: once, and without waiting for long."""
+    for name, (words, cut) in IDS.items():
+        paths = [f"'{it.name}'" for it in of.all() if name in it.ids]
+        if paths:
+            asked = f"timeout 2 {of.name} --patience 0 {words} --csv 2> /dev/null | sed 1d | {cut}"
+            yield f"  case $path in {' | '.join(paths)}) words+=\" $({asked})\" ;; esac\n"
+
+
 def completion(of):
-    """The completion of a command's words: its commands and options."""
+    """The completion of a command's words: its commands and options, and the ids of rounds and puzzles."""
     options = dict(option for it in of.all() for option in it.options)
     files = [it for it, value in options.items() if value in FILES] or ["--"]
     values = [it for it, value in options.items() if value and value not in FILES] or ["--"]
@@ -133,5 +147,6 @@ def completion(of):
     for it in of.all():
         of_this = [below.name.split()[-1] for below in it.below] + [option for option, _ in it.options]
         words.append(f"    '{it.name}') words='{' '.join(of_this)}' ;;")
-    joined = {"paths": " | ".join(paths), "files": " | ".join(files), "values": " | ".join(values)}
+    joined = {"paths": " | ".join(paths), "files": " | ".join(files), "values": " | ".join(values),
+              "ids": "".join(ids_of(of))}
     return COMPLETION.format(name=of.name, words="\n".join(words), **joined)

@@ -1,28 +1,33 @@
 #!/usr/bin/env python3
-"""All places of a rule, a code, an action, a function, a definition, a wrong body or a column: where it is said, looked
-up, checked, promised, tested and broken.
+"""All places of a rule, a code, an action, a function, a definition, a wrong body, a column, or a part of a client:
+where it is said, looked up, checked, promised, proved, tested and broken.
 
     python3 tools/pages/map.py NAME ..
 
 A NAME is the number of a rule or its name (16, OpenProtest), another code (U3, F2, E5, 503), a code as it is told
-({"denied":16}, {"form":"F2"}), an action (Submit), a function, also with its type or its crate (step, Desk::step,
-hall_desk::Desk::step), a definition (IsInvolved), a wrong body (tester_may_submit), or a column of a table
-(answers.verdict). Each place is a path and a line. What is broken is an edit that the prover must refuse; those with a
+({"denied":16}, {"form":"F2"}), an action (Submit), a function or law, also with its type or its crate (step,
+Desk::step, hall_desk::Desk::step, law_sanity), a definition (IsInvolved), a wrong body (tester_may_submit), a column
+of a table (answers.verdict), a module of the page or a view of it (view-puzzle, puzzleView), or a command of hallctl
+("round put"). Each place is a path and a line. What is broken is an edit that the prover must refuse; those with a
 star are tried by `python3 tools/build/wrong_bodies.py --further` alone.
 
-A column is sought by its name. `named` are the files that name it with all others of its table, as they would one more;
+An action is sought by its name and by the names made of it (`IsSubmitStep`, `submit_at`), and by its route: `named` are
+the code and the definitions, `proved` the proofs, `told` pages and clients, `tested` examples and tests. A column is
+sought by its name. `named` are the files that name it with all others of its table, as they would one more;
 `statements` those of SQL that insert into the table, or that name both; `told` the pages, clients and examples where a
-member of JSON is named so. So a few of them mean another thing of that name.
+member of JSON is named so. So a few places of both mean another thing of that name.
 """
 import re
 import signal
 import sys
 
+import beside
 import codes
 import places
 from promises import found_tree, functions, libraries, shown
+from beside import lines_with
 from sources import all_definitions, paths, read, sentence, variants
-from tree import BROKEN, FORMS, asked, tested
+from tree import BROKEN, FORMS, asked, proofs_of, tested
 
 # So many lines of a file are named.
 MOST = 8
@@ -36,11 +41,16 @@ JUDGES = {
 REQUESTS, REPLIES = "crates/hall_http/src/request.rt", "crates/hall_http/src/reply.rt"
 TESTS = ("tools/tests/**/*.py",)
 CLIENTS = ("clients/**/*.py", "clients/**/*.js")
+TOLD = ("docs/*.md", "docs/*.json", "docs/promises/*.md", *CLIENTS, "tools/pages/description.py",
+        "tools/pages/sending.py")
+# The crates that know actions.
+ACTING = ("hall_policy", "hall_desk", "hall_http", "hall_tool", "hall_tests", "probe")
 # Where a column may be named. Of so many columns of a table a file that spells its rows may lack one; where a table
 # has fewer, the file has all of them and its name.
 NAMING = ("crates/*/src/*.rt", "crates/*/specs/**/*.antt", *TESTS, "bench/*.py", "examples/databases/*.toml",
           "docs/RUNNING.md")
 MANY = 6
+KNOWN = "rule, code, action, function, definition, wrong body, column, module of the page, command of hallctl"
 # Where it may be told.
 TELLING = ("docs/HTTP.md", "docs/openapi.json", "tools/pages/description.py", *CLIENTS, "examples/*/*.rows",
            "examples/*/*.out")
@@ -79,10 +89,6 @@ def defined(name, crate=None, module=None):
 def place(path, lines):
     """The path with the first of these lines, and how many more there are."""
     return f"{path}:{', '.join(map(str, lines[:MOST]))}" + (f" and {len(lines) - MOST} more" if lines[MOST:] else "")
-
-
-def lines_with(pattern, text):
-    return [number for number, line in enumerate(text.split("\n"), 1) if re.search(pattern, line)]
 
 
 def in_files(patterns, pattern):
@@ -176,6 +182,7 @@ def function(item):
     names = item.calls()
     yield from rows("calls", sorted(f"{it.file}:{it.line} {it.full_name()}" for it in tree.items[item.crate]
                                     if it.name in names and it.is_called_by(item.called())))
+    yield from rows("proved", proofs_of(item))
     yield from rows("tested", [*asked().get(key, []),
                                *(f"{it.file}:{it.line} {it.name}" for it in tested(tree).get(key, []))])
     yield from rows("broken", map(edit, tree.changes_of(item)))
@@ -192,21 +199,37 @@ def definition(name):
         yield from rows("broken", (edit(it) for it in found_tree().changes if name in it.words()))
 
 
+def names_of(own):
+    """A pattern of the names made of an action's: Submit, IsSubmitStep, submit_at, tell_submit."""
+    low = re.sub(r"(?<!^)(?=[A-Z])", "_", own).lower()
+    return rf"\b(?:Is)?{own}(?![a-z])|\b(?:(?:tell|says)_{low}|{low}_(?:action|at|data|handler|reply|step|told))\b"
+
+
+def handled(own):
+    """Where an action is handled, what is asked of it, and where it is read and written."""
+    yield from rows("looked up", (f"{path}:{line_of(path, text)}" for path, text in (
+        (places.module_of(own), f"Handler for {own}"), ("crates/hall_desk/src/planning.rt", f"Action::{own}"))))
+    yield from rows("checked", (f"{path}:{line_of(path, f'Action::{own}')}" for path in (
+        "crates/hall_policy/src/asked.rt", "crates/hall_policy/src/rule_checks.rt") if f"Action::{own}" in read(path)))
+    yield row("read", f"{REQUESTS}:{line_of(REQUESTS, own)}")
+    yield row("written", f"{REPLIES}:{line_of(REPLIES, own)}")
+
+
 def action(name):
-    """An action: its route and rules, and where it is decided, answered, read and written."""
-    for route, own, may, numbers in codes.routes():
+    """An action: its route and rules, where it is decided, answered, read and written, and all that names it."""
+    for cell, own, may, numbers in codes.routes():
         if own == name:
-            yield f"action {own}, {route.strip('`')}: {may}"
+            route, pattern = cell.strip("`"), names_of(own)
+            yield f"action {own}, {route}: {may}"
             yield from rows("said", [*defined(f"Is{own}Step", "hall_desk"), *defined("rules_asked", "hall_policy"),
                                      *defined("may", "hall_policy")])
             yield row("rules", numbers)
-            yield from rows("looked up", (f"{path}:{line_of(path, text)}" for path, text in (
-                (places.module_of(own), f"Handler for {own}"), ("crates/hall_desk/src/planning.rt", f"Action::{own}"))))
-            yield from rows("checked", (f"{path}:{line_of(path, f'Action::{own}')}" for path in (
-                "crates/hall_policy/src/asked.rt", "crates/hall_policy/src/rule_checks.rt")
-                if f"Action::{own}" in read(path)))
-            yield row("read", f"{REQUESTS}:{line_of(REQUESTS, own)}")
-            yield row("written", f"{REPLIES}:{line_of(REPLIES, own)}")
+            yield from handled(own)
+            yield from rows("named", in_files((f"crates/{it}/s*/**/*.*t" for it in ACTING), pattern))
+            yield from rows("proved", in_files((f"crates/{it}/proofs/**/*.antt" for it in ACTING), pattern))
+            yield from rows("told", in_files(TOLD, rf"{beside.asking(route)}|[`\"]{own}[`\"]"))
+            yield from rows("tested", in_files(("examples/**/*.*", *TESTS), beside.asking_by_method(route)))
+            yield from rows("broken", (edit(it) for it in found_tree().changes if it.is_of(places.module_of(own), own)))
 
 
 def columns():
@@ -246,6 +269,14 @@ def column(name):
         yield from rows("told", in_files(TELLING, rf"\"{own}\"|\w\.{own}\b"))
 
 
+def part_of_a_client(name):
+    """A module or view of the page, or a command of hallctl."""
+    for found in filter(None, (beside.page_module(name), beside.command(name))):
+        yield found[0]
+        for what, of in found[1].items():
+            yield from rows(what, (it if isinstance(it, str) else place(*it) for it in of if it[1]))
+
+
 def meant(name):
     """The name of a code that is written as it is told: `{"denied":16}`, `denied 16`, `refused F2 key`."""
     found = re.fullmatch(r'\{?"?(?:denied|form|refused)"?[: ] ?"?([A-Z]?\d+)\b.*', name)
@@ -265,6 +296,7 @@ def places_of(name):
                 yield from function(item)
     yield from definition(name)
     yield from column(name)
+    yield from part_of_a_client(name)
     for change in found_tree().changes:
         if name in (change.name, change.full_name()):
             yield f"wrong body {change.name}"
@@ -282,7 +314,7 @@ def main():
     unknown = False
     for name in sys.argv[1:]:
         told = list(places_of(meant(name)))
-        print("\n".join(told or [f"{name} is no rule, code, action, function, definition, wrong body or column"]))
+        print("\n".join(told or [f"{name} is none of these: {KNOWN}"]))
         unknown = unknown or not told
     return 1 if unknown else 0
 

@@ -28,8 +28,8 @@ where the rule stands:
 - **looked up**: the modules of [hall_desk](../crates/hall_desk/src) that ask the store for what the rule reads;
 - **checked**: the function of [rule_checks.rt](../crates/hall_policy/src/rule_checks.rt) that tests it;
 - **tested**: the first row that is denied by it. [crates/probe/stdin](../crates/probe/stdin) asks each too (`decide`);
-- **broken**: edits of the code, called wrong bodies, that the prover must refuse. `./check` tries each, but those with
-  a star, which `python3 tools/build/wrong_bodies.py --further` tries.
+- **broken**: edits of the code, called wrong bodies, that the prover must refuse. `./check --prove` tries each, but
+  those with a star, which `python3 tools/build/wrong_bodies.py --further` tries.
 
 `python3 tools/pages/map.py 11` prints all places of rule 11, each with its line: all rows that are denied by it, too.
 So it does for a code, an action, a function, a definition, a wrong body or a column of a table: `map.py U3`,

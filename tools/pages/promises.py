@@ -6,14 +6,14 @@
     python3 tools/pages/promises.py CRATE ..               prints each contract of a crate, and the words of it
     python3 tools/pages/promises.py --believe [NAME ..]    counts the definitions that a reader must believe
 
-Written are docs/RULES.md, docs/promises/README.md, and by tools/pages/codes.py the tables of docs/HTTP.md,
-docs/RUNNING.md and examples/README.md. With --check a line each tells of a page that isn't what the sources say, of a
-link, a name or a path on a page that leads nowhere, of a line of prose over 120 columns, and of a number of
-README.md that is no more the one of --believe; then the end is 1. A word of a public contract that has no sentence
-above its definition is noted. `--believe hall_http::serve_all` counts for that contract, `--believe hall_sql` for all
-of a crate, and tells the files that are to be read; without a name it counts for each promise of README.md, each law
-and each crate. It lists too the names that two of the definitions have, the definitions without a sentence, and those
-that name something of a proof.
+Written are docs/RULES.md, docs/promises/README.md (the laws and their proofs), and by tools/pages/codes.py the tables
+of docs/HTTP.md, docs/RUNNING.md and examples/README.md. With --check a line each tells of a page that isn't what the
+sources say, of a link, a name or a path on a page that leads nowhere, of a line of prose over 120 columns, and of a
+number of README.md that is no more the one of --believe; then the end is 1. A word of a public contract that has no
+sentence above its definition is noted. `--believe hall_http::serve_all` counts for that contract, `--believe hall_sql`
+for all of a crate, and tells the files that are to be read; without a name it counts for each promise of README.md,
+each law and each crate. It lists too the names that two of the definitions have, the definitions without a sentence,
+and those that name something of a proof.
 """
 import os
 import re
@@ -41,8 +41,9 @@ PROMISES = {
     "secrecy": [f"hall_desk::law_{it}" for it in ("others", "before_start", "sealed")] + ["hall_http::law_bytes"],
     "the program": ["hall_tool::run_words"],
 }
-# How README.md tells the first of these.
+# How README.md tells the first and the last of these, in this order.
 TOLD = re.compile(r"([\d,]+)\s+definitions\s+of\s+([\d,]+)\s+lines,\s+and\s+([\d,]+)\s+of\s+the\s+kit")
+IN_README = ("the headline", "the program")
 # A number that is told may be wrong by so much of itself.
 ROUNDED = 0.05
 
@@ -149,23 +150,40 @@ def introduced(crate):
     return re.sub(r"\[(`[^`]+`)\]", r"\1", re.split(r"  +", introduction(crate))[0])
 
 
+def theorem(item):
+    """A row of the table of laws: its name and file, its sentence, and the files of its proof."""
+    def at(path, name):
+        return f"[{name}](../../{path})"
+
+    found = [at(it, os.path.basename(it).removesuffix(".antt")) for it in dict.fromkeys(tree.proofs_of(item))]
+    proof = ", by ".join([*found[:1], *([", ".join(found[1:])] if found[1:] else [])]) or "by search alone"
+    said = re.split(r"(?<=[.:]) (?=[A-Z`])", " ".join(item.doc))[0].rstrip(":")
+    return f"| {at(item.file, f'`{item.name}`')} | {sentence(said)} | {proof} |"
+
+
 def index():
-    """docs/promises/README.md: the functions that each crate hands on."""
+    """docs/promises/README.md: the crates, and the laws with their proofs."""
     yield from (
-        "# What each crate hands on", "",
-        "This page is written by `tools/pages/promises.py`. It names the functions of each crate that others may call,",
-        "with the file in which each contract stands. What they promise in words is told by the page of each crate.",
-        "`python3 tools/pages/promises.py hall_desk` prints all contracts of a crate, with the sentence of each",
-        "definition that they cite, and `python3 tools/pages/map.py judge` what belongs to one function.", "",
+        "# The promises of the crates, and the laws", "",
+        "This page is written by `tools/pages/promises.py`. `python3 tools/pages/promises.py hall_desk` prints the",
+        "contracts of a crate, with the sentence of each definition that they cite, and "
+        "`python3 tools/pages/map.py judge`",
+        "what belongs to one function or law: its contract and definitions, its proof, its tests and wrong bodies.", "",
+        "| Crate | |", "|---|---|", *(f"| [{crate}]({crate}.md) | {introduced(crate)} |" for crate in libraries()), "",
+        "## The laws and their proofs", "",
+        "A law is a function that does nothing, whose contract is a theorem. Beside the laws stand here the calls "
+        "whose",
+        "contracts [README.md](../../README.md#what-it-promises) tells. A proof is an answer to each clause, and the "
+        "files",
+        "of `proofs/` that this names.", "",
+        "| Law or call | Says | Proof |", "|---|---|---|",
     )
+    told_there = {name for of in PROMISES.values() for name in of}
     for crate in libraries():
-        yield from (f"## {crate}", "", f"{introduced(crate)} [In words]({crate}.md).", "")
-        names = {}
-        for item in functions(crate).values():
-            names.setdefault(item.file, []).append(item.full_name())
-        for path, of in names.items():
-            yield f"- [{os.path.basename(path)}](../../{path}): {', '.join(f'`{it}`' for it in of)}"
-        yield ""
+        for name, item in functions(crate).items():
+            if name.startswith("law_") or f"{crate}::{name}" in told_there:
+                yield theorem(item)
+    yield ""
 
 
 def without_sentence():
@@ -299,14 +317,14 @@ def believe(names):
 
 
 def wrong_numbers():
-    """README.md tells the numbers of the headline, rounded."""
-    found = TOLD.search(read("README.md"))
-    own, lines, of_kit, _ = believed.counts(believed.cited(items_at(PROMISES["the headline"][0])))
-    if not found:
-        yield "README.md doesn't tell how many definitions must be believed"
-    for number, is_so in zip(found.groups(), (own, lines, of_kit)) if found else ():
-        if abs(int(number.replace(",", "")) - is_so) > ROUNDED * is_so:
-            yield f"README.md tells {number} of what must be believed for the headline, where there are {is_so:,}"
+    """README.md tells the numbers of the headline and of the program, rounded."""
+    found = TOLD.findall(read("README.md"))
+    if len(found) != len(IN_README):
+        yield f"README.md doesn't tell how many definitions must be believed for {' and '.join(IN_README)}"
+    for name, told_numbers in zip(IN_README, found):
+        for number, is_so in zip(told_numbers, believed.counts(believed.cited(items_at(PROMISES[name][0])))):
+            if abs(int(number.replace(",", "")) - is_so) > ROUNDED * is_so:
+                yield f"README.md tells {number} of what must be believed for {name}, where there are {is_so:,}"
 
 
 def check(is_check):

@@ -14,7 +14,7 @@ STATUSES = [
     (404, "the hall", "What is named isn't there.", False, None),
     (408, "the proxy", "The request didn't come whole in 10 seconds.", True, 1),
     (413, "another proxy", "The body is longer than that proxy takes; the hall takes 65,536 bytes.", False, None),
-    (429, "the proxy", "Too many requests came from this address.", True, 10),
+    (429, "the proxy", "Too many requests came of this key, or from this address.", True, 10),
     (500, "the proxy", "The proxy failed.", True, 1),
     (502, "the proxy", "The hall ended the connection without a whole reply.", True, 1),
     (503, "the hall, or the proxy", "It couldn't be done just now; or the hall is down, or too many wait.", True, 5),

@@ -131,6 +131,11 @@ class Change:
     def full_name(self):
         return f"{self.crate}/{self.name}"
 
+    def is_of(self, module, action):
+        """Whether it changes the module of an action, or a line that names that."""
+        is_named = re.search(rf"\b(?:Is)?{action}(?![a-z])", self.old)
+        return bool(is_named) or any(it.file == module for it in self.functions)
+
     def words(self):
         """What it is about: the line that it changes, and the clauses that refuse it."""
         of_clauses = {it for item in self.functions for it in re.findall(r"\w+", item.text)}
@@ -142,6 +147,17 @@ def changes(libraries, tree):
         for is_further in (False, True):
             for name, text in wrong_bodies.texts_of(crate, is_further):
                 yield Change(crate, name, text, is_further, tree)
+
+
+def proofs_of(item):
+    """Where a function's proof stands: the file of its answers, and the files of its crate that this names."""
+    module = os.path.basename(item.file).removesuffix(".rt")
+    found = paths(f"crates/{item.crate}/proofs/{module}/**/{item.name}/Answers.antt")
+    of_block = [it for it in found if item.block and f"/{item.block.name}" in it]
+    for path in of_block or found:
+        yield path
+        named = re.findall(rf"^use Rattle\.{item.crate}\.proofs\.([\w.]+)\.\{{", read(path), re.M)
+        yield from (it for name in named for it in paths(f"crates/{item.crate}/proofs/{name.replace('.', '/')}.antt"))
 
 
 def imported(crate):
