@@ -69,6 +69,7 @@ impl Search {
         ensures frugal { IfOk result
             (λ _. R.visits rules.new ≤ plain_tree (R.question rules.old).values (open_places (started_at self))) }
         ensures within { R.visits rules.new ≤ budget_of self }
+        ensures bounded { R.visits rules.new ≤ R.visits rules.old + most }
         ensures at_visits { R.asked rules.new ≤ R.visits rules.new }
 
         ensures same { IsSameQuestion (R.question rules.old) (R.question rules.new) }
