@@ -60,9 +60,9 @@ export default {
   aboutLineText: "Zeichne weiter. Eine abgegebene Antwort ist aufbewahrt und geht wieder, bis die Halle antwortet; "
     + "die Halle nimmt sie einmal. Es zählt nur der Augenblick, in dem sie die Halle erreicht.",
   aboutPage: "Wo die Seite versagt",
-  aboutPageText: "Lade sie neu: nichts Gezeichnetes geht verloren. Hilft das nicht, nimm einen anderen Browser oder "
-    + "Rechner, mit deinem Schlüssel; dort beginnst du mit leerem Brett, aber alles Abgegebene steht. Sonst rufe "
-    + "die Leitung.",
+  aboutPageText: "Lade sie neu: was du gezeichnet hast, bleibt, außer wenn die Seite sagt, dass dieser Browser nichts "
+    + "mehr aufbewahrt. Hilft das nicht, nimm einen anderen Browser oder Rechner, mit deinem Schlüssel; dort beginnst "
+    + "du mit leerem Brett, aber alles, was die Halle erhalten hat, steht. Sonst rufe die Leitung.",
 
   // pictures in words
   tellSlitherlink: "Waagrechte Linien, Zeile für Zeile: {across}. Senkrechte: {upright}.",

@@ -60,8 +60,9 @@ export default {
   aboutLineText: "Sigue dibujando. Una respuesta entregada se guarda y vuelve a salir hasta que la sala conteste; "
     + "la sala la toma una vez. Solo cuenta el momento en que llega a la sala.",
   aboutPage: "Si falla la página",
-  aboutPageText: "Recárgala: nada dibujado se pierde. Si no ayuda, usa otro navegador u ordenador con tu clave; "
-    + "allí empiezas con el tablero vacío, pero lo entregado queda. Si no, llama a la dirección.",
+  aboutPageText: "Recárgala: lo dibujado queda, salvo que la página diga que este navegador no guarda nada más. Si no "
+    + "ayuda, usa otro navegador u ordenador con tu clave; allí empiezas con el tablero vacío, pero lo que la sala "
+    + "recibió queda. Si no, llama a la dirección.",
 
   // pictures in words
   tellSlitherlink: "Líneas horizontales, fila por fila: {across}. Verticales: {upright}.",

@@ -59,8 +59,9 @@ export default {
   aboutLineText: "Continue à dessiner. Une réponse remise est gardée et repart jusqu'à ce que la salle réponde ; la "
     + "salle la prend une fois. Seul compte le moment où elle atteint la salle.",
   aboutPage: "Si la page manque",
-  aboutPageText: "Recharge-la : aucun dessin n'est perdu. Sinon prends un autre navigateur ou ordinateur, avec ta "
-    + "clé ; là tu commences avec une grille vide, mais tout ce qui est remis reste. Sinon appelle la direction.",
+  aboutPageText: "Recharge-la : tes dessins restent, sauf si la page dit que ce navigateur ne garde plus rien. Sinon "
+    + "prends un autre navigateur ou ordinateur, avec ta clé ; là tu commences avec une grille vide, mais tout ce que "
+    + "la salle a reçu reste. Sinon appelle la direction.",
 
   // pictures in words
   tellSlitherlink: "Traits horizontaux, rangée par rangée : {across}. Verticaux : {upright}.",

@@ -43,7 +43,7 @@ export default {
   aboutLine: "连接断开时",
   aboutLineText: "请继续画。提交的答案已保存,会重发到大厅回复;大厅只接收一次。只有到达大厅的时刻有效。",
   aboutPage: "页面出错时",
-  aboutPageText: "请刷新:画的不会丢失。如果不行,换浏览器或电脑,用你的密钥;那里盘面是空的,但提交的都在。否则请叫主办者。",
+  aboutPageText: "请刷新:画的会保留,除非页面说浏览器不能再保存。如果不行,换浏览器或电脑,用你的密钥;那里盘面是空的,但大厅收到的都在。否则请叫主办者。",
 
   // pictures in words
   tellSlitherlink: "横线,逐行:{across}。竖线:{upright}。",
