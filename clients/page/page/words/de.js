@@ -14,7 +14,7 @@ export default {
   onItsWay: "Eine Antwort ist unterwegs",
   onItsWayLeave: "Wenn du gehst, geht sie erst weiter, wenn du in diesem Browser wieder eintrittst.",
   kept: "Das hat dieser Browser aufbewahrt: zeichne weiter.",
-  again: "Neuer Versuch in {n} s; nichts Gezeichnetes oder Abgegebenes geht verloren.",
+  again: "Neuer Versuch in {n} s; was du gezeichnet und abgegeben hast, ist aufbewahrt.",
   tryNow: "Jetzt versuchen",
   storeShort: "Dieser Browser ist voll: was du zeichnest, bleibt, aber das Rückgängigmachen ist weg, wenn du den "
     + "Tab schließt.",

@@ -17,7 +17,7 @@ export default {
   onItsWay: "An answer is on its way",
   onItsWayLeave: "If you leave, it goes on only when you enter again in this browser.",
   kept: "This is what this browser kept: draw on.",
-  again: "Trying again in {n} s; nothing you drew or handed in is lost.",
+  again: "Trying again in {n} s; what you drew and handed in is kept.",
   tryNow: "Try now",
   storeShort: "This browser is full: what you draw is kept, but undo is lost if you close the tab.",
   storeShut: "This browser keeps nothing more: don't close or reload this tab until your answers are received.",

@@ -14,7 +14,7 @@ export default {
   onItsWay: "Una respuesta está en camino",
   onItsWayLeave: "Si sales, solo seguirá cuando vuelvas a entrar en este navegador.",
   kept: "Esto es lo que guardó este navegador: sigue dibujando.",
-  again: "Nuevo intento en {n} s; nada dibujado o entregado se pierde.",
+  again: "Nuevo intento en {n} s; lo dibujado y lo entregado está guardado.",
   tryNow: "Intentar ya",
   storeShort: "Este navegador está lleno: lo que dibujas se guarda, pero deshacer se pierde si cierras la pestaña.",
   storeShut: "Este navegador no guarda nada más: no cierres ni recargues esta pestaña hasta que se reciban tus "

@@ -14,7 +14,7 @@ export default {
   onItsWay: "Une réponse est en route",
   onItsWayLeave: "Si tu quittes, elle ne repart que quand tu reviens dans ce navigateur.",
   kept: "Voici ce que ce navigateur a gardé : continue à dessiner.",
-  again: "Nouvel essai dans {n} s ; rien de dessiné ni de remis n'est perdu.",
+  again: "Nouvel essai dans {n} s ; ce que tu as dessiné et remis est gardé.",
   tryNow: "Essayer maintenant",
   storeShort: "Ce navigateur est plein : tes dessins sont gardés, mais l'annulation est perdue si tu fermes "
     + "l'onglet.",
