@@ -22,7 +22,7 @@ TESTS = ("hall_tests", "store_tests", "puzzle_tests", "probe", "test_harness")
 # What is looked for: a fault of memory, and what is answered by 503.
 MADE = (
     r"(?:AllocError|AllocFailed|\w+::OutOfMemory|(?:\w+Fault|Self)::Memory"
-    r"|(?:Reply|Answer|Status|Self)::Unavailable|(?:Answer|Self)::Shut|GroupEnd::(?:Refused|Shut)|UNAVAILABLE)"
+    r"|(?:Reply|Answer|Status|Self)::Unavailable|(?:Answer|Self)::Shut|GroupEnd::(?:Refused|Shut)|Prepared::Refused|UNAVAILABLE)"
 )
 # Above the desk's plans, that the store failed.
 FAILED = r"(?:StoreFault::Failed|ToolFault::Store)"
@@ -35,6 +35,7 @@ READ = [
     r"\bAlloc(?:Error>|Failed<)",
     r"\w+: AllocError\)",
     rf"(?:\w+\()*\b(?:{MADE}|{FAILED})\)* (?:=>|\|)",
+    r"\bif let Prepared::Refused =",
 ]
 # A fault of memory as a value, and inside the result of a call.
 GIVEN = rf"(?:return )?(?:Err\()?(?:CommandFault::Tool\()?\b{MADE}\b"
@@ -76,6 +77,16 @@ PLACES = {
         "match puzzle_fault(fault) { Some(found) => Err(RequestFault::Form(FormFault::Puzzle(found))),"
         " None => Err(RequestFault::Memory),",
     ],
+    # What a request needs before it is answered.
+    "hall_desk/src/preparing.rt": [
+        "Ok(None) => Prepared::Ready, Err(_) => Prepared::Refused,",
+    ],
+    "hall_desk/src/under_way.rt": [
+        "match Searches::new(alloc) { Ok(under_way) => under_way, Err(_) => return Prepared::Refused,",
+        "match worked { Ok(Some(finding)) => remember(alloc, memo, finding), Ok(None) => Prepared::Waits,"
+        " Err(_) => Prepared::Refused,",
+        "Ok(found) => { *memo = Some(found); Prepared::Ready } Err(_) => Prepared::Refused,",
+    ],
     # A step whose plan or whose commit was refused.
     "hall_desk/src/step.rt": [
         "match commit(alloc, store, plan) { Ok(reply) => reply, Err(_) => Reply::Unavailable, },"
@@ -99,7 +110,8 @@ PLACES = {
     ],
     "hall_http/src/responder.rt": [
         "-> Answer { match moment {"
-        " Some(moment) => { let answer = answer_raw_request(alloc, routes, self, moment, request); self.at_rest();"
+        " Some(moment) => { let answer = answer_raw_request(alloc, routes, self, prepared, moment, request);"
+        " self.at_rest();"
         " answer } None => { self.at_rest(); Answer::Unavailable } } }",
     ],
     # A group whose write was refused, or whose store was shut by then, and what each of it is told.
@@ -136,7 +148,10 @@ PLACES = {
 ANSWERS = {
     "hall_http/src/answer.rt": (
         "unavailable(alloc, desk, request)",
-        "match step_bytes(alloc, desk, moment, request) { Ok(text) => answer_of(text, request), Err(_) => ",
+        [
+            "if let Prepared::Refused = prepared { return ",
+            "match step_bytes(alloc, desk, moment, request) { Ok(text) => answer_of(text, request), Err(_) => ",
+        ],
     ),
 }
 # How many texts hold the number 503: the reply itself, its status line, and a line of the journal.
@@ -260,8 +275,8 @@ def faults_of(path, text):
         yield f"it spells 503 so often: {spelled}"
     if path in ANSWERS:
         call, before = ANSWERS[path]
-        if text.count(call) != 1 or before + call not in text:
-            yield f"{call} stands elsewhere than in: {before}"
+        if text.count(call) != len(before) or not all(it + call in text for it in before):
+            yield f"{call} stands elsewhere than in: {', '.join(before)}"
 
 
 def main():

@@ -68,6 +68,7 @@ pub mod Certified
 pub mod GoingOn
 pub mod Wants
 pub mod Places
+pub mod Working
 pub mod Scans
 pub mod Halving
 pub mod Dividing

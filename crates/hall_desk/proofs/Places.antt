@@ -1,5 +1,5 @@
 -- The places of the searches under way, as one of them is changed.
-use Rattle.std.proofs.Common.{◌≡◌, ◌≢◌, ◌⊎◌, ◌∙◌, sym, ap, refl, subst, arith, ℕ, zero, suc, ◌<◌, ◌==◌, inl, inr, List}
+use Rattle.std.proofs.Common.{◌≡◌, ◌≢◌, ◌⊎◌, ◌∙◌, sym, refl, subst, arith, ℕ, zero, suc, ◌<◌, ◌==◌, inl, inr, List}
 use Rattle.std.proofs.Common.{[], ◌∷◌, ◌++◌, length, get_or, Option, Some, None, true, false}
 use Rattle.std.specs.Prelude.{Bool, slice_set, IfSome}
 use Rattle.std.proofs.lemmas.Bool.{eqb-true, eqb-false}

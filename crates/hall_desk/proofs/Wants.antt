@@ -1,6 +1,6 @@
 -- The search that a request waits for is of the puzzle in the store's world, and the rules allow it.
-use Rattle.std.proofs.Common.{◌≡◌, ◌∙◌, ℕ, Option, Some, None, List, refl, sym, ap, subst}
-use Rattle.std.specs.Prelude.{Result, Ok, Err, IfOk, IfSome}
+use Rattle.std.proofs.Common.{◌≡◌, ◌≢◌, ◌∙◌, ℕ, Option, Some, None, List, sym, ap, subst}
+use Rattle.std.specs.Prelude.{Ok}
 use Rattle.std.specs.FinMap.{get}
 use Rattle.hall_policy.specs.World.{World}
 use Rattle.hall_policy.specs.Facts.{AreTrue}
@@ -21,7 +21,10 @@ use Rattle.hall_store.specs.Store.{Content, Told}
 use Rattle.hall_store.specs.declared.fault.StoreFault.{StoreFault}
 use Rattle.hall_desk.specs.Lookups.{IsCaller}
 use Rattle.hall_desk.specs.declared.wanted_search.Wanted.{Wanted}
-use Rattle.hall_desk.specs.Wanted.{IsSearchOfFound, IsSearchFor}
+use Rattle.hall_grid.specs.Board.{Board}
+use Rattle.hall_policy.proofs.Deciding.{decisions_agree}
+use Rattle.hall_desk.specs.Memo.{MemoView, Remembers}
+use Rattle.hall_desk.specs.Wanted.{IsFoundFor, IsFoundOf, IsPrepared, IsSearchFor}
 
 -- no rule that a Certify is asked speaks of the moment, since it names no round
 pub at_any_moment : (world : World) (caller : Option Person) (key : PuzzleKey) (budget t later : ℕ)
@@ -38,6 +41,12 @@ at_any_moment world caller key budget t later none rule.Started below =
     ((λ (among, (id, round, named, kept, is)). absurd cc), (none rule.Started below).1)
 at_any_moment world caller key budget t later none r below = none r below
 
+-- what is remembered of one puzzle and budget is so of the same ones
+remembered : (memo : Option MemoView) (puzzle other : Board) (budget limit : ℕ) → puzzle ≡ other → budget ≡ limit
+    → Remembers memo puzzle budget → Remembers memo other limit
+remembered memo puzzle other budget limit same within is =
+    record { found = is.found; is = is.is; same = is.same ∙ same; within = is.within ∙ within }
+
 -- the caller, the decision and the puzzle are those of the store's world
 module _ (world : World) (request : Request) (facts : Facts) (sender : List ℕ) (key : PuzzleKey) (budget t : ℕ)
     (asks : request.action ≡ Certify key budget) (sent : request.key ≡ Some sender)
@@ -53,10 +62,16 @@ module _ (world : World) (request : Request) (facts : Facts) (sender : List ℕ)
       (at_any_moment world facts.caller key budget t later (subst (λ (a : Action). First world facts.caller a t Allow)
       asks decided.first)))
 
-  pub search_asked : (found : Option Wanted) → IfSome found (IsSearchOfFound facts.puzzle sender key budget)
-      → IfSome found (IsSearchFor world request)
-  search_asked None is = tt
-  search_asked (Some search) is = record {
+  pub search_asked : (memo : Option MemoView) (found : Option Wanted)
+      → IsFoundOf facts.puzzle sender key budget memo found → IsFoundFor world request memo found
+  search_asked memo None is = λ wanted needs.
+      let named : Certify needs.needs.key needs.needs.budget ≡ Certify key budget = sym needs.needs.asked ∙ asks in
+      let same : needs.needs.key ≡ key = cc in
+      let within : needs.needs.budget ≡ budget = cc in
+      let kept : facts.puzzle ≡ Some needs.needs.row = looked_up ∙ ap (get world.puzzles) (sym same) ∙ needs.needs.kept in
+      remembered memo _ _ _ _ (sym needs.puzzle) (sym within ∙ sym needs.within)
+      (is needs.needs.row kept needs.needs.unsettled)
+  search_asked memo (Some search) is = record {
     needs = record {
       key = key;
       budget = budget;
@@ -73,16 +88,39 @@ module _ (world : World) (request : Request) (facts : Facts) (sender : List ℕ)
   }
 
 -- so what is told of a decision is told of the search
-pub told_asked : (found : Option Wanted) (old new : Content) (request : Request) (facts : Facts) (decision : Decision)
-    (sender : List ℕ) (key : PuzzleKey) (budget t : ℕ) →
+pub told_asked : (memo : Option MemoView) (found : Option Wanted) (old new : Content) (request : Request)
+    (facts : Facts) (decision : Decision) (sender : List ℕ) (key : PuzzleKey) (budget t : ℕ) →
     request.action ≡ Certify key budget → request.key ≡ Some sender
     → (new.honest → new.serves → IsCaller new.world request.key facts.caller) →
     (new.honest → old.serves → new.serves) × (new.honest → new.serves
     → IsDecided new.world facts request.action t decision) → decision ≡ Allow →
-    IfSome found (IsSearchOfFound facts.puzzle sender key budget) → Told {R = Option Wanted} {E = StoreFault} old new
-    (Ok found) (λ world search. IfSome search (IsSearchFor world request))
-told_asked found old new request facts decision sender key budget t asks sent caller told allows is = (
+    IsFoundOf facts.puzzle sender key budget memo found → Told {R = Option Wanted} {E = StoreFault} old new
+    (Ok found) (λ world. IsFoundFor world request memo)
+told_asked memo found old new request facts decision sender key budget t asks sent caller told allows is = (
   told.0,
   (λ h s. search_asked new.world request facts sender key budget t asks sent (caller h s)
-      (subst (λ (d : Decision). IsDecided new.world facts request.action t d) allows (told.1 h s)) found is),
+      (subst (λ (d : Decision). IsDecided new.world facts request.action t d) allows (told.1 h s)) memo found is),
 )
+
+-- a request that the rules don't allow needs no search
+pub none_denied : (world : World) (request : Request) (memo : Option MemoView) (facts : Facts) (t : ℕ) (d : Decision)
+    → IsCaller world request.key facts.caller → IsDecided world facts request.action t d → d ≢ Allow
+    → IsPrepared world request memo
+none_denied world request memo facts t d caller decided not wanted is =
+    absurd (not (decisions_agree world facts.caller request.action t d Allow decided.first
+    (subst (λ (who : Option Person). First world who request.action t Allow) (sym caller.found)
+    (is.needs.allowed t))))
+
+-- all searches that a request needs are of one puzzle, within one budget
+pub prepared_by : (world : World) (request : Request) (memo : Option MemoView) (wanted : Wanted)
+    → IsSearchFor world request wanted → Remembers memo wanted.puzzle wanted.budget → IsPrepared world request memo
+prepared_by world request memo wanted first is other second =
+    let named : Certify first.needs.key first.needs.budget ≡ Certify second.needs.key second.needs.budget =
+    sym first.needs.asked ∙ second.needs.asked in
+    let same : first.needs.key ≡ second.needs.key = cc in
+    let within : first.needs.budget ≡ second.needs.budget = cc in
+    let rows : Some first.needs.row ≡ Some second.needs.row =
+    sym first.needs.kept ∙ ap (get world.puzzles) same ∙ second.needs.kept in
+    let row : first.needs.row ≡ second.needs.row = cc in
+    remembered memo _ _ _ _ (first.puzzle ∙ ap (λ (r : PuzzleRow). r.puzzle) row ∙ sym second.puzzle)
+    (first.within ∙ within ∙ sym second.within) is

@@ -1,5 +1,5 @@
 -- The search that a request waits for.
-use Rattle.std.specs.Prelude.{◌≡◌, ℕ, List, Option, Some, Bool, true, false}
+use Rattle.std.specs.Prelude.{◌≡◌, ℕ, List, Option, Some, None, true}
 use Rattle.std.specs.FinMap.{get}
 use Rattle.hall_policy.specs.World.{World}
 use Rattle.hall_policy.specs.First.{First}
@@ -8,6 +8,7 @@ use Rattle.hall_policy.specs.declared.record.PuzzleRow.{PuzzleRow}
 use Rattle.hall_policy.specs.declared.request.Action.TheVariants.{Certify}
 use Rattle.hall_policy.specs.declared.request.Request.{Request}
 use Rattle.hall_policy.specs.declared.rule.Decision.TheVariants.{Allow}
+use Rattle.hall_desk.specs.Memo.{MemoView, Remembers}
 use Rattle.hall_desk.specs.Step.{is_open}
 use Rattle.hall_store.specs.Caller.{caller_of}
 use Rattle.hall_store.specs.Store.{Content}
@@ -33,6 +34,16 @@ pub record IsSearchFor (world : World) (request : Request) (search : Wanted) : T
   pub puzzle : search.puzzle ≡ needs.row.puzzle
   pub within : search.budget ≡ needs.budget
 
+-- whatever search the request needs, what it finds is remembered
+abbrev pub IsPrepared : World → Request → Option MemoView → Type 0
+IsPrepared world request memo =
+    (search : Wanted) → IsSearchFor world request search → Remembers memo search.puzzle search.budget
+
+-- the search that the request needs; or none, where nothing is left to search
+abbrev pub IsFoundFor : World → Request → Option MemoView → Option Wanted → Type 0
+IsFoundFor world request memo (Some search) = IsSearchFor world request search
+IsFoundFor world request memo None = IsPrepared world request memo
+
 -- the search is of the puzzle that was found under the name, of which no search came to an end yet, within the budget,
 -- for whoever has the key
 pub record IsSearchOfFound (found : Option PuzzleRow) (sender : List ℕ) (name : PuzzleKey) (budget : ℕ)
@@ -45,7 +56,12 @@ pub record IsSearchOfFound (found : Option PuzzleRow) (sender : List ℕ) (name 
   pub puzzle : search.puzzle ≡ row.puzzle
   pub within : search.budget ≡ budget
 
+-- it is; or there is none, where no puzzle was found, a search of it came to an end, or what one found is remembered
+abbrev pub IsFoundOf : Option PuzzleRow → List ℕ → PuzzleKey → ℕ → Option MemoView → Option Wanted → Type 0
+IsFoundOf found sender name budget memo (Some search) = IsSearchOfFound found sender name budget search
+IsFoundOf found sender name budget memo None =
+    (row : PuzzleRow) → found ≡ Some row → is_open row.state ≡ true → Remembers memo row.puzzle budget
+
 -- a request that is to wait needs a search, over an honest store that serves
-abbrev pub MayWait : Content → Request → Bool → Type 0
-MayWait content request true = Unit {0}
-MayWait content request false = content.honest → content.serves → NeedsSearch content.world request
+abbrev pub MayWait : Content → Request → Type 0
+MayWait content request = content.honest → content.serves → NeedsSearch content.world request

@@ -12,6 +12,7 @@ ghost use Rattle.hall_desk.specs.Promises.{HasUniqueSolutions, RightAnswersAreSo
 ghost use Rattle.hall_desk.specs.Plan.{planned_reply, planned_change};
 ghost use Rattle.hall_desk.specs.Plans.{Planned, IsStepOver, Seeds, Runs, FailsIn, IsNobodys, AreNobodys, IsAvailable};
 ghost use Rattle.hall_desk.specs.Wanted.{MayWait};
+ghost use Rattle.hall_desk.specs.declared.preparing.Prepared.TheVariants as Prepared;
 ghost use Rattle.hall_desk.specs.Plans.{IsQuietPlan, IsSeedReply, AreStepped, NobodysAreAnswered, WritesIfAny};
 ghost use Rattle.hall_desk.specs.Plans.{StopsWithin, StopsInSeed, LeavesRun, SeedCanFail};
 ghost use Rattle.hall_desk.specs.Together.{IsPlanBeside};
@@ -21,13 +22,13 @@ use crate::copies::Copies;
 use crate::memo::Memo;
 use crate::plan::Plan;
 use crate::planning::make_plan;
+use crate::preparing::{Prepared, prepare};
 use crate::reply::Reply;
 use crate::seed::seed;
 use crate::serving::still_serves;
 use crate::step::{make, run, step};
 use crate::together::plan_beside;
-use crate::under_way::{Searches, search_on};
-use crate::wanted_search::search_for;
+use crate::under_way::Searches;
 use crate::{round_copy, table_copy};
 use hall_policy::{Moment, People, Request};
 use hall_store::{Change, JointAnswers, ReadStore, Store, StoreFault};
@@ -121,19 +122,22 @@ impl<S: ReadStore> Desk<S> {
         plan_beside(alloc, &mut self.store, joint, t, request)
     }
 
-    /// Works for a while on what a plan of the request needs, and tells whether to answer it now, or to ask so again.
+    /// Works for a while on what a plan of the request needs: it is to be answered now, or asked so again, or refused.
     /// An allowed Certify waits until its puzzle has been searched, some visits a time, and no other request does; one
     /// that wants the puzzle and budget of a search under way joins it. At most eight are, one for each key; others
     /// wait until one may begin. Reads only, and of a stranger's request the caller alone.
-    pub fn prepare(&mut self, alloc: Global, request: &Request) -> bool
+    pub fn prepare(&mut self, alloc: Global, request: &Request) -> Prepared
         ensures kept { Kept (S.content (kept_by self.old)) (S.content (kept_by self.new)) }
         ensures untouched { IsNobodys request.now → kept_by self.new ≡ kept_by self.old }
-        ensures waits { MayWait (S.content (kept_by self.new)) request.now result }
+        ensures waits { result ≡ Prepared.Waits → MayWait (S.content (kept_by self.new)) request.now }
     {
-        match search_for(alloc, &mut self.store, request, &self.memo) {
-            Ok(Some(wanted)) => search_on(alloc, &mut self.searches, &mut self.memo, wanted),
-            Ok(None) | Err(_) => true,
-        }
+        prepare(
+            alloc,
+            &mut self.store,
+            request,
+            &mut self.searches,
+            &mut self.memo,
+        )
     }
 
     /// Whether the last write that was to be made failed, and not for memory, as on a full device. No clause speaks of

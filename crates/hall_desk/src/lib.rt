@@ -26,6 +26,7 @@ mod list_rounds;
 mod memo;
 mod plan;
 mod planning;
+mod preparing;
 mod protest;
 mod protests;
 mod publish;
@@ -65,6 +66,7 @@ mod whole;
 pub use census::Census;
 pub use desk::Desk;
 pub use plan::Plan;
+pub use preparing::Prepared;
 pub use puzzle_states::States;
 pub use reply::{
     AnswerLine, ProtestLine, PuzzleLine, Reply, RoundLine, ShownPuzzle, ShownRound, StateName,

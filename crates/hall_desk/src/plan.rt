@@ -1,6 +1,6 @@
 //! What a request will be answered and will change.
-ghost use Rattle.std.specs.Prelude.{◌≡◌, ◌↔◌, None, true};
-ghost use Rattle.hall_desk.specs.Plan.{CanJoin, planned_reply};
+ghost use Rattle.std.specs.Prelude.{◌≡◌, None};
+ghost use Rattle.hall_desk.specs.Plan.{planned_reply};
 
 use crate::reply::Reply;
 use hall_solve::Visits;
@@ -32,15 +32,5 @@ impl Plan {
         ensures { result.now ≡ planned_reply self.now }
     {
         &self.reply
-    }
-
-    /// Whether it can join answers that are stored together: it stores one answer, or changes nothing.
-    pub fn can_join(&self) -> bool
-        ensures { result ≡ true ↔ CanJoin self.now }
-    {
-        match &self.change {
-            Change::Nothing | Change::AddAnswer(_) => true,
-            _ => false,
-        }
     }
 }

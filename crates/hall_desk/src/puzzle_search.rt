@@ -1,5 +1,5 @@
 //! The search of a puzzle, by the rules of its kind.
-ghost use Rattle.std.specs.Prelude.{◌≡◌, IfOk, IsTrue};
+ghost use Rattle.std.specs.Prelude.{◌≡◌, ◌↔◌, IfOk, IsTrue};
 ghost use Rattle.hall_desk.specs.Certifying.{IsGoneOn};
 ghost use Rattle.hall_desk.specs.Underway.{IsUnderWayOf, visits_of_kind};
 ghost use Rattle.hall_desk.specs.Finding.{IsFoundBy};
@@ -96,7 +96,7 @@ impl PuzzleSearch {
 
     /// Whether it is of this puzzle.
     pub(crate) fn is_of_puzzle(&self, puzzle: &Puzzle) -> bool
-        ensures { IsTrue result → self.now.puzzle ≡ puzzle.now }
+        ensures { IsTrue result ↔ self.now.puzzle ≡ puzzle.now }
     {
         self.puzzle.is_same(puzzle)
     }
@@ -105,6 +105,7 @@ impl PuzzleSearch {
     pub(crate) fn is_of(&self, puzzle: &Puzzle, budget: u64) -> bool
         ensures puzzle { IsTrue result → self.now.puzzle ≡ puzzle.now }
         ensures budget { IsTrue result → self.now.budget ≡ budget }
+        ensures both { self.now.puzzle ≡ puzzle.now → self.now.budget ≡ budget → IsTrue result }
     {
         self.is_of_puzzle(puzzle) && self.budget == budget
     }

@@ -1,10 +1,16 @@
 //! The searches that requests wait for, each gone on with for a while whenever its request has its turn.
-ghost use Rattle.std.specs.Prelude.{◌≡◌, ◌<◌, ℕ, IfNone, IfOk, IfSome, IsTrue, Some, length};
+ghost use Rattle.std.specs.Prelude.{◌≡◌, ◌≢◌, ◌↔◌, ◌⊎◌, ◌<◌, ◌≤◌, ◌+◌, ℕ, IfErr, IfNone, IfOk, IfSome, IsTrue};
+ghost use Rattle.std.specs.Prelude.{MatchOption, None, Some, false, length, slice_set, true};
+ghost use Rattle.hall_solve.specs.Searched.{visits_made, visits_of};
 ghost use Rattle.hall_desk.specs.Memo.{Remembers};
-ghost use Rattle.hall_desk.specs.Searches.{IsAt, IsFreeFor, IsPutAt, IsWanted};
+ghost use Rattle.hall_desk.specs.Searches.{Begins, GivesWay, HasNoPlace, HasWorked, IsAsked, IsAt, IsFreeFor, IsOpenFor};
+ghost use Rattle.hall_desk.specs.Searches.{IsPutAt, WaitsAmong, asked_once};
+ghost use Rattle.hall_desk.specs.Searches.{IsUnasked, IsWanted, IsWorkOfTurn, IsWorked, StaysAt};
+ghost use Rattle.hall_desk.specs.declared.preparing.Prepared.TheVariants as Prepared;
 ghost use Rattle.hall_desk.specs.declared.under_way.Underway.{Underway};
 
 use crate::memo::Memo;
+use crate::preparing::Prepared;
 use crate::puzzle_search::{Certifying, PuzzleSearch};
 use crate::search_outcome::Finding;
 use crate::wanted_search::Wanted;
@@ -29,8 +35,8 @@ struct Underway {
     last: u64,
 }
 
-/// The searches under way, at most one for each key, how often any was asked for, and at which time one ended last. A
-/// contract sees the places alone.
+/// The searches under way, at most one for each key, how often any was asked for, and how often it was when one came to
+/// its end last.
 #[derive(Drop)]
 pub(crate) struct Searches {
     places: Vec<Option<Underway>>,
@@ -39,13 +45,11 @@ pub(crate) struct Searches {
 }
 
 impl Model for Searches {
-    ghost use Rattle.std.specs.Prelude.{List, Option};
-    ghost use Rattle.hall_desk.specs.Searches.{AreUnderWay};
-    ghost use Rattle.hall_desk.specs.declared.under_way.Underway.{Underway};
+    ghost use Rattle.hall_desk.specs.Searches.{AreUnderWay, SearchesView};
 
-    ghost Value = { List (Option Underway) };
+    ghost Value = { SearchesView };
 
-    ghost view = { λ s. s.places.items };
+    ghost view = { λ s. record { places = s.places.items; asked = s.asked; ended = s.ended } };
 
     ghost invariant = { λ s. AreUnderWay s.places.items };
 }
@@ -53,7 +57,9 @@ impl Model for Searches {
 impl Searches {
     /// None yet.
     pub(crate) fn new(alloc: Global) -> Result<Searches, AllocError>
-        ensures { IfOk result (λ searches. (place : ℕ) (a : Underway) → ¬ (IsAt searches place a)) }
+        ensures none { IfOk result (λ searches. (place : ℕ) (a : Underway) → ¬ (IsAt searches.places place a)) }
+        ensures asked { IfOk result (λ searches. searches.asked ≡ 1) }
+        ensures ended { IfOk result (λ searches. searches.ended ≡ 0) }
     {
         let mut places = Vec::with_capacity(alloc, MOST_SEARCHES)?;
         for _place in 0..MOST_SEARCHES {
@@ -69,17 +75,37 @@ impl Searches {
     /// Goes on for a while with the search that is wanted, and tells what was found if it came to its end. One that
     /// isn't under way begins where it may, and makes no visit yet: so a request has none before its second turn. A
     /// search that is refused memory is gone, and begins anew when it is asked for again.
-    pub(crate) fn go_on(&mut self, alloc: Global, wanted: Wanted) -> Option<Finding>
-        ensures puzzle { IfSome result (λ found. found.puzzle ≡ wanted.puzzle) }
-        ensures budget { IfSome result (λ found. found.budget ≡ wanted.budget) }
+    pub(crate) fn go_on(
+        &mut self,
+        alloc: Global,
+        wanted: Wanted,
+    ) -> Result<Option<Finding>, AllocError>
+        ensures { HasWorked (asked_once self.old) wanted result self.new }
+    {
+        self.ask();
+        self.work(alloc, wanted)
+    }
+
+    /// Counts that a search was asked for.
+    fn ask(&mut self)
+        ensures { self.new ≡ asked_once self.old }
     {
         self.asked = self.asked.saturating_add(1);
+    }
+
+    /// Goes on with the search that is wanted, or begins it where it may.
+    fn work(&mut self, alloc: Global, wanted: Wanted) -> Result<Option<Finding>, AllocError>
+        ensures { HasWorked self.old wanted result self.new }
+    {
         let Some(place) = self.place_of(&wanted) else {
-            self.begin(alloc, wanted);
-            return None;
+            self.begin(alloc, wanted)?;
+            return Ok(None);
         };
-        let underway = self.take(place)?;
-        self.go_on_at(alloc, place, underway, visits_of_turn(&wanted.puzzle))
+        let most = visits_of_turn(&wanted.puzzle);
+        match self.take(place) {
+            Some(underway) => self.go_on_at(alloc, place, underway, most),
+            None => unreachable!(),
+        }
     }
 
     /// Makes so many visits of a search that was taken off the place, and puts it back where it isn't at its end.
@@ -89,10 +115,18 @@ impl Searches {
         place: usize,
         underway: Underway,
         most: u64,
-    ) -> Option<Finding>
-        requires { IsFreeFor self.old underway.key place }
-        ensures puzzle { IfSome result (λ found. found.puzzle ≡ underway.search.puzzle) }
-        ensures budget { IfSome result (λ found. found.budget ≡ underway.search.budget) }
+    ) -> Result<Option<Finding>, AllocError>
+        requires free { IsFreeFor self.old.places underway.key place }
+        requires inside { place < length self.old.places }
+        ensures asked { self.new.asked ≡ self.old.asked }
+        ensures ended { IfOk result (λ found. MatchOption found (self.new.ended ≡ self.old.ended)
+            (λ finding. (self.new.ended ≡ self.old.asked) × (self.new.places ≡ self.old.places)
+            × (finding.puzzle ≡ underway.search.puzzle) × (finding.budget ≡ underway.search.budget)
+            × (visits_made (visits_of finding.searched) ≤ underway.search.visits + most))) }
+        ensures paused { IfOk result (λ found. IfNone found
+            ((underway.search.visits + most < underway.search.budget) × (b : Underway)
+            × IsWorked self.old underway most b × IsPutAt self.old.places place b self.new.places)) }
+        ensures refused { IfErr result (λ _. self.new ≡ self.old) }
     {
         let Underway {
             key,
@@ -100,22 +134,22 @@ impl Searches {
             search,
             ..
         } = underway;
-        match search.go_on(alloc, most) {
-            Ok(Certifying::Found(finding)) => {
+        match search.go_on(alloc, most)? {
+            Certifying::Found(finding) => {
                 self.ended = self.asked;
-                Some(finding)
+                Ok(Some(finding))
             }
-            Ok(Certifying::Paused(search)) => {
+            Certifying::Paused(search) => {
                 self.put(place, key, name, search);
-                None
+                Ok(None)
             }
-            Err(_) => None,
         }
     }
 
     /// The place of the search that is wanted, if it is under way.
     fn place_of(&self, wanted: &Wanted) -> Option<usize>
-        ensures { IfSome result (λ place. (a : Underway) × IsAt self.now place a × IsWanted wanted.now a) }
+        ensures some { IfSome result (λ place. (a : Underway) × IsAt self.now.places place a × IsWanted wanted.now a) }
+        ensures none { IfNone result (IsUnasked self.now wanted.now) }
     {
         for place in 0..self.places.len() {
             if let Some(underway) = &self.places[place]
@@ -129,8 +163,9 @@ impl Searches {
 
     /// The place of the search that is under way for the key, if any is.
     fn place_for(&self, key: &Key) -> Option<usize>
-        ensures some { IfSome result (λ place. (a : Underway) × IsAt self.now place a × (a.key ≡ key.now)) }
-        ensures none { IfNone result ((place : ℕ) (a : Underway) → IsAt self.now place a → ¬ (a.key ≡ key.now)) }
+        ensures some { IfSome result (λ place. (a : Underway) × IsAt self.now.places place a × (a.key ≡ key.now)) }
+        ensures none { IfNone result
+            ((place : ℕ) (a : Underway) → IsAt self.now.places place a → ¬ (a.key ≡ key.now)) }
     {
         for place in 0..self.places.len() {
             if let Some(underway) = &self.places[place]
@@ -146,7 +181,9 @@ impl Searches {
     /// that connection would always come first; and while one is under way for its key none but that one's, if that
     /// one makes room.
     fn free_place(&self, wanted: &Wanted) -> Option<usize>
-        ensures { IfSome result (IsFreeFor self.now wanted.now.key) }
+        ensures some { IfSome result (λ place. (place < length self.now.places) × IsOpenFor self.now wanted.now place
+            × IsFreeFor self.now.places wanted.now.key place) }
+        ensures none { IfNone result (HasNoPlace self.now wanted.now) }
     {
         if self.asked.saturating_sub(self.ended) == 1 {
             return None;
@@ -158,39 +195,42 @@ impl Searches {
         }
     }
 
-    /// Whether the search at the place makes room for the one that is wanted.
-    fn makes_room(&self, place: usize, wanted: &Wanted) -> bool {
-        match self.places.get(place) {
-            Some(Some(underway)) => is_replaced(underway, wanted) || self.is_forgotten(underway),
-            Some(None) => true,
-            None => false,
+    /// Whether the place is free, or its search makes room for the one that is wanted.
+    fn makes_room(&self, place: usize, wanted: &Wanted) -> bool
+        requires { place < length self.now.places }
+        ensures room { result ≡ true → IsOpenFor self.now wanted.now place }
+        ensures stays { result ≡ false → (a : Underway) × StaysAt self.now wanted.now place a }
+    {
+        match &self.places[place] {
+            Some(underway) => gives_way(underway, wanted, self.asked),
+            None => true,
         }
     }
 
-    /// Whether nobody asked for the search while any were so often.
-    fn is_forgotten(&self, underway: &Underway) -> bool {
-        self.asked.saturating_sub(underway.last) > FORGOTTEN
-    }
-
-    /// A place that is free or whose search was replaced, or else one whose search is forgotten.
-    fn any_place(&self, wanted: &Wanted) -> Option<usize> {
-        let mut free = None;
-        let mut left = None;
+    /// A place that is free, or whose search makes room.
+    fn any_place(&self, wanted: &Wanted) -> Option<usize>
+        ensures some { IfSome result (λ place. (place < length self.now.places) × IsOpenFor self.now wanted.now place) }
+        ensures none { IfNone result ((place : ℕ) → place < length self.now.places →
+            (a : Underway) × StaysAt self.now wanted.now place a) }
+    {
         for place in 0..self.places.len() {
-            match &self.places[place] {
-                None => free = Some(place),
-                Some(underway) if is_replaced(underway, wanted) => free = Some(place),
-                Some(underway) if self.is_forgotten(underway) => left = Some(place),
-                Some(_) => {}
+            if self.makes_room(place, wanted) {
+                return Some(place);
             }
         }
-        if free.is_some() { free } else { left }
+        None
     }
 
-    /// Begins the search that is wanted, where it may, and where there is memory for it.
-    fn begin(&mut self, alloc: Global, wanted: Wanted) {
+    /// Begins the search that is wanted, where it may.
+    fn begin(&mut self, alloc: Global, wanted: Wanted) -> Result<(), AllocError>
+        ensures asked { self.new.asked ≡ self.old.asked }
+        ensures ended { self.new.ended ≡ self.old.ended }
+        ensures begun { IfOk result (λ _. Begins self.old wanted self.new.places
+            ⊎ (self.new.places ≡ self.old.places) × HasNoPlace self.old wanted) }
+        ensures refused { IfErr result (λ _. self.new.places ≡ self.old.places) }
+    {
         let Some(place) = self.free_place(&wanted) else {
-            return;
+            return Ok(());
         };
         let Wanted {
             key,
@@ -198,15 +238,18 @@ impl Searches {
             puzzle,
             budget,
         } = wanted;
-        if let Ok(search) = PuzzleSearch::new(alloc, puzzle, budget) {
-            self.put(place, key, name, search);
-        }
+        let search = PuzzleSearch::new(alloc, puzzle, budget)?;
+        self.put(place, key, name, search);
+        Ok(())
     }
 
     /// Takes the search off the place, if there is one.
     fn take(&mut self, place: usize) -> Option<Underway>
-        ensures taken { IfSome result (IsAt self.old place) }
-        ensures free { IfSome result (λ taken. IsFreeFor self.new taken.key place) }
+        ensures taken { IfSome result (IsAt self.old.places place) }
+        ensures inside { IfSome result (λ _. place < length self.old.places) }
+        ensures left { IfSome result (λ _. self.new ≡ record self.old { places = slice_set self.old.places place None }) }
+        ensures free { IfSome result (λ taken. IsFreeFor self.new.places taken.key place) }
+        ensures none { IfNone result ((a : Underway) → ¬ (IsAt self.old.places place a)) }
     {
         if place >= self.places.len() {
             return None;
@@ -216,8 +259,10 @@ impl Searches {
 
     /// Puts a search that was asked for now to the place.
     fn put(&mut self, place: usize, key: Key, name: PuzzleKey, search: PuzzleSearch)
-        requires { IsFreeFor self.old key place }
-        ensures { place < length self.old → IsPutAt self.old place key name search self.new }
+        requires free { IsFreeFor self.old.places key place }
+        requires inside { place < length self.old.places }
+        ensures put { (b : Underway) × IsAsked key name search.puzzle search.budget search.visits self.old.asked b
+            × (self.new ≡ record self.old { places = slice_set self.old.places place (Some b) }) }
     {
         let underway = Underway {
             key,
@@ -225,9 +270,7 @@ impl Searches {
             search,
             last: self.asked,
         };
-        if place < self.places.len() {
-            put_at(&mut self.places[place], underway);
-        }
+        put_at(&mut self.places[place], underway);
     }
 }
 
@@ -238,47 +281,60 @@ fn put_at(place: &mut Option<Underway>, underway: Underway)
     *place = Some(underway);
 }
 
-/// Goes on for a while with the search that is wanted, and tells whether it is remembered what it found. Where there is
-/// no memory to remember it, nothing is.
+/// Goes on for a while with the search that is wanted, and tells whether it is remembered what it found.
 pub(crate) fn search_on(
     alloc: Global,
     searches: &mut Option<Searches>,
     memo: &mut Option<Memo>,
     wanted: Wanted,
-) -> bool
-    ensures { IsTrue result → Remembers memo.new wanted.puzzle wanted.budget }
+) -> Prepared
+    ensures ready { result ≡ Prepared.Ready → Remembers memo.new wanted.puzzle wanted.budget }
+    ensures waits { result ≡ Prepared.Waits → WaitsAmong searches.old wanted searches.new }
 {
     let mut under_way = match searches.take() {
         Some(under_way) => under_way,
         None => match Searches::new(alloc) {
             Ok(under_way) => under_way,
-            Err(_) => return false,
+            Err(_) => return Prepared::Refused,
         },
     };
-    let found = under_way.go_on(alloc, wanted);
+    let worked = under_way.go_on(alloc, wanted);
     *searches = Some(under_way);
-    match found {
-        Some(finding) => remember(alloc, memo, finding),
-        None => false,
+    match worked {
+        Ok(Some(finding)) => remember(alloc, memo, finding),
+        Ok(None) => Prepared::Waits,
+        Err(_) => Prepared::Refused,
     }
 }
 
-/// Remembers what a search found in place of what was, and tells whether it does. Refused, it remembers nothing.
-fn remember(alloc: Global, memo: &mut Option<Memo>, finding: Finding) -> bool
-    ensures { IsTrue result → Remembers memo.new finding.puzzle finding.budget }
+/// Remembers what a search found in place of what was. Refused, it remembers nothing.
+fn remember(alloc: Global, memo: &mut Option<Memo>, finding: Finding) -> Prepared
+    ensures ready { result ≡ Prepared.Ready → Remembers memo.new finding.puzzle finding.budget }
+    ensures ends { result ≢ Prepared.Waits }
 {
     *memo = None;
-    *memo = Memo::of(alloc, finding).ok();
-    memo.is_some()
+    match Memo::of(alloc, finding) {
+        Ok(found) => {
+            *memo = Some(found);
+            Prepared::Ready
+        }
+        Err(_) => Prepared::Refused,
+    }
 }
 
-/// Whether another puzzle was put under the name since the search began.
-fn is_replaced(underway: &Underway, wanted: &Wanted) -> bool {
-    underway.name == wanted.name && !underway.search.is_of_puzzle(&wanted.puzzle)
+/// Whether the search gives way to the one that is wanted, after so many were asked for: another puzzle was put under
+/// its name since it began, or nobody asked for it while any were so often.
+fn gives_way(underway: &Underway, wanted: &Wanted, asked: u64) -> bool
+    ensures { IsTrue result ↔ GivesWay asked wanted.now underway.now }
+{
+    let is_replaced = underway.name == wanted.name && !underway.search.is_of_puzzle(&wanted.puzzle);
+    is_replaced || asked.saturating_sub(underway.last) > FORGOTTEN
 }
 
 /// How many visits a turn has: a few milliseconds at most, by what a visit of such a board may take.
-fn visits_of_turn(puzzle: &Puzzle) -> u64 {
+fn visits_of_turn(puzzle: &Puzzle) -> u64
+    ensures { IsWorkOfTurn puzzle.now result }
+{
     let cells = match puzzle.kind() {
         Kind::Sudoku => 20_000,
         Kind::Slither => 5_000,

@@ -1,12 +1,11 @@
 //! The search that a request waits for.
 ghost use Rattle.std.specs.Prelude.{◌≡◌, ◌↔◌, IfOk, IfSome, IsTrue, Some};
-ghost use Rattle.hall_policy.specs.Decided.{PassesUpTo};
 ghost use Rattle.hall_store.specs.Store.{Asks, Kept, Told};
 ghost use Rattle.hall_desk.specs.Handler.{certify_action};
 ghost use Rattle.hall_desk.specs.Lookups.{IsCaller};
 ghost use Rattle.hall_desk.specs.Memo.{Remembers};
 ghost use Rattle.hall_desk.specs.Plans.{FailsIn, IsNobodys};
-ghost use Rattle.hall_desk.specs.Wanted.{IsSearchFor, IsSearchOfFound};
+ghost use Rattle.hall_desk.specs.Wanted.{IsFoundFor, IsFoundOf};
 
 use crate::certify_puzzle::{Certify, is_open};
 use crate::handler::Handler;
@@ -40,7 +39,7 @@ pub(crate) fn search_for<S: ReadStore>(
     ensures untouched { IsNobodys request.now → store.new ≡ store.old }
     ensures fault { FailsIn (S.content store.new) result }
     ensures told { Told (S.content store.old) (S.content store.new) result
-        (λ world found. IfSome found (IsSearchFor world request.now)) }
+        (λ world. IsFoundFor world request.now memo.now) }
     ensures fresh { IfOk result (λ found. IfSome found
         (λ search. ¬ (Remembers memo.now search.puzzle search.budget))) }
 {
@@ -77,7 +76,7 @@ fn search_by_key<S: ReadStore>(
     ensures kept { Kept (S.content store.old) (S.content store.new) }
     ensures fault { FailsIn (S.content store.new) result }
     ensures told { Told (S.content store.old) (S.content store.new) result
-        (λ world found. IfSome found (IsSearchFor world asked.now.request.now)) }
+        (λ world. IsFoundFor world asked.now.request.now certified.now.memo.now) }
     ensures fresh { IfOk result (λ found. IfSome found
         (λ search. ¬ (Remembers certified.now.memo.now search.puzzle search.budget))) }
 {
@@ -87,8 +86,7 @@ fn search_by_key<S: ReadStore>(
     found
 }
 
-/// The search for whoever has the key, by facts that tell of nothing yet. The rules on the caller are asked before the
-/// puzzle is looked up.
+/// The search for whoever has the key, by facts that tell of nothing yet.
 fn search_by_facts<S: ReadStore>(
     asked: &RequestAt,
     store: &mut S,
@@ -101,18 +99,16 @@ fn search_by_facts<S: ReadStore>(
     ensures kept { Kept (S.content store.old) (S.content store.new) }
     ensures fault { FailsIn (S.content store.new) result }
     ensures told { Told (S.content store.old) (S.content store.new) result
-        (λ world found. IfSome found (IsSearchFor world asked.now.request.now)) }
+        (λ world. IsFoundFor world asked.now.request.now certified.now.memo.now) }
     ensures fresh { IfOk result (λ found. IfSome found
         (λ search. ¬ (Remembers certified.now.memo.now search.puzzle search.budget))) }
 {
     facts.caller = store.person_by_key(asked.alloc, pass)?;
-    match caller_rule(facts, &asked.request.action, asked.t) {
-        Some(_) => Ok(None),
-        None => search_for_caller(asked, store, pass, certified, facts),
-    }
+    search_for_caller(asked, store, pass, certified, facts)
 }
 
-/// The search for a caller whom the rules on the caller let pass: of the puzzle, where the action is allowed.
+/// The search for the caller: of the puzzle, where the action is allowed. The rules on the caller are asked before the
+/// puzzle is looked up.
 fn search_for_caller<S: ReadStore>(
     asked: &RequestAt,
     store: &mut S,
@@ -123,14 +119,16 @@ fn search_for_caller<S: ReadStore>(
     requires action { asked.now.request.now.action ≡ certify_action certified.now }
     requires key { asked.now.request.now.key ≡ Some pass.now }
     requires caller { Asks (S.content store.old) (λ world. IsCaller world asked.now.request.now.key facts.old.caller) }
-    requires passed { PassesUpTo 3 facts.old asked.now.request.now.action asked.now.t }
     ensures kept { Kept (S.content store.old) (S.content store.new) }
     ensures fault { FailsIn (S.content store.new) result }
     ensures told { Told (S.content store.old) (S.content store.new) result
-        (λ world found. IfSome found (IsSearchFor world asked.now.request.now)) }
+        (λ world. IsFoundFor world asked.now.request.now certified.now.memo.now) }
     ensures fresh { IfOk result (λ found. IfSome found
         (λ search. ¬ (Remembers certified.now.memo.now search.puzzle search.budget))) }
 {
+    if let Some(_rule) = caller_rule(facts, &asked.request.action, asked.t) {
+        return Ok(None);
+    }
     match certified.decision(asked.alloc, store, asked.t, &asked.request.action, facts)? {
         Decision::Allow => Ok(search_of_found(facts, pass, certified)?),
         Decision::Deny(_) | Decision::Repeat => Ok(None),
@@ -143,8 +141,8 @@ fn search_of_found(
     pass: &Key,
     certified: &Certify,
 ) -> Result<Option<Wanted>, AllocError>
-    ensures found { IfOk result (λ found. IfSome found
-        (IsSearchOfFound facts.now.puzzle pass.now certified.now.key.now certified.now.budget)) }
+    ensures found { IfOk result
+        (IsFoundOf facts.now.puzzle pass.now certified.now.key.now certified.now.budget certified.now.memo.now) }
     ensures fresh { IfOk result (λ found. IfSome found
         (λ search. ¬ (Remembers certified.now.memo.now search.puzzle search.budget))) }
 {

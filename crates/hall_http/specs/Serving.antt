@@ -38,7 +38,7 @@ pub record IsAnsweredOver {H : Type 0} (content : H → Content) (old : H) (mome
 -- the bytes are a request of the hall that needs a search, so that it may be kept waiting for one
 abbrev pub WaitsForSearch : {H : Type 0} → (H → Content) → H → List ℕ → Type 0
 WaitsForSearch content keeper bytes =
-    (request : Request) × RequestOf bytes (Ok request) × MayWait (content keeper) request false
+    (request : Request) × RequestOf bytes (Ok request) × MayWait (content keeper) request
 
 -- the requests are answered over a store, one after another, each over the store that the one before it left: where a
 -- fault has shut it, by 503, or by what no store decides

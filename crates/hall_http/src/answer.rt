@@ -6,6 +6,7 @@ ghost use Rattle.hall_desk.specs.Plans.{IsNobodys, StepCanFail, WritesIfAny};
 ghost use Rattle.hall_desk.specs.Promises.{HasUniqueSolutions, RightAnswersAreSolutions};
 ghost use Rattle.hall_desk.specs.Run.{IsTimed};
 ghost use Rattle.hall_desk.specs.Sane.{Sane};
+ghost use Rattle.hall_desk.specs.declared.preparing.Prepared.TheVariants as Prepared;
 ghost use Rattle.hall_http.specs.Answered.{answer_text, AnswersFault, AnswersOver, AnswersRequestOver, IsStepReply};
 ghost use Rattle.hall_http.specs.Answered.{IsStepReplyOver};
 ghost use Rattle.hall_http.specs.Answered.{IsUnavailable};
@@ -21,7 +22,7 @@ use crate::head::{RawRequest, read_raw_request};
 use crate::reply::{UNAVAILABLE, fault_bytes, reply_bytes};
 use crate::request::request_of;
 use crate::routes::Routes;
-use hall_desk::Desk;
+use hall_desk::{Desk, Prepared};
 use hall_policy::{Action, Moment, Request};
 use hall_store::{Store, StoreFault};
 use std::alloc::Global;
@@ -96,6 +97,7 @@ pub(crate) fn answer_raw_request<S: Store>(
     alloc: Global,
     routes: &Routes,
     desk: &mut Desk<S>,
+    prepared: Prepared,
     moment: Moment,
     raw: &RawRequest<'_>,
 ) -> Answer
@@ -114,26 +116,27 @@ pub(crate) fn answer_raw_request<S: Store>(
     ensures sane { SaneThen Sane (S.content (kept_by desk.old)) (S.content (kept_by desk.new)) }
 {
     match request_of(alloc, routes, raw) {
-        Ok(request) => answer_request(alloc, desk, moment, &request),
+        Ok(request) => answer_request(alloc, desk, prepared, moment, &request),
         Err(RequestFault::Form(fault)) => answer_fault(alloc, fault),
         Err(RequestFault::Memory) => Answer::Unavailable,
     }
 }
 
-/// Works for a while on what the request needs, and tells whether to answer it now, or to ask so again. Reads only.
+/// Works for a while on what the request needs: it is to be answered now, or asked so again, or refused. Reads only.
 pub(crate) fn prepare_raw_request<S: Store>(
     alloc: Global,
     routes: &Routes,
     desk: &mut Desk<S>,
     raw: &RawRequest<'_>,
-) -> bool
+) -> Prepared
     ensures kept { Kept (S.content (kept_by desk.old)) (S.content (kept_by desk.new)) }
-    ensures waits { result ≡ false → (bytes : List ℕ) → IsLentBy bytes raw.now →
+    ensures waits { result ≡ Prepared.Waits → (bytes : List ℕ) → IsLentBy bytes raw.now →
         WaitsForSearch (λ desk. S.content (kept_by desk)) desk.new bytes }
 {
     match request_of(alloc, routes, raw) {
         Ok(request) => desk.prepare(alloc, &request),
-        Err(_) => true,
+        Err(RequestFault::Form(_)) => Prepared::Ready,
+        Err(RequestFault::Memory) => Prepared::Refused,
     }
 }
 
@@ -148,10 +151,12 @@ fn answer_fault(alloc: Global, fault: FormFault) -> Answer
     }
 }
 
-/// The answer to a request, once its change is made.
+/// The answer to a request, once its change is made. One whose preparation was refused is refused too: without what was
+/// to be prepared its plan might work for hours.
 fn answer_request<S: Store>(
     alloc: Global,
     desk: &mut Desk<S>,
+    prepared: Prepared,
     moment: Moment,
     request: &Request,
 ) -> Answer
@@ -171,6 +176,9 @@ fn answer_request<S: Store>(
     // They are read for the ranges that their types keep.
     let _moment = moment.get();
     request.in_range();
+    if let Prepared::Refused = prepared {
+        return unavailable(alloc, desk, request);
+    }
     match step_bytes(alloc, desk, moment, request) {
         Ok(text) => answer_of(text, request),
         Err(_) => unavailable(alloc, desk, request),

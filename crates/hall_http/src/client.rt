@@ -17,6 +17,7 @@ use crate::inbox::Inbox;
 use crate::peer::{Moved, Peer};
 use crate::responder::Responder;
 use crate::routes::Routes;
+use hall_desk::Prepared;
 use hall_policy::Moment;
 use hall_store::JointAnswers;
 use std::alloc::Global;
@@ -132,7 +133,7 @@ impl<P: Peer> Client<P> {
         ensures stands { StandsRightly H.may_wait self.new.connection responder.new result }
         ensures goes { Goes P.traffic 1 self.old result self.new }
     {
-        if !self.connection.prepare(alloc, routes, responder) {
+        if let Prepared::Waits = self.connection.prepare(alloc, routes, responder) {
             return Step::Searches {
                 requests: self.connection.requests,
             };
@@ -145,7 +146,8 @@ impl<P: Peer> Client<P> {
     }
 
     /// The request that waits, if one does, is answered as one that was heard at the moment, and its reply is sent
-    /// once; but one that needs more work isn't answered. The result is whether the responder goes on.
+    /// once; but one that needs more work isn't answered, and one whose work was refused is told 503. The result is
+    /// whether the responder goes on.
     pub(crate) fn answer<H: Responder>(
         &mut self,
         alloc: Global,
@@ -161,10 +163,13 @@ impl<P: Peer> Client<P> {
         let State::Looking = self.connection.state() else {
             return true;
         };
-        if !self.connection.prepare(alloc, routes, responder) {
+        let prepared = self.connection.prepare(alloc, routes, responder);
+        if let Prepared::Waits = prepared {
             return true;
         }
-        let goes_on = self.connection.answer(alloc, routes, responder, moment);
+        let goes_on = self
+            .connection
+            .answer(alloc, routes, responder, prepared, moment);
         self.finish();
         goes_on
     }

@@ -1,6 +1,7 @@
 //! One connection as steps over bytes, with no read and no write of its own: what is heard is handed in, and what is to
 //! be told is handed out.
 ghost use Rattle.std.specs.Prelude.{◌≡◌, ◌≤◌, ◌<◌, ◌+◌, ℕ, List, Option, length, true, false};
+ghost use Rattle.hall_desk.specs.declared.preparing.Prepared.TheVariants as Prepared;
 ghost use Rattle.hall_http.specs.Connection.{Exchange};
 ghost use Rattle.hall_http.specs.Head.{IsUnfinishedBelow};
 ghost use Rattle.hall_http.specs.Limits.{most_reads, most_requests, most_waiting};
@@ -17,6 +18,7 @@ use crate::inbox::Inbox;
 use crate::outgoing::Outgoing;
 use crate::responder::{GroupEnd, Responder};
 use crate::routes::Routes;
+use hall_desk::Prepared;
 use hall_policy::Moment;
 use hall_store::JointAnswers;
 use std::alloc::Global;
@@ -184,23 +186,24 @@ impl Connection {
         self.state = State::Writing(Some(ServeEnd::BadHead));
     }
 
-    /// Works for a while on what the request that waits needs, if one does, and tells whether to look at it now.
+    /// Works for a while on what the request that waits needs, if one does: it is to be looked at now, or asked so
+    /// again, or refused.
     pub(crate) fn prepare<H: Responder>(
         &self,
         alloc: Global,
         routes: &Routes,
         responder: &mut H,
-    ) -> bool
+    ) -> Prepared
         ensures rests { HasRested H.rests responder.old responder.new }
-        ensures waits { result ≡ false → KeepsWaiting H.may_wait self.now responder.new }
+        ensures waits { result ≡ Prepared.Waits → KeepsWaiting H.may_wait self.now responder.new }
     {
         let unread = self.inbox.unread();
         if unread.len() < self.least || needs_nothing(unread) {
-            return true;
+            return Prepared::Ready;
         }
         match cut_request(unread) {
             Cut::Whole { request, .. } => responder.prepare(alloc, routes, &request),
-            Cut::More(_) | Cut::Never => true,
+            Cut::More(_) | Cut::Never => Prepared::Ready,
         }
     }
 
@@ -236,6 +239,7 @@ impl Connection {
         alloc: Global,
         routes: &Routes,
         responder: &mut H,
+        prepared: Prepared,
         moment: Option<Moment>,
     ) -> bool
         requires { self.old.requests ≤ most_requests }
@@ -244,7 +248,7 @@ impl Connection {
     {
         match cut_request(self.inbox.unread()) {
             Cut::Whole { size, request } => {
-                let answer = responder.answer(alloc, routes, moment, &request);
+                let answer = responder.answer(alloc, routes, prepared, moment, &request);
                 let goes_on = answer.goes_on();
                 let closes = request.closes;
                 self.accept(Joined {
@@ -331,7 +335,7 @@ impl Connection {
             return true;
         }
         let moment = clock.now();
-        self.answer(alloc, routes, responder, moment)
+        self.answer(alloc, routes, responder, Prepared::Ready, moment)
     }
 
     /// The bytes that wait to be sent.

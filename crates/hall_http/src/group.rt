@@ -12,11 +12,8 @@ use crate::held::Held;
 use crate::peer::Peer;
 use crate::responder::Responder;
 use crate::routes::Routes;
-use hall_store::JointAnswers;
+use hall_store::{JointAnswers, MOST_TOGETHER};
 use std::alloc::{AllocError, Global};
-
-/// The most requests that are answered together: as many as there may be answers that one write stores.
-const MOST_TOGETHER: usize = 64;
 
 /// A request that is to be answered with others, and what is planned for it.
 #[derive(Drop)]

@@ -12,13 +12,14 @@ ghost use Rattle.hall_http.specs.Serving.{GoesOn, IsAnsweredOver, WaitsForSearch
 ghost use Rattle.hall_http.specs.Steps.{gated_group};
 ghost use Rattle.hall_http.specs.declared.answer.Answer.TheVariants as Answer;
 ghost use Rattle.hall_http.specs.declared.responder.GroupEnd.TheVariants as GroupEnd;
+ghost use Rattle.hall_desk.specs.declared.preparing.Prepared.TheVariants as Prepared;
 ghost use Rattle.hall_policy.specs.declared.record.AnswerRow.{AnswerRow};
 
 use crate::answer::{Answer, answer_raw_request, prepare_raw_request};
 use crate::head::RawRequest;
 use crate::joining::{join_raw_request, store_joint};
 use crate::routes::Routes;
-use hall_desk::Desk;
+use hall_desk::{Desk, Prepared};
 use hall_policy::Moment;
 use hall_store::{JointAnswers, Store};
 use std::alloc::Global;
@@ -66,19 +67,21 @@ pub(crate) trait Responder {
     /// A request that is these bytes may be kept waiting for what it needs.
     ghost may_wait: { Self → List ℕ → Type 0 };
 
-    /// Works for a while on what the request needs, and tells whether to answer it now, or to ask so again.
-    fn prepare(&mut self, alloc: Global, routes: &Routes, request: &RawRequest<'_>) -> bool
+    /// Works for a while on what the request needs: it is to be answered now, or asked so again, or refused.
+    fn prepare(&mut self, alloc: Global, routes: &Routes, request: &RawRequest<'_>) -> Prepared
         ensures rests { rests self.old self.new }
-        ensures waits { result ≡ false → (bytes : List ℕ) → IsLentBy bytes request.now → may_wait self.new bytes };
+        ensures waits { result ≡ Prepared.Waits → (bytes : List ℕ) → IsLentBy bytes request.now →
+            may_wait self.new bytes };
 
     /// Whether the device refused the last write that was to be made. No clause speaks of it.
     fn refuses_writes(&self) -> bool;
 
-    /// The answer to a request at a moment, once its change is made.
+    /// The answer to a request at a moment, once its change is made. One whose preparation was refused is told 503.
     fn answer(
         &mut self,
         alloc: Global,
         routes: &Routes,
+        prepared: Prepared,
         moment: Option<Moment>,
         request: &RawRequest<'_>,
     ) -> Answer
@@ -129,7 +132,7 @@ impl<S: Store> Responder for Desk<S> {
 
     ghost may_wait = { WaitsForSearch (λ desk. S.content (kept_by desk)) };
 
-    fn prepare(&mut self, alloc: Global, routes: &Routes, request: &RawRequest<'_>) -> bool {
+    fn prepare(&mut self, alloc: Global, routes: &Routes, request: &RawRequest<'_>) -> Prepared {
         prepare_raw_request(alloc, routes, self, request)
     }
 
@@ -141,12 +144,13 @@ impl<S: Store> Responder for Desk<S> {
         &mut self,
         alloc: Global,
         routes: &Routes,
+        prepared: Prepared,
         moment: Option<Moment>,
         request: &RawRequest<'_>,
     ) -> Answer {
         match moment {
             Some(moment) => {
-                let answer = answer_raw_request(alloc, routes, self, moment, request);
+                let answer = answer_raw_request(alloc, routes, self, prepared, moment, request);
                 self.at_rest();
                 answer
             }

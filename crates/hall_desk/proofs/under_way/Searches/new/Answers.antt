@@ -7,5 +7,5 @@ invariant_of-result c =
     none_under_way c.loop-place.places.items (omega (arith, c.loop-place-test.false, c.loop-place.invariant.exact))
     c.loop-place.invariant.none
 
-pub returns : goal.returns
-returns c = none_at c.loop-place.places.items c.loop-place.invariant.none
+pub returns-clause-none : goal.returns-clause-none
+returns-clause-none c = none_at c.loop-place.places.items c.loop-place.invariant.none

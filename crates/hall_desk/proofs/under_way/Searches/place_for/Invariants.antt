@@ -4,4 +4,4 @@ use Rattle.hall_desk.specs.declared.under_way.Underway.{Underway}
 use Rattle.hall_desk.proofs.under_way.Searches.place_for.Given as goal
 
 abbrev pub invariant-loop-place : goal.invariant-loop-place
-invariant-loop-place l = (other : ℕ) (a : Underway) → other < l.place → IsAt l.self other a → ¬ (a.key ≡ l.key)
+invariant-loop-place l = (other : ℕ) (a : Underway) → other < l.place → IsAt l.self.places other a → ¬ (a.key ≡ l.key)

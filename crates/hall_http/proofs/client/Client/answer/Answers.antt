@@ -8,12 +8,14 @@ use Rattle.hall_http.proofs.client.Client.answer.Goals as goal
 
 pub returns-in_default-clause-answered : goal.returns-in_default-clause-answered
 returns-in_default-clause-answered g c = answered_none g.P.Peer.traffic
-    (service_of g.H.Responder.answers g.H.Responder.joins g.H.Responder.goes_on g.H.Responder.rests) _ _ _ _ (rests_never _ _)
+    (service_of g.H.Responder.answers g.H.Responder.joins g.H.Responder.goes_on g.H.Responder.rests) _ _ _ _
+    (rests_never _ _)
 
-pub returns-then-not-prepare-clause-answered : goal.returns-then-not-prepare-clause-answered
-returns-then-not-prepare-clause-answered g c =
+pub returns-in-Waits-clause-answered : goal.returns-in-Waits-clause-answered
+returns-in-Waits-clause-answered g c =
     answered_none g.P.Peer.traffic
-    (service_of g.H.Responder.answers g.H.Responder.joins g.H.Responder.goes_on g.H.Responder.rests) _ _ _ _ (rests_still g.H.Responder.rests _ _ true c.prepare.ensures.rests)
+    (service_of g.H.Responder.answers g.H.Responder.joins g.H.Responder.goes_on g.H.Responder.rests) _ _ _ _
+    (rests_still g.H.Responder.rests _ _ true c.prepare.ensures.rests)
 
 pub finish-requires : goal.finish-requires
 finish-requires g c =
@@ -36,8 +38,8 @@ returns-clause-answered g c =
 pub returns-in_default-clause-first : goal.returns-in_default-clause-first
 returns-in_default-clause-first g c = λ at has. absurd (c.in_default.not-Looking (c.state.ensures ∙ at))
 
-pub returns-then-not-prepare-clause-first : goal.returns-then-not-prepare-clause-first
-returns-then-not-prepare-clause-first g c = λ at has. inr (c.prepare.ensures.waits c.if-not-prepare.true)
+pub returns-in-Waits-clause-first : goal.returns-in-Waits-clause-first
+returns-in-Waits-clause-first g c = λ at has. inr (c.prepare.ensures.waits c.in-Waits.is)
 
 pub returns-clause-first : goal.returns-clause-first
 returns-clause-first g c = λ at has.

@@ -2,11 +2,11 @@ use Rattle.hall_http.proofs.Going.{goes_held, goes_looked, goes_searching}
 use Rattle.hall_http.proofs.Peers.{kept_looked, kept_same}
 use Rattle.hall_http.proofs.client.Client.look.Goals as goal
 
-pub returns-then-not-prepare-clause-kept : goal.returns-then-not-prepare-clause-kept
-returns-then-not-prepare-clause-kept g c = kept_same g.P.Peer.traffic _
+pub returns-in-Waits-clause-kept : goal.returns-in-Waits-clause-kept
+returns-in-Waits-clause-kept g c = kept_same g.P.Peer.traffic _
 
-pub returns-then-not-prepare-clause-goes : goal.returns-then-not-prepare-clause-goes
-returns-then-not-prepare-clause-goes g c = goes_searching g.P.Peer.traffic _ _ _ _ _
+pub returns-in-Waits-clause-goes : goal.returns-in-Waits-clause-goes
+returns-in-Waits-clause-goes g c = goes_searching g.P.Peer.traffic _ _ _ _ _
 
 pub returns-then-finds_request-clause-kept : goal.returns-then-finds_request-clause-kept
 returns-then-finds_request-clause-kept g c =

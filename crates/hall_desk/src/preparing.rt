@@ -1,0 +1,48 @@
+//! What is worked on before a request is answered: the search that its plan would make.
+ghost use Rattle.std.specs.Prelude.{◌≡◌};
+ghost use Rattle.hall_store.specs.Store.{Asks, Kept};
+ghost use Rattle.hall_desk.specs.Plans.{IsNobodys};
+ghost use Rattle.hall_desk.specs.Searches.{WaitsAmong};
+ghost use Rattle.hall_desk.specs.Wanted.{IsPrepared, IsSearchFor};
+ghost use Rattle.hall_desk.specs.declared.preparing.Prepared.TheVariants as Prepared;
+ghost use Rattle.hall_desk.specs.declared.wanted_search.Wanted.{Wanted};
+
+use crate::memo::Memo;
+use crate::under_way::{Searches, search_on};
+use crate::wanted_search::search_for;
+use hall_policy::Request;
+use hall_store::ReadStore;
+use std::alloc::Global;
+
+/// What came of working on what a request needs.
+#[derive(Clone, Copy, Debug, PartialEq, Eq)]
+pub enum Prepared {
+    /// Nothing is left to search for it.
+    Ready,
+    /// Its search is under way, or waits for its place.
+    Waits,
+    /// Memory or the store failed.
+    Refused,
+}
+
+/// Works for a while on what a plan of the request needs. Reads only.
+pub(crate) fn prepare<S: ReadStore>(
+    alloc: Global,
+    store: &mut S,
+    request: &Request,
+    searches: &mut Option<Searches>,
+    memo: &mut Option<Memo>,
+) -> Prepared
+    ensures kept { Kept (S.content store.old) (S.content store.new) }
+    ensures untouched { IsNobodys request.now → store.new ≡ store.old }
+    ensures ready { result ≡ Prepared.Ready → Asks (S.content store.new)
+        (λ world. IsPrepared world request.now memo.new) }
+    ensures waits { result ≡ Prepared.Waits → (wanted : Wanted) × WaitsAmong searches.old wanted searches.new
+        × Asks (S.content store.new) (λ world. IsSearchFor world request.now wanted) }
+{
+    match search_for(alloc, store, request, memo) {
+        Ok(Some(wanted)) => search_on(alloc, searches, memo, wanted),
+        Ok(None) => Prepared::Ready,
+        Err(_) => Prepared::Refused,
+    }
+}
