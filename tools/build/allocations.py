@@ -94,6 +94,8 @@ PLACES = {
     ],
     "hall_desk/src/desk.rt": [
         "match self.try_seed(alloc, people) { Ok(reply) => reply, Err(_) => Reply::Unavailable,",
+        "match memos::put(alloc, &mut self.memos, &request.key, memo) {"
+        " Ok(()) => prepared, Err(_) => Prepared::Refused,",
     ],
     # Its bytes, what is compared with them, and the answer to a request that was refused, or had no moment.
     "hall_http/src/reply.rt": [

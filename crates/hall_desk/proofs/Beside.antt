@@ -2,7 +2,6 @@
 use Rattle.std.proofs.Common.{◌≡◌, ◌≢◌, ◌↔◌, ◌==◌, ◌&&◌, ◌≤◌, ◌+◌, inl, inr, ℕ, Bool, true, false, cond, List, Option}
 use Rattle.std.proofs.Common.{Some, None, arith, lit<, refl, sym, ap, ◌∙◌, subst}
 use Rattle.std.specs.FinMap.{FinMap, get, insert}
-use Rattle.std.specs.List.{count_by}
 use Rattle.hall_policy.specs.Limits.{most_answers}
 use Rattle.hall_policy.specs.World.{World, answer_cmp, same_text}
 use Rattle.hall_policy.specs.Rules.{answers_given}

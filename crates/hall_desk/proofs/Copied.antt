@@ -1,14 +1,13 @@
 -- The copies that a desk keeps stay what its store's world says.
-use Rattle.std.proofs.Common.{◌≡◌, ◌∙◌, ◌⊎◌, ◌↔◌, ◌+◌, ◌++◌, ℕ, Bool, List, [], ◌∷◌, Option, Some, None, Contains}
+use Rattle.std.proofs.Common.{◌≡◌, ◌∙◌, ◌⊎◌, ◌+◌, ◌++◌, ℕ, Bool, List, [], ◌∷◌, Option, Some, None, Contains}
 use Rattle.std.proofs.Common.{inl, inr, refl, sym, ap, subst}
 use Rattle.std.specs.Prelude.{IsTrue, OnErr, OnOk, Result, Ok, Err}
 use Rattle.std.specs.FinMap.{get}
 use Rattle.std.specs.List.{filter}
 use Rattle.std.proofs.lemmas.List.Elements.{Contains-push_cases}
-use Rattle.hall_policy.specs.World.{World, IsRoundAt}
+use Rattle.hall_policy.specs.World.{World}
 use Rattle.hall_policy.specs.declared.record.Entry.{Entry}
 use Rattle.hall_policy.specs.declared.record.ProtestRow.{ProtestRow}
-use Rattle.hall_policy.specs.declared.record.RoundRow.{RoundRow}
 use Rattle.hall_policy.specs.declared.record.ProtestKey.{ProtestKey}
 use Rattle.hall_policy.specs.declared.record.Ruling.{Ruling}
 use Rattle.hall_store.specs.Change.{CanMake, changed, with_ruling}

@@ -68,7 +68,8 @@ module _ (world : World) (request : Request) (facts : Facts) (sender : List ℕ)
       let named : Certify needs.needs.key needs.needs.budget ≡ Certify key budget = sym needs.needs.asked ∙ asks in
       let same : needs.needs.key ≡ key = cc in
       let within : needs.needs.budget ≡ budget = cc in
-      let kept : facts.puzzle ≡ Some needs.needs.row = looked_up ∙ ap (get world.puzzles) (sym same) ∙ needs.needs.kept in
+      let kept : facts.puzzle ≡ Some needs.needs.row =
+      looked_up ∙ ap (get world.puzzles) (sym same) ∙ needs.needs.kept in
       remembered memo _ _ _ _ (sym needs.puzzle) (sym within ∙ sym needs.within)
       (is needs.needs.row kept needs.needs.unsettled)
   search_asked memo (Some search) is = record {

@@ -31,44 +31,45 @@ free_of places place a key were at is other b there same = were.alone other plac
 
 -- the wanted search was taken off its place, and has the visits of a turn
 module _ (old : SearchesView) (wanted : Wanted) (place most : ℕ) (a : Underway) (at : IsAt old.places place a)
-    (found : (b : Underway) × IsAt old.places place b × IsWanted wanted b) (some : IsWorkOfTurn wanted.puzzle most) where
-  abbrev works : Works old wanted
-  works = record {
-    place = place;
-    a = a;
-    at = at;
-    is = subst (IsWanted wanted) (one_at old.places place found.0 a found.1 at) found.2;
-    more = most;
-    some = some;
-  }
+    (found : (b : Underway) × IsAt old.places place b × IsWanted wanted b) (some : IsWorkOfTurn wanted.puzzle most)
+  where
+    abbrev works : Works old wanted
+    works = record {
+      place = place;
+      a = a;
+      at = at;
+      is = subst (IsWanted wanted) (one_at old.places place found.0 a found.1 at) found.2;
+      more = most;
+      some = some;
+    }
 
-  -- what came of going on with it is what came of the wanted one
-  pub worked_by : {E : Type 0} (off new : SearchesView) (result : Result (Option FindingView) E)
-      → off ≡ record old { places = slice_set old.places place None } → new.asked ≡ off.asked
-      → IfOk result (λ told. MatchOption told (new.ended ≡ off.ended)
-      (λ finding. (new.ended ≡ off.asked) × (new.places ≡ off.places) × (finding.puzzle ≡ a.search.puzzle)
-      × (finding.budget ≡ a.search.budget) × (visits_made (visits_of finding.searched) ≤ a.search.visits + most)))
-      → IfOk result (λ told. IfNone told ((a.search.visits + most < a.search.budget) × (b : Underway)
-      × IsWorked off a most b × IsPutAt off.places place b new.places))
-      → IfErr result (λ _. new ≡ off) → HasWorked old wanted result new
-  worked_by off new (Ok (Some finding)) left asked (ended, places, puzzle, budget, few) paused refused = (
-    (works, places ∙ ap (λ (v : SearchesView). v.places) left, puzzle ∙ works.is.puzzle, budget ∙ works.is.within, few),
-    asked ∙ ap (λ (v : SearchesView). v.asked) left,
-    ended ∙ ap (λ (v : SearchesView). v.asked) left,
-  )
-  worked_by off new (Ok None) left asked ended (few, b, worked, put) refused = (
-    inl (
-      works,
-      subst (λ (n : ℕ). a.search.visits + most < n) works.is.within few,
-      b,
-      subst (λ (v : SearchesView). IsWorked v a most b) left worked,
-      put ∙ ap (λ (v : SearchesView). slice_set v.places place (Some b)) left ∙ set-set old.places place None (Some b),
-    ),
-    asked ∙ ap (λ (v : SearchesView). v.asked) left,
-    ended ∙ ap (λ (v : SearchesView). v.ended) left,
-  )
-  worked_by off new (Err fault) left asked ended paused same = (
-    inr (works, ap (λ (v : SearchesView). v.places) (same ∙ left)),
-    asked ∙ ap (λ (v : SearchesView). v.asked) left,
-    ap (λ (v : SearchesView). v.ended) (same ∙ left),
-  )
+    -- what came of going on with it is what came of the wanted one
+    pub worked_by : {E : Type 0} (off new : SearchesView) (result : Result (Option FindingView) E)
+        → off ≡ record old { places = slice_set old.places place None } → new.asked ≡ off.asked
+        → IfOk result (λ told. MatchOption told (new.ended ≡ off.ended)
+        (λ finding. (new.ended ≡ off.asked) × (new.places ≡ off.places) × (finding.puzzle ≡ a.search.puzzle)
+        × (finding.budget ≡ a.search.budget) × (visits_made (visits_of finding.searched) ≤ a.search.visits + most)))
+        → IfOk result (λ told. IfNone told ((a.search.visits + most < a.search.budget) × (b : Underway)
+        × IsWorked off a most b × IsPutAt off.places place b new.places))
+        → IfErr result (λ _. new ≡ off) → HasWorked old wanted result new
+    worked_by off new (Ok (Some finding)) left asked (ended, places, puzzle, budget, few) paused refused = (
+      (works, places ∙ ap (λ (v : SearchesView). v.places) left, puzzle ∙ works.is.puzzle, budget ∙ works.is.within, few),
+      asked ∙ ap (λ (v : SearchesView). v.asked) left,
+      ended ∙ ap (λ (v : SearchesView). v.asked) left,
+    )
+    worked_by off new (Ok None) left asked ended (few, b, worked, put) refused = (
+      inl (
+        works,
+        subst (λ (n : ℕ). a.search.visits + most < n) works.is.within few,
+        b,
+        subst (λ (v : SearchesView). IsWorked v a most b) left worked,
+        put ∙ ap (λ (v : SearchesView). slice_set v.places place (Some b)) left ∙ set-set old.places place None (Some b),
+      ),
+      asked ∙ ap (λ (v : SearchesView). v.asked) left,
+      ended ∙ ap (λ (v : SearchesView). v.ended) left,
+    )
+    worked_by off new (Err fault) left asked ended paused same = (
+      inr (works, ap (λ (v : SearchesView). v.places) (same ∙ left)),
+      asked ∙ ap (λ (v : SearchesView). v.asked) left,
+      ap (λ (v : SearchesView). v.ended) (same ∙ left),
+    )

@@ -63,8 +63,8 @@ IsOpenFor searches wanted place = (a : Underway) → IsAt searches.places place 
 abbrev pub StaysAt : SearchesView → Wanted → ℕ → Underway → Type 0
 StaysAt searches wanted place a = IsAt searches.places place a × ¬ (GivesWay searches.asked wanted a)
 
--- No search may begin now: one came to its end when any was asked for last; or one for the same key stays; or one does at
--- each of the places.
+-- No search may begin now: one came to its end when any was asked for last; or one for the same key stays; or one does
+-- at each of the places.
 abbrev pub HasNoPlace : SearchesView → Wanted → Type 0
 HasNoPlace searches wanted =
     (searches.asked ≤ searches.ended + 1)

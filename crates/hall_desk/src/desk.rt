@@ -19,7 +19,7 @@ ghost use Rattle.hall_desk.specs.Together.{IsPlanBeside};
 
 use crate::census::Census;
 use crate::copies::Copies;
-use crate::memo::Memo;
+use crate::memos::{self, Memos};
 use crate::plan::Plan;
 use crate::planning::make_plan;
 use crate::preparing::{Prepared, prepare};
@@ -38,12 +38,12 @@ use std::marker::Model;
 /// What answers requests to the hall, one after another, over the world of its store; a contract sees the store.
 ///
 /// It keeps copies of the tables that it made last and of the round that was read last, until what they tell of is
-/// changed, the searches that requests wait for, and what a search found last.
+/// changed, the searches that requests wait for, and for each key what a search found last.
 #[derive(Drop)]
 pub struct Desk<S: ReadStore> {
     store: S,
     copies: Copies,
-    memo: Option<Memo>,
+    memos: Option<Memos>,
     searches: Option<Searches>,
     /// The last write that was to be made failed, and not for memory.
     refuses_writes: bool,
@@ -67,7 +67,7 @@ impl<S: ReadStore> Desk<S> {
         Desk {
             store,
             copies: Copies::none(),
-            memo: None,
+            memos: None,
             searches: None,
             refuses_writes: false,
         }
@@ -95,14 +95,10 @@ impl<S: ReadStore> Desk<S> {
         // They are read for the ranges that their types keep.
         let _moment = t.get();
         request.in_range();
-        make_plan(
-            alloc,
-            &mut self.store,
-            t,
-            request,
-            &mut self.copies,
-            &self.memo,
-        )
+        let memo = memos::take(&mut self.memos, &request.key);
+        let plan = make_plan(alloc, &mut self.store, t, request, &mut self.copies, &memo);
+        let _kept = memos::put(alloc, &mut self.memos, &request.key, memo);
+        plan
     }
 
     /// The plan for an answer after these answers, which aren't stored yet, if it may join them: none of them is of the
@@ -131,13 +127,18 @@ impl<S: ReadStore> Desk<S> {
         ensures untouched { IsNobodys request.now → kept_by self.new ≡ kept_by self.old }
         ensures waits { result ≡ Prepared.Waits → MayWait (S.content (kept_by self.new)) request.now }
     {
-        prepare(
+        let mut memo = memos::take(&mut self.memos, &request.key);
+        let prepared = prepare(
             alloc,
             &mut self.store,
             request,
             &mut self.searches,
-            &mut self.memo,
-        )
+            &mut memo,
+        );
+        match memos::put(alloc, &mut self.memos, &request.key, memo) {
+            Ok(()) => prepared,
+            Err(_) => Prepared::Refused,
+        }
     }
 
     /// Whether the last write that was to be made failed, and not for memory, as on a full device. No clause speaks of

@@ -24,6 +24,7 @@ pub mod laws;
 mod list_puzzles;
 mod list_rounds;
 mod memo;
+mod memos;
 mod plan;
 mod planning;
 mod preparing;

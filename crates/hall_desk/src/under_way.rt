@@ -3,8 +3,8 @@ ghost use Rattle.std.specs.Prelude.{◌≡◌, ◌≢◌, ◌↔◌, ◌⊎◌, 
 ghost use Rattle.std.specs.Prelude.{MatchOption, None, Some, false, length, slice_set, true};
 ghost use Rattle.hall_solve.specs.Searched.{visits_made, visits_of};
 ghost use Rattle.hall_desk.specs.Memo.{Remembers};
-ghost use Rattle.hall_desk.specs.Searches.{Begins, GivesWay, HasNoPlace, HasWorked, IsAsked, IsAt, IsFreeFor, IsOpenFor};
-ghost use Rattle.hall_desk.specs.Searches.{IsPutAt, WaitsAmong, asked_once};
+ghost use Rattle.hall_desk.specs.Searches.{Begins, GivesWay, HasNoPlace, HasWorked, IsAsked, IsAt, IsFreeFor};
+ghost use Rattle.hall_desk.specs.Searches.{IsOpenFor, IsPutAt, WaitsAmong, asked_once};
 ghost use Rattle.hall_desk.specs.Searches.{IsUnasked, IsWanted, IsWorkOfTurn, IsWorked, StaysAt};
 ghost use Rattle.hall_desk.specs.declared.preparing.Prepared.TheVariants as Prepared;
 ghost use Rattle.hall_desk.specs.declared.under_way.Underway.{Underway};
@@ -247,7 +247,8 @@ impl Searches {
     fn take(&mut self, place: usize) -> Option<Underway>
         ensures taken { IfSome result (IsAt self.old.places place) }
         ensures inside { IfSome result (λ _. place < length self.old.places) }
-        ensures left { IfSome result (λ _. self.new ≡ record self.old { places = slice_set self.old.places place None }) }
+        ensures left { IfSome result
+            (λ _. self.new ≡ record self.old { places = slice_set self.old.places place None }) }
         ensures free { IfSome result (λ taken. IsFreeFor self.new.places taken.key place) }
         ensures none { IfNone result ((a : Underway) → ¬ (IsAt self.old.places place a)) }
     {

@@ -1,19 +1,19 @@
 //! Calls of the desk: a plan and its commit, a list of requests.
 use crate::fixtures::{number, puzzle_key, text};
 use crate::opening::opening_desk;
-use hall_desk::{Desk, Reply, StateName};
+use hall_desk::{Desk, Prepared, Reply, StateName};
 use hall_policy::{Action, Moment, Request};
 use hall_store::MapStore;
 use std::alloc::AllocGlobal;
 use std::process::Abort;
 
-/// Dora's certificate of bob's puzzle.
-fn certificate(rt: &(impl AllocGlobal + Abort)) -> Request {
+/// A certificate of bob's puzzle, for whoever has the key.
+fn certificate(rt: &(impl AllocGlobal + Abort), key: &str, budget: u64) -> Request {
     Request {
-        key: Some(text(rt, "dora-key")),
+        key: Some(text(rt, key)),
         action: Action::Certify {
             key: puzzle_key(rt, "bob", "p1"),
-            budget: number(rt, 200_000),
+            budget: number(rt, budget),
         },
     }
 }
@@ -67,7 +67,7 @@ fn requests(rt: &(impl AllocGlobal + Abort)) -> Vec<(Moment, Request)> {
 
 /// Certifies the puzzle by a plan and its commit, and says whether both are answered so.
 fn certified(rt: &(impl AllocGlobal + Abort), desk: &mut Desk<MapStore>, t: Moment) -> bool {
-    let request = certificate(rt);
+    let request = certificate(rt, "dora-key", 200_000);
     let plan = desk.plan(rt.alloc(), t, &request).expect(rt, "plan");
     let is_planned = matches!(plan.reply(), Reply::Certify(StateName::One));
     let reply = desk.commit(rt.alloc(), plan).expect(rt, "commit");
@@ -116,4 +116,23 @@ fn plans_are_committed_and_lists_run(rt: HostRuntime) {
     for (reply, number) in replies.iter().zip([None, Some(1), Some(2), Some(1)]) {
         assert!(rt; right_number(reply) == number);
     }
+}
+
+/// Prepares the request until it is to be answered.
+fn prepared(rt: &(impl AllocGlobal + Abort), desk: &mut Desk<MapStore>, request: &Request) -> bool {
+    for _turn in 0..1_000 {
+        if desk.prepare(rt.alloc(), request) == Prepared::Ready {
+            return true;
+        }
+    }
+    false
+}
+
+#[test]
+fn what_a_search_found_outlasts_the_end_of_anothers(rt: HostRuntime) {
+    let mut desk = opening_desk(&rt);
+    let own = certificate(&rt, "dora-key", 200_000);
+    let others = certificate(&rt, "bob-key-1", 1);
+    assert!(rt; prepared(&rt, &mut desk, &own) && prepared(&rt, &mut desk, &others));
+    assert!(rt; desk.prepare(rt.alloc(), &own) == Prepared::Ready);
 }

@@ -14,7 +14,8 @@ returns-in_ok-search_of_found-in-Allow-clause-told g c =
     let request = c.args.asked.now.request.now in
     let certified = c.args.certified.now in
     let decided = c.in_ok-decision.ensures in
-    told_asked certified.memo.now _ old new request c.decision.new.facts _ c.args.pass.now certified.key.now certified.budget
+    told_asked certified.memo.now _ old new request c.decision.new.facts _ c.args.pass.now certified.key.now
+    certified.budget
     c.args.asked.now.t c.requires.action c.requires.key
     (λ h s. subst (λ (who : Option Person). IsCaller new.world request.key who) (sym decided.caller)
     (carried (λ w. IsCaller w request.key c.args.facts.now.caller) old new decided.kept c.requires.caller h s))

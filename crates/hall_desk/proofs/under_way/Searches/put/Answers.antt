@@ -27,6 +27,7 @@ returns c =
         put,
         record { key = refl; name = refl; of = refl; within = refl; made = refl; last = last },
         ap there c.put_at.ensures
-            ∙ ap (λ (v : SearchesView). record v { places = slice_set v.places c.args.place (Some put) }) c.self.view_is,
+            ∙ ap (λ (v : SearchesView). record v { places = slice_set v.places c.args.place (Some put) })
+            c.self.view_is,
       );
     }
