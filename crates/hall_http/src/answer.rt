@@ -87,7 +87,7 @@ pub fn answer_bytes<S: Store>(
     ensures right { SaneThen RightAnswersAreSolutions (S.content (kept_by desk.old)) (S.content (kept_by desk.new)) }
 {
     match read_raw_request(bytes) {
-        Some(raw) => answer_raw_request(alloc, routes, desk, moment, &raw),
+        Some(raw) => answer_raw_request(alloc, routes, desk, Prepared::Ready, moment, &raw),
         None => answer_fault(alloc, FormFault::NotWhole),
     }
 }

@@ -101,7 +101,7 @@ Example:
 ";
 
 const SERVE: &str = "\
-Serves the database file over HTTP on 127.0.0.1: one request after another, each once it is there whole.
+Serves the database file over HTTP on 127.0.0.1: as if one request after another, each once it is there whole.
 
 The moment of a request is the system's. At most 500 connections are open at once; where one more comes, the one with
 nothing asked for a second and nothing unsent that has the least time left is closed. A connection is closed where a
