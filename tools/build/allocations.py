@@ -52,7 +52,7 @@ FORMS = [
     r"\bStoreFault::Failed\)* => (?:Err\()?ToolFault::Store\b",
     # the kit tells that memory was wanting
     rf"\.is_memory\(\) (?:=>|\{{) {GIVEN}",
-    rf"\bError(?:Code|Kind)::OutOfMemory\)* => {GIVEN}",
+    rf"\b(?:Error(?:Code|Kind)|OpenError)::OutOfMemory\)* => {GIVEN}",
     # a growth was refused
     rf"if {GROWS}\.is_err\(\) \{{ {GIVEN}",
     rf"match {GROWS} \{{ Ok\((?:\w+|\(\))\) => [^,]*, Err\(_\) => {GIVEN}",

@@ -1,10 +1,12 @@
-"""A database is served from a disk that fails a sync, once or for good, and from one that is full for a while.
+"""A database is served from a disk that fails a sync or a write, once or for good, and from one that is full for a
+while.
 
-Where a sync fails, the store is shut: the request under way is answered with 503 and none after it, and the program
-ends with 3 and tells why on two lines. Started again, it knows each answer that was acknowledged, and the one under way
-is told its reply when it is sent again. A full disk is no such fault: reads are answered and writes get 503, and once
-there is room the same process writes again; one line is told as writes begin to be refused, and one as they are taken
-again. The disk is full by a limit of the size of files, and by a file system in memory.
+Where a sync or a write fails, the store is shut: the request under way is answered with 503 and none after it, and the
+program ends with 3 and tells why on two lines. Started again, it knows each answer that was acknowledged, and the one
+under way is told its reply when it is sent again. A full disk is no such fault: reads are answered and writes get 503,
+and once there is room the same process writes again; one line is told as writes begin to be refused, and one as they
+are taken again. The disk is full by a limit of the size of files, and by a file system in memory; that it is, or that
+somebody's part of it is, or that a file may not grow, is told of each write from one on.
 """
 import contextlib
 import itertools
@@ -112,10 +114,10 @@ def is_whole_again(name, files_of, entrant, count):
         check(f"{name}: a further answer", ask(client, sent), (200, want.decode()))
 
 
-def failing_sync(files_of, beside, number):
-    """Whether the server made so many syncs; then the last of them failed."""
+def failing_call(files_of, beside, what, number):
+    """Whether the server made so many of these calls; then the last of them failed."""
     copied(files_of.first, files_of.path)
-    name, entrant = f"{beside.told['DEVICE_HOW']} at sync {number}", Entrant(number % 3)
+    name, entrant = f"{beside.told['DEVICE_HOW']} at {what} {number}", Entrant(number % 3)
     with files_of.served(beside.env(number)) as (server, port):
         client = connected(server, port)
         count = handed_in(name, client, server, port, entrant) if client else 0
@@ -204,10 +206,44 @@ def files_of(program, room):
 
 
 @pytest.mark.parametrize("how", ["fail", "dead"])
-def test_syncs_that_fail(how, files_of, program, room):
-    beside = Beside(program, room, "devices", DEVICE_HOW=how, DEVICE_WHICH="yf")
-    syncs = next(number for number in itertools.count(1) if not failing_sync(files_of, beside, number)) - 1
-    check(f"{how}: syncs are made for {ANSWERS} answers", syncs >= ANSWERS, True)
+@pytest.mark.parametrize("what", ["sync", "write"])
+def test_calls_that_fail(what, how, files_of, program, room):
+    beside = Beside(program, room, "devices", DEVICE_HOW=how, DEVICE_WHICH={"sync": "yf", "write": "of"}[what])
+    calls = next(number for number in itertools.count(1) if not failing_call(files_of, beside, what, number)) - 1
+    check(f"{how}: calls to {what} are made for {ANSWERS} answers", calls >= ANSWERS, True)
+
+
+def without_room(files_of, beside, number):
+    """What becomes of a server for whose writes there is no room from this one on; None where it makes fewer."""
+    copied(files_of.first, files_of.path)
+    name, entrant = f"{beside.told['DEVICE_HOW']} from write {number} on", Entrant(number % 3)
+    with files_of.served(beside.env(number)) as (server, port):
+        if not (client := connected(server, port)):
+            return "opens no file"
+        with client:
+            got = [ask(client, entrant.submit(OPEN)[0]) for _ in range(ANSWERS)]
+            if not beside.was_met():
+                return None
+            taken = sum(it is not None and it[0] == 200 for it in got)
+            check(f"{name}: the first that is refused", got[taken], UNAVAILABLE)
+            sent, want = entrant.listing(OPEN, taken)
+            if not (read := ask(client, sent)):
+                is_shut_down(name, files_of, server, True)
+                return "ends"
+            check(f"{name}: a read", read, (200, want.decode()))
+            check(f"{name}: what is refused after it", got[taken:], [UNAVAILABLE] * (ANSWERS - taken))
+            check(f"{name}: what is told of writes", files_of.lines(), TOLD_OF_WRITES[:1])
+            check(f"{name}: the server", server.poll(), None)
+            return "serves on"
+
+
+@pytest.mark.parametrize("how", ["full", "quota", "large"])
+def test_writes_without_room(how, files_of, program, room):
+    """Of the writes of an answer one alone ends the server, by which the database shows it: it is of a byte that stands,
+    for which no disk lacks room."""
+    beside = Beside(program, room, "devices", DEVICE_HOW=how, DEVICE_WHICH="of")
+    ways = list(itertools.takewhile(bool, (without_room(files_of, beside, n) for n in itertools.count(1))))
+    check(f"{how}: it serves on at {ways}", ways.count("serves on") >= 2 * ways.count("ends") >= 2, True)
 
 
 @pytest.mark.parametrize("grows", [False, True], ids=["nothing-is-written", "no-file-grows"])

@@ -36,6 +36,9 @@ pub mod Fill
 pub mod FillCause
 pub mod CopyCause
 pub mod PathCalls
+pub mod FileCalls
+pub mod Losable
+pub mod ServedFiles
 pub mod Copied
 pub mod BadRows
 pub mod OpenedRead

@@ -1,13 +1,8 @@
 -- Which paths of this machine were asked for, by which call, and what it told.
 use Rattle.std.specs.Prelude.{◌≡◌, ◌⊎◌, ◌++◌, [], ◌∷◌, ℕ, List, map, Option, Some, None, IsTrue}
-use Rattle.std.specs.Prelude.{Result, Ok, Err, true, false}
+use Rattle.std.specs.Prelude.{Result, Ok, Err}
 use Rattle.http_server.specs.declared.log.Log.{Log}
 use Rattle.sqlite_disk.specs.declared.Disk.{Ghosts}
-use Rattle.sqlite_disk.specs.declared.calls.Calls as calls
-use Rattle.sqlite_disk.specs.declared.modelled.Modelled.{Modelled}
-use Rattle.sqlite_disk.specs.declared.start.Start as starts
-use Rattle.sqlite_std_file.specs.File.{IsFresh}
-use Rattle.sqlite_std_file.specs.declared.host.Host.{Host}
 use Rattle.sqlite_disk.specs.declared.Files.{Files}
 use Rattle.sqlite.specs.Files.{FailsToOpenFiles, IsCleanLeft, LeavesFiles}
 use Rattle.sqlite.specs.Held.{Held}
@@ -28,11 +23,6 @@ noted log = map (λ one. one.0) log.items
 -- in order, paths and what belongs to each
 abbrev pub named : {B C : Type 0} → Log (Log ℕ B) C → List (List ℕ × C)
 named log = map (λ one. (noted one.0, one.1)) log.items
-
--- they are a log and a database file to which nothing has happened since they were opened
-abbrev pub AreFresh : {S : Type 0} {g : calls.Ghosts Host} {start : starts.Ghosts S} → Files (Modelled Host S g start)
-    → Type 0
-AreFresh files = IsFresh true files.log × IsFresh false files.db
 
 -- the error of a database that isn't asked for, and of a file that can't be opened
 abbrev pub cannot_open : Error

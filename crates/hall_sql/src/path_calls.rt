@@ -4,18 +4,18 @@ ghost use Rattle.sqlite.specs.Files.{file_state};
 ghost use Rattle.sqlite.specs.WalFiles.{image_at};
 ghost use Rattle.hall_sql.specs.Copied.{AreCopies};
 ghost use Rattle.hall_sql.specs.Opened.{IsImageFound};
-ghost use Rattle.hall_sql.specs.PathCalls.{AreFresh, IsRefusedFor, WasCalled, WasOpened, named, noted};
+ghost use Rattle.hall_sql.specs.PathCalls.{IsRefusedFor, WasCalled, WasOpened, named};
+ghost use Rattle.hall_sql.specs.ServedFiles.{AreServed};
 
 use crate::copied_files::{CopiedConnection, read_database};
+use crate::file_calls::{Noted, note};
 use crate::given_back::GivenBack;
+use crate::served_files::{ServedConnection, open_served};
 use http_server::Log;
-use sqlite::{Connection, Error, FileFrom, FileStore, Start};
+use sqlite::{Error, Start};
 use std::fs::File;
 use std::io::ErrorKind;
 use std::{fs, io};
-
-/// The bytes of a path.
-type Noted = Log<u8, ()>;
 
 /// A call that was made of files, with what it told.
 #[derive(Drop)]
@@ -37,17 +37,6 @@ pub struct PathCalls<'r> {
     log: Log<Noted, PathCall>,
 }
 
-/// The path, for a history.
-fn note(path: &str) -> Noted
-    ensures { noted result ≡ path.now }
-{
-    let mut bytes = Log::new();
-    for byte in path.as_bytes() {
-        bytes = bytes.and(byte, &());
-    }
-    bytes
-}
-
 impl<'r> PathCalls<'r> {
     /// No call yet, of the files that the runtime has.
     pub(crate) fn none(rt: &'r HostRuntime) -> PathCalls<'r>
@@ -63,7 +52,7 @@ impl<'r> PathCalls<'r> {
     fn add(&mut self, path: &str, call: &PathCall)
         ensures { WasCalled call.now self.old path.now self.new }
     {
-        self.log = self.log.and(&note(path), call);
+        self.log = self.log.and(&note(path.as_bytes()), call);
     }
 
     /// Asks the system whether there is no file at the path.
@@ -94,12 +83,12 @@ impl<'r> PathCalls<'r> {
         &mut self,
         path: &str,
         start: B,
-    ) -> Result<Connection<FileStore<FileFrom<B>>>, Error>
+    ) -> Result<ServedConnection<B>, Error>
         ensures called { WasOpened self.old path.now result self.new }
         ensures found { IfOk result (λ conn. IsImageFound (image_at B.Start) (file_state conn)) }
-        ensures refused { IsRefusedFor (λ conn. conn) AreFresh result }
+        ensures refused { IsRefusedFor (λ conn. conn) AreServed result }
     {
-        match Connection::open_from(self.rt, path, false, start) {
+        match open_served(self.rt, path, start) {
             Ok(conn) => {
                 self.add(path, &PathCall::Open(Ok(())));
                 Ok(conn)

@@ -5,7 +5,8 @@ ghost use Rattle.hall_sql.specs.PathCalls.{named};
 use crate::given_back::GivenBack;
 use crate::open::PathFiles;
 use crate::path_calls::PathCalls;
-use sqlite::{Connection, Error, ErrorCode, FileFrom, FileStore, Start};
+use crate::served_files::{ServedConnection, ServedFile};
+use sqlite::{Error, ErrorCode, FileStore, Start};
 use std::io;
 
 /// The files of this machine, of which one pair is opened as a database: what it holds, `B` stands for.
@@ -31,7 +32,7 @@ impl<'r, B: Start> SystemFiles<'r, B> {
     }
 }
 
-impl<B: Start> PathFiles<FileStore<FileFrom<B>>> for SystemFiles<'_, B> {
+impl<B: Start> PathFiles<FileStore<ServedFile<B>>> for SystemFiles<'_, B> {
     ghost use Rattle.std.specs.Prelude.{◌≡◌, ◌⊎◌, [], None, IsSome, Ok, Err};
     ghost use Rattle.sqlite.specs.WalFiles.{image_at};
     ghost use Rattle.hall_sql.specs.PathCalls.{WasCalled, cannot_open};
@@ -65,14 +66,14 @@ impl<B: Start> PathFiles<FileStore<FileFrom<B>>> for SystemFiles<'_, B> {
         self.calls.read(path)
     }
 
-    fn open(&mut self, path: &str) -> Result<Connection<FileStore<FileFrom<B>>>, Error> {
+    fn open(&mut self, path: &str) -> Result<ServedConnection<B>, Error> {
         match self.start.take() {
             Some(start) => self.calls.open(path, start),
             None => Err(Error::SqliteFailure(ErrorCode::CannotOpen)),
         }
     }
 
-    fn close(&mut self, left: &mut Option<GivenBack<Connection<FileStore<FileFrom<B>>>>>) {
+    fn close(&mut self, left: &mut Option<GivenBack<ServedConnection<B>>>) {
         self.calls.close(left);
     }
 }

@@ -6,11 +6,11 @@
    lose    as end, and all is lost that was written to files and not synced
    fail    the call fails with EIO
    dead    it fails, and so does each after it
-   full    as dead, with ENOSPC
+   full    as dead, with ENOSPC; quota with EDQUOT, and large with EFBIG
    short   one byte is moved
 
-   DEVICE_WHICH has a letter for each kind of call that counts: r reads, w writes and syncs, y syncs alone; f of regular
-   files, s of sockets and other streams. Where DEVICE_SIP is set, each read of a socket gives one byte. */
+   DEVICE_WHICH has a letter for each kind of call that counts: r reads, w writes and syncs, y syncs alone, o writes
+   alone; f of regular files, s of sockets and other streams. Where DEVICE_SIP is set, each read of a socket gives one byte. */
 #define _GNU_SOURCE
 #include <dlfcn.h>
 #include <errno.h>
@@ -133,8 +133,11 @@ static enum turn failing(int error) {
 /* Whether calls of this way count: a sync is also a write. */
 static int counts(char way) {
     const char *which = told("DEVICE_WHICH");
-    return strchr(which, way) || way == 'y' && strchr(which, 'w');
+    return strchr(which, way) || way == 'y' && strchr(which, 'w') || way == 'w' && strchr(which, 'o');
 }
+
+/* How the want of room is told; 0 where there is none. */
+static int no_room(void) { return is_how("full") ? ENOSPC : is_how("quota") ? EDQUOT : is_how("large") ? EFBIG : 0; }
 
 /* What becomes of this call, a read, a write or a sync. Those of standard error don't count. */
 static enum turn turn(int fd, char way) {
@@ -154,7 +157,7 @@ static enum turn turn(int fd, char way) {
         return ONE;
     if (count == at && is_how("fail") || count >= at && is_how("dead"))
         return failing(EIO);
-    return count >= at && is_how("full") && way != 'r' ? failing(ENOSPC) : MADE;
+    return count >= at && way != 'r' && no_room() ? failing(no_room()) : MADE;
 }
 
 /* How many bytes a read of so many is given. */

@@ -2,7 +2,7 @@ use Rattle.std.proofs.Common.{refl}
 use Rattle.hall_sql.specs.PathCalls.{WasCalled}
 use Rattle.hall_sql.specs.declared.path_calls.PathCall.TheVariants.{Read}
 use Rattle.hall_sql.proofs.PathReads.{given}
-use Rattle.hall_sql.proofs.system_files.SystemFilesPathFilesFileStoreFileFrom.read.Goals as goal
+use Rattle.hall_sql.proofs.system_files.SystemFilesPathFilesFileStoreServedFile.read.Goals as goal
 
 pub returns-clause-given : goal.returns-clause-given
 returns-clause-given g c =

@@ -1,6 +1,6 @@
 use Rattle.std.proofs.Common.{◌≡◌, take}
 use Rattle.hall_sql.specs.PathCalls.{noted}
-use Rattle.hall_sql.proofs.path_calls.note.Given as goal
+use Rattle.hall_sql.proofs.file_calls.note.Given as goal
 
 abbrev pub invariant-loop-byte : goal.invariant-loop-byte
-invariant-loop-byte l = noted l.bytes ≡ take l.byte-index l.byte-items
+invariant-loop-byte l = noted l.list ≡ take l.byte-index l.bytes
