@@ -5,8 +5,7 @@ use Rattle.std.specs.Prelude.{All}
 use Rattle.std.proofs.lemmas.List.{append-nil, drop-append-le, drop_all, drop_at}
 use Rattle.std.proofs.lemmas.List.Elements.{All-nil, All-push}
 use Rattle.hall_http.specs.Coming.{Nexts, Said, IsFreshPeer, IsNextStep, newcomer, since, AreCounted, EndsBy, AreDone}
-use Rattle.hall_http.specs.Coming.{AreAllHeard, turn, turns_in}
-use Rattle.hall_http.specs.declared.client.Step.{Step}
+use Rattle.hall_http.specs.Coming.{AreAllHeard, Heard, turn, turns_in}
 use Rattle.hall_http.specs.Peer.{Traffic}
 use Rattle.hall_http.specs.declared.server.Next.{Next}
 use Rattle.hall_http.specs.declared.server.Next.TheVariants as next
@@ -30,7 +29,7 @@ heard_still before after x all nexts heard none =
     omega (arith, all, ap length heard, ap turns_in nexts, turns_more before.nexts x, none)
 
 -- all turns were heard of, and so was one more
-pub heard_one : {P : Type 0} (before after : Said P) (place : ℕ) (told : ℕ × Step) → AreAllHeard before
+pub heard_one : {P : Type 0} (before after : Said P) (place : ℕ) (told : Heard) → AreAllHeard before
     → after.nexts ≡ before.nexts ++ next.Turn place ∷ [] → after.heard ≡ before.heard ++ told ∷ [] → AreAllHeard after
 heard_one before after place told all nexts heard =
     omega (

@@ -1,13 +1,18 @@
 -- Requests that are answered in groups make a run of the hall, and a stop leaves whole groups.
-use Rattle.std.proofs.Common.{◌≡◌, ◌⊎◌, ◌∙◌, ap, sym, subst, refl, inl, inr, ℕ, List, [], ◌∷◌, ◌++◌}
+use Rattle.std.proofs.Common.{◌≡◌, ◌≢◌, ◌⊎◌, ◌∙◌, ap, sym, subst, refl, inl, inr, ℕ, ◌==◌, List, [], ◌∷◌, ◌++◌}
+use Rattle.std.specs.Prelude.{Bool, true, false}
+use Rattle.std.proofs.lemmas.Bool.{eqb-false, eqb-true}
+use Rattle.std.proofs.lemmas.List.Elements.{All-cons, All-nil}
 use Rattle.hall_policy.specs.World.{World}
 use Rattle.hall_store.specs.Store.{Content, IsSettled, Kept, Leads, Over}
 use Rattle.hall_store.proofs.Knowing.{kept_leads, kept_same, leads_then}
+use Rattle.hall_http.specs.Answered.{IsUnavailable, answer_text}
 use Rattle.hall_http.specs.Connection.{Exchange, of_groups}
-use Rattle.hall_http.specs.Groups.{AnswersInTurn, AreAnsweredTogether, AreAnsweredWhileOpen, AreRefusedAlike}
-use Rattle.hall_http.specs.Groups.{IsGroupAnswered, IsLeftByGroups, LeavesRunByGroups}
+use Rattle.hall_http.specs.Groups.{AnswersInTurn, AreAnsweredTogether, AreAnsweredWhileOpen, AreMadeWhole}
+use Rattle.hall_http.specs.Groups.{AreRefusedAlike, AreToldAlike, IsGroupAnswered, IsLeftByGroups, LeavesRunByGroups}
 use Rattle.hall_http.specs.Laws.{FirstPartsLast}
 use Rattle.hall_http.specs.Serving.{AnswersAt, IsAnsweredOver, IsRunOver, RunsOver}
+use Rattle.hall_http.specs.declared.answer.Answer.TheVariants.{Unavailable}
 use Rattle.hall_http.proofs.Runs.{Onward, before_run, onward_runs, run_over}
 
 -- what was answered in turn, and what comes after it
@@ -29,6 +34,7 @@ turn_before xs world next groups left turn (inr with) = inr (record {
   run = turn_run xs world next (of_groups with.before) with.between turn with.run;
   made = with.made;
   refused = with.refused;
+  whole = with.whole;
   answered = with.answered;
   stays = with.stays;
 })
@@ -67,6 +73,27 @@ no_first : (groups others : List (List Exchange)) → groups ++ others ≡ [] �
 no_first [] others none = refl
 no_first (xs ∷ groups) others none = absurd cc
 
+cons_or_not : (x y : ℕ) (a b : List ℕ) (e : Bool) → (x == y) ≡ e → (a ≡ b) ⊎ (a ≢ b)
+    → (x ∷ a ≡ y ∷ b) ⊎ (x ∷ a ≢ y ∷ b)
+cons_or_not x y a b false e rest = inr (λ same. eqb-false _ _ e cc)
+cons_or_not x y a b true e (inl rest) = inl (rw (eqb-true _ _ e, rest) refl)
+cons_or_not x y a b true e (inr rest) = inr (λ same. rest cc)
+
+same_or_not : (a b : List ℕ) → (a ≡ b) ⊎ (a ≢ b)
+same_or_not [] [] = inl refl
+same_or_not [] (y ∷ b) = inr (λ same. absurd cc)
+same_or_not (x ∷ a) [] = inr (λ same. absurd cc)
+same_or_not (x ∷ a) (y ∷ b) = cons_or_not x y a b (x == y) refl (same_or_not a b)
+
+one_alike : (x : Exchange) → (x.reply ≡ answer_text Unavailable) ⊎ (x.reply ≢ answer_text Unavailable)
+    → AreToldAlike (x ∷ [])
+one_alike x (inl same) =
+    inr (All-cons (λ (x : Exchange). IsUnavailable x.reply) x [] (record { same = same })
+    (All-nil (λ (x : Exchange). IsUnavailable x.reply)))
+one_alike x (inr other) =
+    inl (All-cons (λ (x : Exchange). ¬ (IsUnavailable x.reply)) x [] (λ is. other is.same)
+    (All-nil (λ (x : Exchange). ¬ (IsUnavailable x.reply))))
+
 module _ {H : Type 0} (content : H → Content) where
   -- a request that was answered alone is a group of its own
   one_over : (x : Exchange) (old new : Content)
@@ -97,7 +124,7 @@ module _ {H : Type 0} (content : H → Content) where
           )
           | inr refused ↦ (
             record { request = x.request; moment = x.moment; reply = made } ∷ [],
-            inr (refused, made, [], refl, refl),
+            inr ((refused, made, [], refl, refl), inl refl),
             (left, step, refl),
           )
         ],
@@ -105,6 +132,7 @@ module _ {H : Type 0} (content : H → Content) where
     ];
     settled = says.settled;
     answers = λ honest. one_over x (content old) (content new) (says.answers honest);
+    alike = one_alike x (same_or_not x.reply (answer_text Unavailable));
   }
 
   as_together : (old : H) (xs : List Exchange) (new : H) → IsGroupAnswered content old xs new
@@ -171,12 +199,13 @@ module _ {H : Type 0} (content : H → Content) where
           (subst (λ (w : World). AnswersInTurn xs here.world w) (sym (says.settled honest serves left may)) step) run),
     )
 
-    made_so : (made : List Exchange) → (made ≡ xs) ⊎ AreRefusedAlike xs made → AnswersInTurn made here.world left
-        → IsRunOver left rest left → IsLeftByGroups here.world (xs ∷ groups) left
+    made_so : (made : List Exchange) → (made ≡ xs) ⊎ (AreRefusedAlike xs made × AreMadeWhole made)
+        → AnswersInTurn made here.world left → IsRunOver left rest left
+        → IsLeftByGroups here.world (xs ∷ groups) left
     made_so made (inl same) turn run =
         inl (turn_run xs here.world left rest left
         (subst (λ (ys : List Exchange). AnswersInTurn ys here.world left) same turn) run)
-    made_so made (inr refused) turn run = inr (record {
+    made_so made (inr (refused, whole)) turn run = inr (record {
       before = [];
       group = xs;
       after = groups;
@@ -185,6 +214,7 @@ module _ {H : Type 0} (content : H → Content) where
       run = run_over here.world [] here.world refl;
       made = made;
       refused = refused;
+      whole = whole;
       answered = turn;
       stays = run;
     })

@@ -4,7 +4,7 @@ use Rattle.std.proofs.Common.{append_assoc, get_or, take, Option, Some, None}
 use Rattle.std.proofs.lemmas.List.{append-nil, map-append}
 use Rattle.hall_http.specs.Progress.{TakesTurnAt}
 use Rattle.hall_http.specs.Peer.{Traffic}
-use Rattle.hall_http.specs.Coming.{Nexts, Said, AreCounted, since}
+use Rattle.hall_http.specs.Coming.{Heard, Nexts, Said, AreCounted, since}
 use Rattle.hall_http.specs.Crowd.{Admits, AreAnsweredOf, AreHandled, AreKept, AreKeptAtTurns, AreSomeKept, Holding}
 use Rattle.hall_http.specs.Crowd.{AnswersNoMore, AreAsSaid, AreAtTurns, AreHeard, IsAt, IsFree, IsHeldAt, Serves}
 use Rattle.hall_http.specs.Crowd.{heard_answer, heard_first, heard_other, heard_turn, HaveHeard, IsNoTurn}
@@ -66,15 +66,15 @@ module _ {P : Type 0} (traffic : P → Traffic) where
       took = rightly.took;
     }
 
-    heard_by : (few : ℕ) (steps : Nexts P) (turns : List Turn) (heard : List (ℕ × Step))
+    heard_by : (few : ℕ) (steps : Nexts P) (turns : List Turn) (heard : List Heard)
         → AreHeard one traffic few was steps turns heard → AreHeard other traffic few is steps turns heard
     heard_by few steps turns heard heard_first = heard_first
     heard_by few steps turns heard (heard_other before some told it none so) =
         heard_other before some told it none (heard_by few before some told so)
     heard_by few steps turns heard (heard_answer before some more told so) =
         heard_answer before some more told (heard_by few before some told so)
-    heard_by few steps turns heard (heard_turn before some told place how so rightly) =
-        heard_turn before some told place how (heard_by few before some told so)
+    heard_by few steps turns heard (heard_turn before some told place how held so rightly) =
+        heard_turn before some told place how held (heard_by few before some told so)
         (told_by few (before ++ next.Turn place ∷ []) some (place, how) rightly)
 
     pub have_heard_by : (old new : Said P) (turns : List Turn) → HaveHeard one traffic was old new turns
@@ -292,12 +292,13 @@ module _ {H : Type 0} (service : Service H) where
                       k.connection how so,
                 )
 
-            pub handled_turn : then.count ≡ now.count → then.heard ≡ now.heard ++ (place, how) ∷ []
+            pub handled_turn : (read : Option (Option ℕ)) → then.count ≡ now.count
+                → then.heard ≡ now.heard ++ ((place, how), read) ∷ []
                 → AreCounted traffic old.count steps now.count → AreAsSaid traffic steps u → AnswersNoMore traffic s u
-                → (told : List (ℕ × Step)) (held : List Holding) (moments : List (Option ℕ))
+                → (told : List Heard) (held : List Holding) (moments : List (Option ℕ))
                 → AreAtTurns traffic u.gone.items steps told handled.turns held moments → R handled.turns
                 → AreHandled service (λ turns. StandAfter old then before after u turns × R turns) before after
-            handled_turn same hears came said keeps told held moments turned also =
+            handled_turn read same hears came said keeps told held moments turned also =
                 let turns = handled.turns in
                 let kept = keeps.1 old.count now.count turns handled.holds.0.0 in
                 let (heard, is, so) =
@@ -312,11 +313,11 @@ module _ {H : Type 0} (service : Service H) where
                     (
                       subst (λ (n : ℕ). AreKept traffic old.count n turns u) (sym same) kept,
                       (
-                        heard ++ (place, how) ∷ [],
-                        hears ∙ ap (λ (all : List (ℕ × Step)). all ++ (place, how) ∷ []) is
-                            ∙ append_assoc old.heard heard ((place, how) ∷ []),
+                        heard ++ ((place, how), read) ∷ [],
+                        hears ∙ ap (λ (all : List Heard). all ++ ((place, how), read) ∷ []) is
+                            ∙ append_assoc old.heard heard (((place, how), read) ∷ []),
                         rw more
-                            (heard_turn (since old now) turns heard place how so (record {
+                            (heard_turn (since old now) turns heard place how read so (record {
                               many = now.count;
                               clients = u;
                               came = came;

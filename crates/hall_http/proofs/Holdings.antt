@@ -5,12 +5,12 @@ use Rattle.std.specs.Prelude.{Bool, cond, not, map}
 use Rattle.std.proofs.lemmas.Bool.{eqb-false}
 use Rattle.std.proofs.lemmas.Option.{same_Some}
 use Rattle.std.proofs.lemmas.List.{append-nil, map-append}
-use Rattle.hall_http.specs.Coming.{Nexts, Said, newcomer, since}
+use Rattle.hall_http.specs.Coming.{Heard, Nexts, Said, newcomer, since}
 use Rattle.hall_http.specs.Connection.{Exchange, AreReadings}
 use Rattle.hall_http.specs.Crowd.{AreAnsweredOf, AreAsSaid, AreAtMoments, AreAtTurns, AreStill, ComesTo, HasAt, Holding}
 use Rattle.hall_http.specs.Crowd.{IsAt, IsFor, IsFree, IsHeldAt, IsHeldFor, IsNoTurn, Past, requests_in, without}
 use Rattle.hall_http.specs.Crowd.{at_answer, at_first, at_newcomer, at_other, at_turn, at_visit, without_holding}
-use Rattle.hall_http.specs.Held.{HoldsNoMore, HoldsOne}
+use Rattle.hall_http.specs.Held.{HoldsNoMore, HoldsOne, is_held}
 use Rattle.hall_http.specs.Peer.{Traffic}
 use Rattle.hall_http.specs.Turns.{Turn}
 use Rattle.hall_http.specs.declared.client.Client.{Client}
@@ -155,10 +155,10 @@ module _ {P : Type 0} (traffic : P → Traffic) where
       )
 
   -- these requests are held, of the connections that are here, and so they were answered, as this was heard
-  module _ {C : Type 0} (now_gives : C → Option ℕ → C → Type 0) (clock : C) (before : List (ℕ × Step)) where
-    pub record AreHeldSo (steps : Nexts P) (now : List (ℕ × Step)) (s : Clients P) (requests : List HeldRequest)
+  module _ {C : Type 0} (now_gives : C → Option ℕ → C → Type 0) (clock : C) (before : List Heard) where
+    pub record AreHeldSo (steps : Nexts P) (now : List Heard) (s : Clients P) (requests : List HeldRequest)
         (later : C) (turns : List Turn) : Type 0 where
-      pub heard : List (ℕ × Step)
+      pub heard : List Heard
       pub told : now ≡ before ++ heard
       pub held : List Holding
       pub moments : List (Option ℕ)
@@ -179,14 +179,14 @@ module _ {P : Type 0} (traffic : P → Traffic) where
       read = refl;
     }
 
-    module _ (steps : Nexts P) (now : List (ℕ × Step)) (s u : Clients P) (grows : Grows traffic s.gone.items u.gone.items)
+    module _ (steps : Nexts P) (now : List Heard) (s u : Clients P) (grows : Grows traffic s.gone.items u.gone.items)
         (requests : List HeldRequest) (later : C) (turns : List Turn)
         (so : AreHeldSo steps now s requests later turns) where
       grown : AreAtTurns traffic u.gone.items steps so.heard turns so.held so.moments
       grown = turns_grown traffic s.gone.items u.gone.items grows steps so.heard turns so.held so.moments so.turned
 
       -- one thing more was said
-      pub so_other : (one : Next P) (then : List (ℕ × Step)) → IsNoTurn one → newcomer one ≡ 0 → then ≡ now
+      pub so_other : (one : Next P) (then : List Heard) → IsNoTurn one → newcomer one ≡ 0 → then ≡ now
           → AreStill traffic s u → AreHeldSo (steps ++ one ∷ []) then u requests later turns
       so_other one then quiet none is still = record {
         heard = so.heard;
@@ -200,7 +200,7 @@ module _ {P : Type 0} (traffic : P → Traffic) where
       }
 
       -- a newcomer came
-      pub so_comes : (place : ℕ) (peer : P) (then : List (ℕ × Step)) → then ≡ now → ComesTo traffic place peer s u
+      pub so_comes : (place : ℕ) (peer : P) (then : List Heard) → then ≡ now → ComesTo traffic place peer s u
           → AreHeldSo (steps ++ next.Newcomer place peer ∷ []) then u (without place requests) later turns
       so_comes place peer then is comes = record {
         heard = so.heard;
@@ -213,37 +213,36 @@ module _ {P : Type 0} (traffic : P → Traffic) where
         read = so.read;
       }
 
-      told_more : (one : ℕ × Step) (then : List (ℕ × Step)) → then ≡ now ++ one ∷ []
-          → then ≡ before ++ (so.heard ++ one ∷ [])
+      told_more : (one : Heard) (then : List Heard) → then ≡ now ++ one ∷ [] → then ≡ before ++ (so.heard ++ one ∷ [])
       told_more one then is =
-          is ∙ ap (λ (all : List (ℕ × Step)). all ++ one ∷ []) so.told ∙ append_assoc before so.heard (one ∷ [])
+          is ∙ ap (λ (all : List Heard). all ++ one ∷ []) so.told ∙ append_assoc before so.heard (one ∷ [])
 
       -- one more is held, after a turn
-      so_turn : (one : HeldRequest) (number : ℕ) (at : C) (then : List (ℕ × Step))
-          → then ≡ now ++ (one.place, step.Holds) ∷ [] → AreStill traffic s u
-          → IsFor traffic u.gone.items steps one.place number → HasAt traffic u one.place number
-          → now_gives later one.moment at
+      so_turn : (one : HeldRequest) (number : ℕ) (at : C) (then : List Heard)
+          → then ≡ now ++ ((one.place, step.Holds), Some one.moment) ∷ [] → is_held one.place requests ≡ false
+          → AreStill traffic s u → IsFor traffic u.gone.items steps one.place number
+          → HasAt traffic u one.place number → now_gives later one.moment at
           → AreHeldSo (steps ++ next.Turn one.place ∷ []) then u (requests ++ one ∷ []) at turns
-      so_turn one number at then is still is_for (k, there, same) told = record {
-        heard = so.heard ++ (one.place, step.Holds) ∷ [];
-        told = told_more (one.place, step.Holds) then is;
+      so_turn one number at then is none still is_for (k, there, same) told = record {
+        heard = so.heard ++ ((one.place, step.Holds), Some one.moment) ∷ [];
+        told = told_more ((one.place, step.Holds), Some one.moment) then is;
         held = so.held ++ (number, one) ∷ [];
         moments = so.moments ++ one.moment ∷ [];
         same = map-append (λ (one : Holding). one.1) so.held ((number, one) ∷ [])
             ∙ ap (λ (all : List HeldRequest). all ++ one ∷ []) so.same;
         here = here_more u so.held (number, one) (here_still s u still so.held so.here)
             (λ l on. ap (λ (k : Client P). (traffic k.peer).number) (same_Some l k (sym on ∙ there)) ∙ same);
-        turned = at_turn steps so.heard turns so.held so.moments number one grown is_for;
+        turned = at_turn steps so.heard turns so.held so.moments number one grown is_for (rw so.same none);
         read = readings_more now_gives so.moments one.moment clock later at so.read told;
       }
 
       -- no more is held after a turn
-      so_visit : (place : ℕ) (how : Step) (then : List (ℕ × Step)) → then ≡ now ++ (place, how) ∷ []
+      so_visit : (place : ℕ) (how : Step) (then : List Heard) → then ≡ now ++ ((place, how), None) ∷ []
           → HoldsNoMore place how requests → AreStill traffic s u
           → AreHeldSo (steps ++ next.Turn place ∷ []) then u requests later turns
       so_visit place how then is over still = record {
-        heard = so.heard ++ (place, how) ∷ [];
-        told = told_more (place, how) then is;
+        heard = so.heard ++ ((place, how), None) ∷ [];
+        told = told_more ((place, how), None) then is;
         held = so.held;
         moments = so.moments;
         same = so.same;
@@ -260,22 +259,25 @@ module _ {P : Type 0} (traffic : P → Traffic) where
             (said.here place k at))
 
         -- one had its turn, and its request is held or isn't
-        pub so_held : (place : ℕ) (how : Step) (then : List (ℕ × Step)) → then ≡ now ++ (place, how) ∷ []
-            → (at : C) (after : List HeldRequest) → HoldsOne now_gives place how later requests at after
-            → AreStill traffic s u → (IsFree u place → how ≡ step.Over)
-            → AreHeldSo (steps ++ next.Turn place ∷ []) then u after at turns
-        so_held place how then is at after (inl (same, all, over)) still free =
-            rw (same, all) (so_visit place how then is over still)
-        so_held place how then is at after (inr (holds, moment, told, all)) still free =
+        pub so_held : (place : ℕ) (how : Step) (told : Option (Option ℕ)) (then : List Heard)
+            → then ≡ now ++ ((place, how), told) ∷ [] → (at : C) (after : List HeldRequest)
+            → HoldsOne now_gives ((place, how), told) later requests at after → AreStill traffic s u
+            → (IsFree u place → how ≡ step.Over) → AreHeldSo (steps ++ next.Turn place ∷ []) then u after at turns
+        so_held place how told then is at after (inl (none, same, all, over)) still free =
+            rw (same, all)
+            (so_visit place how then
+            (subst (λ (told : Option (Option ℕ)). then ≡ now ++ ((place, how), told) ∷ []) none is) over still)
+        so_held place how told then is at after (inr (holds, apart, moment, some, gives, all)) still free =
             let (l, there) = is_there u place how holds free (get_or u.places.items place None) refl in
             let (k, was, newer) = still place l there in
             rw all
             (so_turn (record { place = place; moment = moment }) ((traffic k.peer).number) at then
-            (subst (λ (how : Step). then ≡ now ++ (place, how) ∷ []) holds is) still
-            (has_kept place ((traffic k.peer).number) (k, was, refl)) (l, there, newer.number) told)
+            (subst (λ (told : Option (Option ℕ)). then ≡ now ++ ((place, step.Holds), told) ∷ []) some
+            (subst (λ (how : Step). then ≡ now ++ ((place, how), told) ∷ []) holds is)) apart still
+            (has_kept place ((traffic k.peer).number) (k, was, refl)) (l, there, newer.number) gives)
 
         -- some of them were answered, and the rest are held
-        pub so_answer : (front rest : List HeldRequest) (then : List (ℕ × Step)) → then ≡ now
+        pub so_answer : (front rest : List HeldRequest) (then : List Heard) → then ≡ now
             → requests ≡ front ++ rest → AreStill traffic s u → (more : List Turn)
             → AreAnsweredOf (IsHeldAt traffic s) front more
             → AreHeldSo (steps ++ next.Answer ∷ []) then u rest later (turns ++ more)

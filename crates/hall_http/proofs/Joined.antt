@@ -18,7 +18,8 @@ use Rattle.hall_desk.specs.declared.plan.Plan.{Plan}
 use Rattle.hall_desk.proofs.JoinLemmas.{plans_beside_are_answers}
 use Rattle.hall_http.specs.Answered.{IsUnavailable, answer_text}
 use Rattle.hall_http.specs.Connection.{Exchange}
-use Rattle.hall_http.specs.Groups.{AnswersInTurn, AreAnsweredTogether, AreMadeInTurn, AreRefusedAlike}
+use Rattle.hall_http.specs.Groups.{AnswersInTurn, AreAnsweredTogether, AreMadeInTurn, AreMadeWhole}
+use Rattle.hall_http.specs.Groups.{AreRefusedAlike}
 use Rattle.hall_http.specs.Joining.{HaveJoined, IsJoined, JoinsOne, JoinsRequest, StoresJoint, TakesReply, planned}
 use Rattle.hall_http.specs.Joining.{told_at_end}
 use Rattle.hall_http.specs.Request.{ReachesStore, RequestOf}
@@ -68,6 +69,13 @@ refused_alike tell is [] = refl
 refused_alike tell is (x ∷ xs) =
     subst (λ (y : Exchange). AreRefusedAlike (y ∷ map tell xs) (x ∷ xs)) (sym (is x))
     (unavailable_reply, x.reply, xs, refl, refused_alike tell is xs)
+
+refused_all : (tell : Exchange → Exchange) → IsRefusing tell → (xs : List Exchange)
+    → All (λ (x : Exchange). IsUnavailable x.reply) (map tell xs)
+refused_all tell is [] = All-nil (λ (x : Exchange). IsUnavailable x.reply)
+refused_all tell is (x ∷ xs) =
+    All-cons (λ (x : Exchange). IsUnavailable x.reply) (tell x) (map tell xs)
+    (subst (λ (y : Exchange). IsUnavailable y.reply) (sym (is x)) (record { same = refl })) (refused_all tell is xs)
 
 told_planned : (xs : List Exchange) → map (told_at_end Stored) xs ≡ xs
 told_planned [] = refl
@@ -229,7 +237,8 @@ module _ {H : Type 0} (content : H → Content) where
   -- what a stop leaves where the answers of those who joined were to be stored
   leaves_joined : (xs told : List Exchange) (rows : List AnswerRow) (e : GroupEnd) (h i : H)
       → HaveJoined content xs rows h → StoresJoint (content h) rows e (content i)
-      → (xs ≡ told) ⊎ AreRefusedAlike told xs → LeavesOneOf (AreMadeInTurn told) (content h) (content i)
+      → (xs ≡ told) ⊎ (AreRefusedAlike told xs × AreMadeWhole xs)
+      → LeavesOneOf (AreMadeInTurn told) (content h) (content i)
   leaves_joined xs told rows e h i joined ended alike honest left may =
       elim (ended.stops honest left may) [
         | inl earlier ↦ inl earlier
@@ -254,6 +263,7 @@ module _ {H : Type 0} (content : H → Content) where
           subst (λ (w : World). AnswersInTurn xs (content h).world w) (sym is)
               (joined.answered (ended.leads.honest honest) before),
         );
+    alike = inl joined.told;
   }
 
   -- it isn't, and each is told 503
@@ -264,9 +274,11 @@ module _ {H : Type 0} (content : H → Content) where
   refused_together tell is xs rows e h i not joined ended settled = record {
     leads = ended.leads;
     once = ended.once;
-    stops = leaves_joined xs (map tell xs) rows e h i joined ended (inr (refused_alike tell is xs));
+    stops = leaves_joined xs (map tell xs) rows e h i joined ended
+        (inr (refused_alike tell is xs, inr joined.told));
     settled = settled;
     answers = λ honest. inl (refused_in_turn tell is xs, ended.left not honest);
+    alike = inr (refused_all tell is xs);
   }
 
   planned_go_on : (xs : List Exchange) (h i : H) → All (λ (x : Exchange). ¬ (IsUnavailable x.reply)) xs

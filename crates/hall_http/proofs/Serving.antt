@@ -91,6 +91,7 @@ module _ {D H : Type 0} (kept : D → H) (content : H → Content) where
     stops = says.1.stops;
     settled = says.1.settled;
     answers = says.1.answers;
+    alike = says.1.alike;
   })
 
   -- a store that was read some times was only read

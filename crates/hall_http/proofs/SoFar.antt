@@ -7,7 +7,7 @@ use Rattle.std.proofs.lemmas.List.{append-nil}
 use Rattle.std.proofs.lemmas.List.Elements.{All-nil, All-push}
 use Rattle.http_server.specs.declared.log.Log.{Log}
 use Rattle.hall_http.specs.Peer.{Traffic}
-use Rattle.hall_http.specs.Coming.{Nexts, Said, since}
+use Rattle.hall_http.specs.Coming.{Heard, Nexts, Said, since}
 use Rattle.hall_http.specs.Crowd.{AreAnsweredOf, AreKept, AreStill, Holding, IsHeldFor}
 use Rattle.hall_http.specs.Crowd.{AnswersNoMore, ComesTo, HasAt, IsAt, IsFor, AllLeave, AreAsSaid, HasLeft}
 use Rattle.hall_http.specs.Crowd.{IsFree, KeepsPlace, MayLose, Past, Receives, WasHandedOut, WasHere, WasNext, WasToGo}
@@ -17,7 +17,6 @@ use Rattle.hall_http.specs.Crowd.{MayTurnAway}
 use Rattle.hall_http.specs.Crowd.{WasAt, WasStillHere, WasTaken}
 use Rattle.hall_http.specs.Turns.{Turn}
 use Rattle.hall_http.specs.declared.client.Client.{Client}
-use Rattle.hall_http.specs.declared.client.Step.{Step}
 use Rattle.hall_http.specs.declared.clients.Away.{Away}
 use Rattle.hall_http.specs.declared.clients.Away.TheVariants as away
 use Rattle.hall_http.specs.declared.clients.Clients.{Clients}
@@ -200,7 +199,7 @@ module _ {P : Type 0} (traffic : P → Traffic) where
         answers_grown gone more grows steps held later rest,
       )
 
-  pub turns_grown : (gone more : List (Past P)) → Grows gone more → (steps : Nexts P) (heard : List (ℕ × Step))
+  pub turns_grown : (gone more : List (Past P)) → Grows gone more → (steps : Nexts P) (heard : List Heard)
       (turns : List Turn) (held : List Holding) (moments : List (Option ℕ))
       → AreAtTurns traffic gone steps heard turns held moments → AreAtTurns traffic more steps heard turns held moments
   turns_grown gone more grows steps heard turns held moments at_first = at_first
@@ -213,9 +212,9 @@ module _ {P : Type 0} (traffic : P → Traffic) where
       (at_visit before told same some read place how at over) =
       at_visit before told same some read place how (turns_grown gone more grows before told same some read at) over
   turns_grown gone more grows steps heard turns held moments
-      (at_turn before told same some read number one at was) =
+      (at_turn before told same some read number one at was none) =
       at_turn before told same some read number one (turns_grown gone more grows before told same some read at)
-      (for_grown gone more grows before one.place number was)
+      (for_grown gone more grows before one.place number was) none
   turns_grown gone more grows steps heard turns held moments
       (at_answer before told some others front rest read at answered) =
       at_answer before told some others front rest read

@@ -1,5 +1,5 @@
 -- What the sockets said was to be done next, and why no more was.
-use Rattle.std.specs.Prelude.{◌≡◌, ◌⊎◌, ◌+◌, ℕ, Bool, true, false, List, [], ◌∷◌, ◌++◌, length, drop, map, All}
+use Rattle.std.specs.Prelude.{◌≡◌, ◌⊎◌, ◌+◌, ℕ, Bool, true, false, List, [], ◌∷◌, ◌++◌, Option, length, drop, map, All}
 use Rattle.http_server.specs.declared.log.Log.{Log}
 use Rattle.hall_http.specs.Peer.{Traffic, IsUntouched}
 use Rattle.hall_http.specs.declared.client.Step.{Step}
@@ -16,13 +16,18 @@ Nexts P = List (Next P)
 abbrev pub logged : {P B : Type 0} → Log (Next P) B → Nexts P
 logged log = map (λ one. one.0) log.items
 
+-- what is heard of a turn: the place, and how the connection there stands; and where its request is held from now on,
+-- the moment that was read for it
+abbrev pub Heard : Type 0
+Heard = (ℕ × Step) × Option (Option ℕ)
+
 -- All that the sockets said was to be done, how many newcomers they have handed out, and how many connections they were
--- asked for. And all that they heard of turns, in order: the place, and how the connection there stands.
+-- asked for. And all that they heard of turns, in order.
 pub record Said (P : Type 0) : Type 0 where
   pub nexts : Nexts P
   pub count : ℕ
   pub most : ℕ
-  pub heard : List (ℕ × Step)
+  pub heard : List Heard
 
 -- 1 for a turn, and 0 for anything else
 abbrev pub turn : {P : Type 0} → Next P → ℕ
@@ -39,7 +44,7 @@ abbrev pub AreAllHeard : {P : Type 0} → Said P → Type 0
 AreAllHeard said = length said.heard ≡ turns_in said.nexts
 
 -- this was heard, and nothing was said meanwhile
-abbrev pub Hears : {P : Type 0} → ℕ × Step → Said P → Said P → Type 0
+abbrev pub Hears : {P : Type 0} → Heard → Said P → Said P → Type 0
 Hears one old new =
     (new.nexts ≡ old.nexts) × (new.count ≡ old.count) × (new.most ≡ old.most) × (new.heard ≡ old.heard ++ one ∷ [])
 

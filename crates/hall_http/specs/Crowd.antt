@@ -1,17 +1,17 @@
 -- All connections that came, and what each was told.
 use Rattle.std.specs.Prelude.{◌≡◌, ◌≢◌, ◌<◌, ◌≤◌, ◌+◌, ◌⊎◌, ⊤, ℕ, List, [], ◌∷◌, ◌++◌, All, Option, Some, None}
-use Rattle.std.specs.Prelude.{◌==◌, not, length, map}
+use Rattle.std.specs.Prelude.{◌==◌, false, not, length, map}
 use Rattle.std.specs.List.{filter}
 use Rattle.std.proofs.Common.{get_or}
 use Rattle.hall_http.specs.Limits.{most_connections}
-use Rattle.hall_http.specs.Held.{HoldsNoMore}
+use Rattle.hall_http.specs.Held.{HoldsNoMore, is_held}
 use Rattle.hall_http.specs.Answered.{IsUnavailable}
 use Rattle.hall_http.specs.Peer.{Traffic, IsLater, IsOver, IsUntouched}
 use Rattle.hall_http.specs.Progress.{TakesTurnAt}
 use Rattle.hall_http.specs.Request.{ReachesStore}
 use Rattle.hall_http.specs.Steps.{StandsRightly}
 use Rattle.hall_http.specs.Turns.{GroupedSession, Turn, Service, exchanges_of, of, IsConnectionTold, IsClient}
-use Rattle.hall_http.specs.Coming.{Nexts, Said, AreCounted, AreDone, newcomer, since}
+use Rattle.hall_http.specs.Coming.{Heard, Nexts, Said, AreCounted, AreDone, newcomer, since}
 use Rattle.hall_http.specs.declared.server.Next.TheVariants as next
 use Rattle.hall_http.specs.declared.server.Next.{Next}
 use Rattle.hall_http.specs.declared.server.ServeAllEnd.{ServeAllEnd}
@@ -309,34 +309,36 @@ abbrev pub requests_in : List Holding → List HeldRequest
 requests_in held = map (λ one. one.1) held
 
 -- While these things were done, one after another, this was heard of the turns, these requests were answered, these are
--- held, and these moments were read. A moment is read only right after a turn by which a request is to be answered,
--- once, and then that request is held for it, behind all others: of a newcomer that was handed out for its place before
--- and kept it since. It is so after each such turn, unless one of the place is held already, or as many as may be.
--- Requests are answered only where the first of those that are held are taken off, in their order, each at its moment,
--- and of its connection, which has kept its place since. And what is held at a place is let go once a newcomer comes
--- for it.
+-- held, and these moments were read. A moment is read only for a turn by which a request is to be answered, and it is
+-- heard with that turn. The request, of a place of which none is held, is held for it then, behind all others: of a
+-- newcomer that was handed out for the place before and kept it since. So it is of each such turn, unless one of the
+-- place is held already, or as many as may be; and with any other no moment is heard. Requests are answered only where
+-- the first of those that are held are taken off, in their order, each at its moment, and of its connection, which has
+-- kept its place since. And what is held at a place is let go once a newcomer comes for it.
 pub data AreAtTurns {P : Type 0} (traffic : P → Traffic) (gone : List (Past P))
-    : Nexts P → List (ℕ × Step) → List Turn → List Holding → List (Option ℕ) → Type 0 where
+    : Nexts P → List Heard → List Turn → List Holding → List (Option ℕ) → Type 0 where
   at_first : AreAtTurns traffic gone [] [] [] [] []
-  at_other : (steps : Nexts P) (heard : List (ℕ × Step)) (turns : List Turn) (held : List Holding)
+  at_other : (steps : Nexts P) (heard : List Heard) (turns : List Turn) (held : List Holding)
       (moments : List (Option ℕ)) (one : Next P) → IsNoTurn one → newcomer one ≡ 0
       → AreAtTurns traffic gone steps heard turns held moments
       → AreAtTurns traffic gone (steps ++ one ∷ []) heard turns held moments
-  at_newcomer : (steps : Nexts P) (heard : List (ℕ × Step)) (turns : List Turn) (held : List Holding)
+  at_newcomer : (steps : Nexts P) (heard : List Heard) (turns : List Turn) (held : List Holding)
       (moments : List (Option ℕ)) (place : ℕ) (peer : P)
       → AreAtTurns traffic gone steps heard turns held moments
       → AreAtTurns traffic gone (steps ++ next.Newcomer place peer ∷ []) heard turns (without_holding place held)
       moments
-  at_visit : (steps : Nexts P) (heard : List (ℕ × Step)) (turns : List Turn) (held : List Holding)
+  at_visit : (steps : Nexts P) (heard : List Heard) (turns : List Turn) (held : List Holding)
       (moments : List (Option ℕ)) (place : ℕ) (how : Step)
       → AreAtTurns traffic gone steps heard turns held moments → HoldsNoMore place how (requests_in held)
-      → AreAtTurns traffic gone (steps ++ next.Turn place ∷ []) (heard ++ (place, how) ∷ []) turns held moments
-  at_turn : (steps : Nexts P) (heard : List (ℕ × Step)) (turns : List Turn) (held : List Holding)
+      → AreAtTurns traffic gone (steps ++ next.Turn place ∷ []) (heard ++ ((place, how), None) ∷ []) turns held moments
+  at_turn : (steps : Nexts P) (heard : List Heard) (turns : List Turn) (held : List Holding)
       (moments : List (Option ℕ)) (number : ℕ) (one : HeldRequest)
       → AreAtTurns traffic gone steps heard turns held moments → IsFor traffic gone steps one.place number
-      → AreAtTurns traffic gone (steps ++ next.Turn one.place ∷ []) (heard ++ (one.place, step.Holds) ∷ []) turns
-      (held ++ (number, one) ∷ []) (moments ++ one.moment ∷ [])
-  at_answer : (steps : Nexts P) (heard : List (ℕ × Step)) (turns more : List Turn) (front held : List Holding)
+      → is_held one.place (requests_in held) ≡ false
+      → AreAtTurns traffic gone (steps ++ next.Turn one.place ∷ [])
+      (heard ++ ((one.place, step.Holds), Some one.moment) ∷ []) turns (held ++ (number, one) ∷ [])
+      (moments ++ one.moment ∷ [])
+  at_answer : (steps : Nexts P) (heard : List Heard) (turns more : List Turn) (front held : List Holding)
       (moments : List (Option ℕ)) → AreAtTurns traffic gone steps heard turns (front ++ held) moments
       → AreAnsweredOf (IsHeldFor traffic gone steps) front more
       → AreAtTurns traffic gone (steps ++ next.Answer ∷ []) heard (turns ++ more) held moments
@@ -345,7 +347,7 @@ pub data AreAtTurns {P : Type 0} (traffic : P → Traffic) (gone : List (Past P)
 abbrev pub AreAtMoments : {C P : Type 0} → (P → Traffic) → (C → Option ℕ → C → Type 0) → C → List (Past P)
     → Said P × Said P → List Turn → C → Type 0
 AreAtMoments traffic now_gives clock gone (old, new) turns later =
-    (heard : List (ℕ × Step)) × (held : List Holding) × (moments : List (Option ℕ))
+    (heard : List Heard) × (held : List Holding) × (moments : List (Option ℕ))
     × (new.heard ≡ old.heard ++ heard) × AreAtTurns traffic gone (since old new) heard turns held moments
     × AreReadings now_gives clock moments later
 
@@ -399,7 +401,7 @@ pub record IsToldRightly {P : Type 0} (may_wait : List Turn → List ℕ → Typ
   pub came : AreCounted traffic few steps many
   pub kept : AreKept traffic few many turns clients
   pub said : AreAsSaid traffic steps clients
-  pub heard : List (ℕ × Step)
+  pub heard : List Heard
   pub held : List Holding
   pub moments : List (Option ℕ)
   pub turned : AreAtTurns traffic clients.gone.items steps heard turns held moments
@@ -410,24 +412,25 @@ pub record IsToldRightly {P : Type 0} (may_wait : List Turn → List ℕ → Typ
 -- While these things were done, and these requests answered, this was heard of the turns: of each of them, in their
 -- order, how whoever is at its place stands, by connections as they may be then.
 pub data AreHeard {P : Type 0} (may_wait : List Turn → List ℕ → Type 0) (traffic : P → Traffic) (few : ℕ)
-    (became : Clients P → Type 0) : Nexts P → List Turn → List (ℕ × Step) → Type 0 where
+    (became : Clients P → Type 0) : Nexts P → List Turn → List Heard → Type 0 where
   heard_first : AreHeard may_wait traffic few became [] [] []
-  heard_other : (steps : Nexts P) (turns : List Turn) (heard : List (ℕ × Step)) (one : Next P) → IsNoTurn one
+  heard_other : (steps : Nexts P) (turns : List Turn) (heard : List Heard) (one : Next P) → IsNoTurn one
       → AreHeard may_wait traffic few became steps turns heard
       → AreHeard may_wait traffic few became (steps ++ one ∷ []) turns heard
-  heard_answer : (steps : Nexts P) (turns more : List Turn) (heard : List (ℕ × Step))
+  heard_answer : (steps : Nexts P) (turns more : List Turn) (heard : List Heard)
       → AreHeard may_wait traffic few became steps turns heard
       → AreHeard may_wait traffic few became (steps ++ next.Answer ∷ []) (turns ++ more) heard
-  heard_turn : (steps : Nexts P) (turns : List Turn) (heard : List (ℕ × Step)) (place : ℕ) (how : Step)
-      → AreHeard may_wait traffic few became steps turns heard
+  heard_turn : (steps : Nexts P) (turns : List Turn) (heard : List Heard) (place : ℕ) (how : Step)
+      (held : Option (Option ℕ)) → AreHeard may_wait traffic few became steps turns heard
       → IsToldRightly may_wait traffic few became (steps ++ next.Turn place ∷ []) turns (place, how)
-      → AreHeard may_wait traffic few became (steps ++ next.Turn place ∷ []) turns (heard ++ (place, how) ∷ [])
+      → AreHeard may_wait traffic few became (steps ++ next.Turn place ∷ []) turns
+      (heard ++ ((place, how), held) ∷ [])
 
 -- so the sockets heard of the turns in the meantime, while these requests were answered
 abbrev pub HaveHeard : {P : Type 0} → (List Turn → List ℕ → Type 0) → (P → Traffic) → (Clients P → Type 0) → Said P
     → Said P → List Turn → Type 0
 HaveHeard may_wait traffic became old new turns =
-    (heard : List (ℕ × Step)) × (new.heard ≡ old.heard ++ heard)
+    (heard : List Heard) × (new.heard ≡ old.heard ++ heard)
     × AreHeard may_wait traffic old.count became (since old new) turns heard
 
 -- so the connections stand after these requests, and after each turn in the meantime the sockets heard how it stands

@@ -1,9 +1,10 @@
 -- Requests that are answered over a store in groups: what those of a group change is stored by one write, and told
 -- after it.
-use Rattle.std.specs.Prelude.{◌≡◌, ◌≢◌, ◌⊎◌, ℕ, List, [], ◌∷◌, ◌++◌, All}
+use Rattle.std.specs.Prelude.{◌≡◌, ◌≢◌, ◌⊎◌, ℕ, List, [], ◌∷◌, ◌++◌, All, length}
 use Rattle.hall_policy.specs.World.{World}
 use Rattle.hall_store.specs.Store.{Content, IsSettled, Kept, Leads, LeavesOneOf, Over, WritesOnce}
 use Rattle.hall_desk.specs.declared.reply.Reply.TheVariants.{Unavailable as NotServed}
+use Rattle.hall_http.specs.Answered.{IsUnavailable}
 use Rattle.hall_http.specs.Connection.{Exchange, of_groups}
 use Rattle.hall_http.specs.Resting.{IsGroup}
 use Rattle.hall_http.specs.Reply.{BytesOf}
@@ -22,14 +23,23 @@ AreRefusedAlike (x ∷ xs) made =
     BytesOf NotServed x.reply × (reply : List ℕ) × (more : List Exchange)
     × (made ≡ record { request = x.request; moment = x.moment; reply = reply } ∷ more) × AreRefusedAlike xs more
 
--- the requests were made as they were answered; or each was answered 503, and they were made all the same
+-- none of the requests was answered 503; or it is one alone
+abbrev pub AreMadeWhole : List Exchange → Type 0
+AreMadeWhole made = (length made ≡ 1) ⊎ All (λ x. ¬ (IsUnavailable x.reply)) made
+
+-- the requests were made as they were answered; or each was answered 503, and all of them were made all the same
 abbrev pub AreMadeInTurn : List Exchange → World → World → Type 0
 AreMadeInTurn xs before after =
-    (made : List Exchange) × ((made ≡ xs) ⊎ AreRefusedAlike xs made) × AnswersInTurn made before after
+    (made : List Exchange) × ((made ≡ xs) ⊎ (AreRefusedAlike xs made × AreMadeWhole made))
+    × AnswersInTurn made before after
+
+-- none of the requests was answered 503, or each was
+abbrev pub AreToldAlike : List Exchange → Type 0
+AreToldAlike xs = All (λ x. ¬ (IsUnavailable x.reply)) xs ⊎ All (λ x. IsUnavailable x.reply) xs
 
 -- The requests were answered together over a store, by one write at most: one after another, or by what no store
--- decides. A stop meanwhile, or after it, leaves what a stop before it could leave, or the world after all of them;
--- where each was answered 503, also after what they would have made.
+-- decides; and each by 503, or none. A stop meanwhile, or after it, leaves what a stop before it could leave, or the
+-- world after all of them; where each was answered 503, also after all that they would have made.
 pub record AreAnsweredTogether {H : Type 0} (content : H → Content) (old : H) (xs : List Exchange) (new : H) : Type 0
   where
     pub leads : Leads (content old) (content new)
@@ -37,6 +47,7 @@ pub record AreAnsweredTogether {H : Type 0} (content : H → Content) (old : H) 
     pub stops : LeavesOneOf (AreMadeInTurn xs) (content old) (content new)
     pub settled : IsSettled (content new)
     pub answers : (content new).honest → Over (AnswersInTurn xs) (content old) (content new)
+    pub alike : AreToldAlike xs
 
 -- a group is one request that was answered alone, or some that were answered together
 abbrev pub IsGroupAnswered : {H : Type 0} → (H → Content) → H → List Exchange → H → Type 0
@@ -56,8 +67,8 @@ abbrev pub AreAnsweredInGroups : {H : Type 0} → (H → Content) → H → List
 AreAnsweredInGroups content old xs new =
     (groups : List (List Exchange)) × (of_groups groups ≡ xs) × AreAnsweredWhileOpen content old groups new
 
--- One group was answered 503 and made all the same: those before it are a run of the hall, from where that ended the
--- group leads to this world, and those after it are a run that leaves that.
+-- One group was answered 503 and made all the same, as a whole: those before it are a run of the hall, from where that
+-- ended the group leads to this world, and those after it are a run that leaves that.
 pub record IsRunWithGroup (world : World) (groups : List (List Exchange)) (left : World) : Type 0 where
   pub before : List (List Exchange)
   pub group : List Exchange
@@ -67,6 +78,7 @@ pub record IsRunWithGroup (world : World) (groups : List (List Exchange)) (left 
   pub run : IsRunOver world (of_groups before) between
   pub made : List Exchange
   pub refused : AreRefusedAlike group made
+  pub whole : AreMadeWhole made
   pub answered : AnswersInTurn made between left
   pub stays : IsRunOver left (of_groups after) left
 

@@ -2,7 +2,7 @@
 use Rattle.std.specs.Prelude.{◌≡◌, ◌≢◌, ◌<◌, ◌≤◌, ◌+◌, ◌==◌, ◌⊎◌, ℕ, Bool, true, List, [], ◌∷◌, ◌++◌}
 use Rattle.std.specs.Prelude.{Option, Some, None, flat_map, get_or, is_some, length, map, set}
 use Rattle.mio.specs.declared.net.stream.TcpStream.{TcpStream}
-use Rattle.hall_http.specs.Coming.{Nexts}
+use Rattle.hall_http.specs.Coming.{Heard, Nexts}
 use Rattle.hall_http.specs.Limits.{most_connections}
 use Rattle.hall_http.specs.Queue.{called, waits_in}
 use Rattle.hall_http.specs.Places.{HasExpired, MayMakeRoom, counted_for, goes_at, taken, wait_in}
@@ -62,11 +62,11 @@ LeavesBy step.Over old place new = is_some (get_or old.visits.items place None) 
 LeavesBy _ old place new = new.freed.items ≡ old.freed.items
 
 -- this was heard of a turn, at this millisecond, and who left its place by it has; else they are still
-abbrev pub HasHeard : Places → ℕ × Step → Places → Type 0
+abbrev pub HasHeard : Places → Heard → Places → Type 0
 HasHeard old one new =
     (new.seated.items ≡ old.seated.items) × (new.most ≡ old.most) × (new.let_go.items ≡ old.let_go.items)
     × (new.heard.items ≡ old.heard.items ++ (one, old.elapsed) ∷ []) × (new.elapsed ≡ old.elapsed)
-    × LeavesBy one.1 old one.0 new
+    × LeavesBy one.0.1 old one.0.0 new
 
 -- the place is free, and one more may be here
 abbrev pub IsOpen : Places → ℕ → Type 0

@@ -20,6 +20,7 @@ use crate::queue::{Motion, Queue};
 use crate::server::{Next, Sockets};
 use crate::socket::Socket;
 use hall_grid::Counted;
+use hall_policy::Moment;
 use http_server::Log;
 use mio::event::Event;
 use mio::net::{TcpListener, TcpStream};
@@ -173,13 +174,13 @@ impl<'r, N: time::Clock, E: Write> Sockets for EventLoop<'r, N, E> {
         next
     }
 
-    fn stands(&mut self, place: usize, step: Step)
-        ensures heard { Hears (place, step) (said_by self.old) (said_by self.new) }
+    fn stands(&mut self, place: usize, step: Step, held: Option<Option<Moment>>)
+        ensures heard { Hears ((place, step), held) (said_by self.old) (said_by self.new) }
         ensures elapsed { self.new.schedule.places.elapsed ≡ self.old.schedule.places.elapsed }
         ensures ready { IsInLine self.new.schedule.places place step self.new.schedule.ready }
         ensures fair { IsFair self.new }
     {
-        self.schedule.stands(place, step);
+        self.schedule.stands(place, step, held);
     }
 
     fn answered(&mut self, place: usize)
@@ -727,13 +728,13 @@ impl<'r, N: time::Clock> Schedule<'r, N> {
         }
     }
 
-    /// Hears how the connection at the place stands after its turn.
-    fn stands(&mut self, place: usize, step: Step)
-        ensures heard { HasHeard self.old.places (place, step) self.new.places }
+    /// Hears how the connection at the place stands after its turn, and for which moment its request is held.
+    fn stands(&mut self, place: usize, step: Step, held: Option<Option<Moment>>)
+        ensures heard { HasHeard self.old.places ((place, step), held) self.new.places }
         ensures line { called self.new.ready ≡ called self.old.ready }
         ensures ready { IsInLine self.new.places place step self.new.ready }
     {
-        self.places.hears(place, step);
+        self.places.hears(place, step, held);
         match self.places.at(place) {
             Some(Visit::Ready(_)) if step == Step::Holds => {
                 self.holding = self.holding.saturating_add(1);

@@ -1,19 +1,19 @@
 //! The requests that are held: they stand whole, and wait to be answered, in the order in which they were heard.
-ghost use Rattle.std.specs.Prelude.{◌≡◌, ◌<◌, ◌==◌, List, [], ◌∷◌, IfOk, MatchOption, false, length, true};
-ghost use Rattle.std.specs.List.{list_any};
+ghost use Rattle.std.specs.Prelude.{◌≡◌, ◌<◌, ◌++◌, List, [], ◌∷◌, IfOk, MatchOption, false, length, true};
 ghost use Rattle.hall_http.specs.Limits.{most_connections};
 ghost use Rattle.hall_http.specs.declared.client.Step.TheVariants as Step;
 ghost use Rattle.hall_http.specs.declared.clients.HeldRequest.{HeldRequest};
 ghost use Rattle.hall_http.specs.Crowd.{without};
-ghost use Rattle.hall_http.specs.Held.{HoldsNoMore, HoldsOne};
+ghost use Rattle.hall_http.specs.Held.{HoldsNoMore, HoldsOne, is_held};
 
 use crate::client::Step;
 use crate::clients::{HeldRequest, MOST_CLIENTS};
 use crate::connection::Clock;
+use hall_policy::Moment;
 use std::alloc::{AllocError, Global};
 use std::marker::Model;
 
-/// Those that are held, none twice.
+/// Those that are held. None comes in of a place of which one is held.
 #[derive(Drop)]
 pub(crate) struct Held {
     requests: Vec<HeldRequest>,
@@ -43,15 +43,16 @@ impl Held {
 
     /// Whether a request of the place is held.
     fn has(&self, place: usize) -> bool
-        ensures { result ≡ list_any (λ one. one.place == place) self.now }
+        ensures { result ≡ is_held place self.now }
     {
         self.requests.iter().any(|one| one.place == place)
     }
 
     /// Whether the connection at the place stands so after its turn that its request is to be held, and isn't yet.
-    /// Since none is held twice, there is room for it.
+    /// Since none comes in twice, there is room for it.
     fn may_hold(&self, place: usize, step: Step) -> bool
-        ensures may { result ≡ true → (step ≡ Step.Holds) × (length self.now < most_connections) }
+        ensures may { result ≡ true →
+            (step ≡ Step.Holds) × (is_held place self.now ≡ false) × (length self.now < most_connections) }
         ensures not { result ≡ false → HoldsNoMore place step self.now }
     {
         match step {
@@ -61,15 +62,32 @@ impl Held {
     }
 
     /// Where the connection at the place stands so after its turn that its request is to be answered, that is held from
-    /// now on, unless it was before. Then the clock is asked for its moment, and else it isn't.
-    pub(crate) fn hold<C: Clock>(&mut self, place: usize, step: Step, clock: &mut C)
-        ensures { HoldsOne C.now_gives place step clock.old self.old clock.new self.new }
+    /// now on, unless it was before. Then the clock is asked for its moment, which comes of it, and else it isn't.
+    pub(crate) fn hold<C: Clock>(
+        &mut self,
+        place: usize,
+        step: Step,
+        clock: &mut C,
+    ) -> Option<Option<Moment>>
+        ensures { HoldsOne C.now_gives ((place, step), result) clock.old self.old clock.new self.new }
     {
         if !self.may_hold(place, step) {
-            return;
+            return None;
         }
         let moment = clock.now();
-        self.requests.push_reserved(HeldRequest { place, moment });
+        self.add(place, &moment);
+        Some(moment)
+    }
+
+    /// A request of the place is held for the moment, behind the others.
+    fn add(&mut self, place: usize, moment: &Option<Moment>)
+        requires { length self.old < most_connections }
+        ensures { self.new ≡ self.old ++ record { place = place; moment = moment.now } ∷ [] }
+    {
+        self.requests.push_reserved(HeldRequest {
+            place,
+            moment: *moment,
+        });
     }
 
     /// Nothing is held at the place any more.

@@ -7,6 +7,7 @@ ghost use Rattle.hall_http.specs.declared.places.Visit.TheVariants.{Ready};
 
 use crate::client::{Step, Wish};
 use crate::clients::MOST_CLIENTS;
+use hall_policy::Moment;
 use http_server::Log;
 use mio::net::TcpStream;
 use std::alloc::{AllocError, Global};
@@ -116,7 +117,7 @@ pub(crate) struct Places {
     /// Those that were let go, and the millisecond.
     let_go: Log<LetGo, u64>,
     /// All that was heard of turns, and the millisecond.
-    heard: Log<(usize, Step), u64>,
+    heard: Log<((usize, Step), Option<Option<Moment>>), u64>,
     ghost long: { length visits.items ≡ most_connections },
     ghost counted: { here ≡ taken visits.items },
     ghost in_all: { left + (length freed.items + length lost.items) ≡ most },
@@ -249,9 +250,10 @@ impl Places {
         }
     }
 
-    /// Hears how the connection at the place, if one is there, stands after its turn.
-    pub(crate) fn hears(&mut self, place: usize, step: Step)
-        ensures heard { HasHeard self.old (place, step) self.new }
+    /// Hears how the connection at the place, if one is there, stands after its turn, and for which moment its request
+    /// is held, where it is from now on.
+    pub(crate) fn hears(&mut self, place: usize, step: Step, held: Option<Option<Moment>>)
+        ensures heard { HasHeard self.old ((place, step), held) self.new }
         ensures there { TouchesOnly self.old place self.new }
         ensures known { (visit : Visit) → get_or self.new.visits.items place None ≡ Some visit →
             IsHeard (get_or self.old.visits.items place None) step self.old.elapsed visit }
@@ -272,7 +274,7 @@ impl Places {
             }
             Step::Over => self.free(place),
         }
-        self.heard = self.heard.and(&(place, step), &self.elapsed);
+        self.heard = self.heard.and(&((place, step), held), &self.elapsed);
     }
 
     /// Gives a newcomer the place, which is ready and has waited for nothing. What comes of it is which places were

@@ -33,6 +33,7 @@ use crate::peer::Peer;
 use crate::responder::{GroupEnd, Responder};
 use crate::routes::Routes;
 use hall_desk::Desk;
+use hall_policy::Moment;
 use hall_store::Store;
 use std::alloc::{AllocError, Global};
 
@@ -83,9 +84,10 @@ pub trait Sockets {
         ensures over { result ≡ Next.End → is_over self.new }
         ensures fair { is_fair self.new };
 
-    /// Hears how the connection at the place stands after its turn.
-    fn stands(&mut self, place: usize, step: Step)
-        ensures heard { Hears (place, step) (said self.old) (said self.new) }
+    /// Hears how the connection at the place stands after its turn, and where its request is held from now on, the
+    /// moment that was read for it.
+    fn stands(&mut self, place: usize, step: Step, held: Option<Option<Moment>>)
+        ensures heard { Hears ((place, step), held) (said self.old) (said self.new) }
         ensures fair { is_fair self.new };
 
     /// The connection at the place, whose request was held, isn't held any more: it can go on.
@@ -207,8 +209,8 @@ fn handle_all<H: Responder, S: Sockets, C: Clock>(
             }
             Next::Turn(place) => {
                 let step = visit(alloc, routes, place, clients, responder);
-                held.hold(place, step, clock);
-                sockets.stands(place, step);
+                let moment = held.hold(place, step, clock);
+                sockets.stands(place, step, moment);
             }
             Next::Answer => {
                 if !answer_held(alloc, routes, clients, held, sockets, responder) {

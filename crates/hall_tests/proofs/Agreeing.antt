@@ -1,13 +1,12 @@
 -- Sockets that hand on what others say agree with them in their turns.
-use Rattle.std.proofs.Common.{◌≡◌, ◌⊎◌, inl, inr, ap, arith, ℕ, ◌+◌, List, [], ◌∷◌, ◌++◌, length, length-append}
-use Rattle.hall_http.specs.Coming.{Nexts, Said, AreAllHeard, Hears, turns_in}
-use Rattle.hall_http.specs.declared.client.Step.{Step}
+use Rattle.std.proofs.Common.{◌≡◌, ◌⊎◌, inl, inr, ap, arith, ◌+◌, List, [], ◌∷◌, ◌++◌, length, length-append}
+use Rattle.hall_http.specs.Coming.{Heard, Nexts, Said, AreAllHeard, Hears, turns_in}
 use Rattle.hall_http.specs.declared.server.Next.{Next}
 use Rattle.hall_http.specs.declared.server.Next.TheVariants as next
 use Rattle.hall_http.proofs.Comings.{turns_more}
 use Rattle.hall_tests.specs.Brief.{AgreeInTurns}
 
-module _ {P : Type 0} (nexts : Nexts P) (heard : List (ℕ × Step)) (old : Said P) (agree : AgreeInTurns nexts heard old)
+module _ {P : Type 0} (nexts : Nexts P) (heard : List Heard) (old : Said P) (agree : AgreeInTurns nexts heard old)
   where
     pub agree_heard : length heard ≡ turns_in nexts → AreAllHeard old
     agree_heard all = omega (arith, agree.turns, agree.many, all)
@@ -26,7 +25,7 @@ module _ {P : Type 0} (nexts : Nexts P) (heard : List (ℕ × Step)) (old : Said
         many = omega (arith, agree.many, ap length same);
       }
 
-      pub agree_told : (one : ℕ × Step) → Hears one old new → AgreeInTurns nexts (heard ++ one ∷ []) new
+      pub agree_told : (one : Heard) → Hears one old new → AgreeInTurns nexts (heard ++ one ∷ []) new
       agree_told one hears = record {
         turns = omega (arith, agree.turns, ap turns_in hears.0);
         many = omega (
@@ -42,7 +41,7 @@ module _ {P : Type 0} (nexts : Nexts P) (heard : List (ℕ × Step)) (old : Said
       agree_same same = rw same agree
 
 -- one thing more was said: that none can come in, and the others said nothing; or what the others said
-pub agree_then : {P : Type 0} (nexts all : Nexts P) (heard : List (ℕ × Step)) (old new : Said P) (x : Next P)
+pub agree_then : {P : Type 0} (nexts all : Nexts P) (heard : List Heard) (old new : Said P) (x : Next P)
     → AgreeInTurns nexts heard old → all ≡ nexts ++ x ∷ []
     → ((x ≡ next.Refused) × (new ≡ old)) ⊎ ((new.nexts ≡ old.nexts ++ x ∷ []) × (new.heard ≡ old.heard))
     → AgreeInTurns all heard new

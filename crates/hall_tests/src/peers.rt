@@ -4,6 +4,7 @@ ghost use Rattle.hall_http.specs.Coming.{logged};
 ghost use Rattle.hall_http.specs.Outgoing.{outgoing_text};
 
 use hall_http::{Call, Moved, Next, Outgoing, Peer, Sockets, Step};
+use hall_policy::Moment;
 use http_server::Log;
 use std::alloc::Global;
 use std::cell::{Cell, RefCell};
@@ -235,7 +236,7 @@ pub(crate) struct Listed<'a> {
     /// Whether who had its turn has the next one too, as long as it can go on.
     is_stubborn: bool,
     nexts: Log<Next<Scripted<'a>>, usize>,
-    heard: Log<(usize, Step), u64>,
+    heard: Log<((usize, Step), Option<Option<Moment>>), u64>,
     seated: Log<usize, u64>,
 }
 
@@ -319,8 +320,8 @@ impl<'a> Sockets for Listed<'a> {
         self.noted(Next::Turn(place))
     }
 
-    fn stands(&mut self, place: usize, step: Step) {
-        self.heard = self.heard.and(&(place, step), &self.turns);
+    fn stands(&mut self, place: usize, step: Step, held: Option<Option<Moment>>) {
+        self.heard = self.heard.and(&((place, step), held), &self.turns);
         let _ = match step {
             Step::Over => Ok(()),
             Step::Holds => {

@@ -9,6 +9,7 @@ use hall_desk::Desk;
 use hall_http::{
     Clock, EventLoop, Host, Next, Socket, Sockets, Step, SystemClock, SystemHost, serve_all,
 };
+use hall_policy::Moment;
 use hall_store::Store;
 use http_server::Log;
 use std::io;
@@ -22,7 +23,7 @@ struct Brief<'r> {
     inner: EventLoop<'r, HostRuntime, Stderr>,
     has_gone: bool,
     nexts: Log<Next<Socket>, bool>,
-    heard: Log<(usize, Step), bool>,
+    heard: Log<((usize, Step), Option<Option<Moment>>), bool>,
     ghost same: { AgreeInTurns (logged nexts) (map (λ one. one.0) heard.items) (said_by inner) },
 }
 
@@ -51,10 +52,10 @@ impl<'r> Sockets for Brief<'r> {
         next
     }
 
-    fn stands(&mut self, place: usize, step: Step) {
+    fn stands(&mut self, place: usize, step: Step, held: Option<Option<Moment>>) {
         self.has_gone = matches!(step, Step::Over);
-        self.heard = self.heard.and(&(place, step), &self.has_gone);
-        self.inner.stands(place, step);
+        self.heard = self.heard.and(&((place, step), held), &self.has_gone);
+        self.inner.stands(place, step, held);
     }
 
     fn answered(&mut self, place: usize) {

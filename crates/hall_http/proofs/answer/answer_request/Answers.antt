@@ -32,38 +32,43 @@ returns-in-Ok-clause-answers g c =
     (g.S.ReadStore.content (kept_by c.args.desk.now)) (g.S.ReadStore.content (kept_by c.step_bytes.new.desk))
     (λ before after step. inl step) (c.in-Ok.ensures.ok h))
 
+pub returns-in-Refused-clause-answers : goal.returns-in-Refused-clause-answers
+returns-in-Refused-clause-answers g c =
+    let kept = c.unavailable.ensures.kept in
+    λ h. inl ((λ world. inr (rw c.unavailable.ensures.text unavailable_reply, refl)), λ s. kept.world h s)
+
 pub returns-in-Err-clause-leads : goal.returns-in-Err-clause-leads
 returns-in-Err-clause-leads g c =
     let mid = g.S.ReadStore.content (kept_by c.step_bytes.new.desk) in
-    let new = g.S.ReadStore.content (kept_by c.unavailable.new.desk) in
+    let new = g.S.ReadStore.content (kept_by c.unavailable-in-Err.new.desk) in
     leads_then (g.S.ReadStore.content (kept_by c.args.desk.now)) mid new c.in-Err.ensures.leads
-    (kept_leads mid new c.unavailable.ensures.kept)
+    (kept_leads mid new c.unavailable-in-Err.ensures.kept)
 
 pub returns-in-Err-clause-once : goal.returns-in-Err-clause-once
-returns-in-Err-clause-once g c = omega (arith, c.in-Err.ensures.once, c.unavailable.ensures.kept.writes)
+returns-in-Err-clause-once g c = omega (arith, c.in-Err.ensures.once, c.unavailable-in-Err.ensures.kept.writes)
 
 pub returns-in-Err-clause-quiet : goal.returns-in-Err-clause-quiet
 returns-in-Err-clause-quiet g c = λ h s quiet.
-    let kept = c.unavailable.ensures.kept in
+    let kept = c.unavailable-in-Err.ensures.kept in
     let none = c.in-Err.ensures.quiet (kept.honest h) (kept.serves h s) quiet in
     omega (arith, none, kept.writes)
 
 pub returns-in-Err-clause-answers : goal.returns-in-Err-clause-answers
 returns-in-Err-clause-answers g c =
-    let kept = c.unavailable.ensures.kept in
+    let kept = c.unavailable-in-Err.ensures.kept in
     λ h. inl (
-      (λ world. inr (rw c.unavailable.ensures.text unavailable_reply, refl)),
+      (λ world. inr (rw c.unavailable-in-Err.ensures.text unavailable_reply, refl)),
       λ s. kept.world h s ∙ c.in-Err.ensures.err (kept.honest h) (kept.serves h s),
     )
 
 pub returns-in-Err-clause-untouched : goal.returns-in-Err-clause-untouched
 returns-in-Err-clause-untouched g c = λ nobody.
-    c.unavailable.ensures.untouched nobody ∙ c.in-Err.ensures.untouched nobody
+    c.unavailable-in-Err.ensures.untouched nobody ∙ c.in-Err.ensures.untouched nobody
 
 pub returns-in-Err-clause-goes_on : goal.returns-in-Err-clause-goes_on
 returns-in-Err-clause-goes_on g c = λ stays told.
-    elim (c.unavailable.ensures.goes_on stays) [
-      | inl nobody ↦ inl (c.unavailable.ensures.untouched nobody ∙ c.in-Err.ensures.untouched nobody)
+    elim (c.unavailable-in-Err.ensures.goes_on stays) [
+      | inl nobody ↦ inl (c.unavailable-in-Err.ensures.untouched nobody ∙ c.in-Err.ensures.untouched nobody)
       | inr serves ↦ inr serves
     ]
 
@@ -86,13 +91,13 @@ returns-in-Ok-clause-stops g c =
 
 pub returns-in-Err-clause-stops : goal.returns-in-Err-clause-stops
 returns-in-Err-clause-stops g c =
-    let text : List ℕ = answer_text c.unavailable.result in
+    let text : List ℕ = answer_text c.unavailable-in-Err.result in
     let mid = g.S.ReadStore.content (kept_by c.step_bytes.new.desk) in
-    let kept = c.unavailable.ensures.kept in
+    let kept = c.unavailable-in-Err.ensures.kept in
     let stops = leaves_turn
     (λ before left. (made : List ℕ) × Unit {0} × IsStepReply before c.args.moment c.args.request.now made left)
     (λ before left. (made : List ℕ) × ((made ≡ text) ⊎ BytesOf NotServed text)
     × IsStepReply before c.args.moment c.args.request.now made left)
     (g.S.ReadStore.content (kept_by c.args.desk.now)) mid
-    (λ before left it. (it.0, inr (rw c.unavailable.ensures.text unavailable_reply), it.2)) c.in-Err.ensures.stops in
+    (λ before left it. (it.0, inr (rw c.unavailable-in-Err.ensures.text unavailable_reply), it.2)) c.in-Err.ensures.stops in
     λ h left may. stops (kept.honest h) left (kept.stops h left may)

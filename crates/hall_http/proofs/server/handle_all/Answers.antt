@@ -1,7 +1,6 @@
-use Rattle.std.proofs.Common.{◌≡◌, ◌∙◌, ap, refl, arith, inl, subst, sym, ℕ, List, [], ◌∷◌, ◌++◌, true, false}
-use Rattle.hall_http.specs.Coming.{Nexts, Said, since}
+use Rattle.std.proofs.Common.{◌≡◌, ◌∙◌, ap, refl, arith, inl, subst, sym, List, [], ◌∷◌, ◌++◌, true, false}
+use Rattle.hall_http.specs.Coming.{Heard, Nexts, Said, since}
 use Rattle.hall_http.specs.Crowd.{AreAtMoments}
-use Rattle.hall_http.specs.declared.client.Step.{Step}
 use Rattle.hall_http.specs.declared.clients.Departure.TheVariants as departure
 use Rattle.hall_http.specs.declared.server.Next.TheVariants as next
 use Rattle.hall_http.specs.declared.server.ServeAllEnd.TheVariants as end
@@ -97,8 +96,9 @@ loop-step-preserved g c =
           let most = told.2 ∙ w.in-Turn.ensures.most in
           let place = w.in-Turn.place in
           let how = w.visit-step.result in
+          let read = w.hold-moment.result in
           let heard = told.3
-          ∙ ap (λ (all : List (ℕ × Step)). all ++ (place, how) ∷ []) w.in-Turn.ensures.heard in
+          ∙ ap (λ (all : List Heard). all ++ ((place, how), read) ∷ []) w.in-Turn.ensures.heard in
           let one = next.Turn place in
           let more = since_more traffic old now _ done one later nexts in
           let clients = w.visit-step.new.clients in
@@ -106,20 +106,20 @@ loop-step-preserved g c =
           let lost = w.visit-step.ensures.lost in
           let so = so_held traffic gives first old.heard (since old now) now.heard before clients
           (loses_grows traffic departure.Over place before clients lost) c.loop-step.held c.loop-step.clock so_far.turns
-          so_far.holds.1 said place how later.heard heard w.hold.new.clock w.hold.new.self w.hold.ensures still
-          w.visit-step.ensures.over in
+          so_far.holds.1 said place how read later.heard heard w.hold-moment.new.clock w.hold-moment.new.self
+          w.hold-moment.ensures still w.visit-step.ensures.over in
           rw (w.clients-is, w.responder-is, w.clock-is, w.sockets-is, w.held-is) (record {
             so_far = handled_turn _ traffic (λ h. g.H.Responder.may_wait h.0) old now _ _ _ _ so_far later clients
                 (loses_passes traffic now.count departure.Over place before clients still lost) _ place
                 (w.visit-step.new.responder, true) more
                 (rests_still g.H.Responder.rests _ _ true w.visit-step.ensures.rests) how w.visit-step.ensures.stands
-                w.visit-step.ensures.over w.visit-step.ensures.takes (count ∙ same_count _) heard
+                w.visit-step.ensures.over w.visit-step.ensures.takes read (count ∙ same_count _) heard
                 (counted_turn traffic old.count _ now.count place (counted_since traffic old now _ done))
                 (turn_said traffic _ before clients said place still lost) w.visit-step.ensures.kept so.heard so.held
                 so.moments so.turned (rw more so);
             said = said_turn traffic old now before later one more said clients place refl still lost;
             fair = λ less. w.stands.ensures.fair;
-            heard = heard_one now later place (place, how) c.loop-step.invariant.heard nexts heard;
+            heard = heard_one now later place ((place, how), read) c.loop-step.invariant.heard nexts heard;
             long = w.visit-step.ensures.long ∙ c.loop-step.invariant.long;
             done = done_step traffic old now _ done one later tt count nexts most tt;
           })

@@ -15,7 +15,7 @@ pub returns-in-Waits-clause-answered : goal.returns-in-Waits-clause-answered
 returns-in-Waits-clause-answered g c =
     answered_none g.P.Peer.traffic
     (service_of g.H.Responder.answers g.H.Responder.joins g.H.Responder.goes_on g.H.Responder.rests) _ _ _ _
-    (rests_still g.H.Responder.rests _ _ true c.prepare.ensures.rests)
+    (rests_still g.H.Responder.rests _ _ true c.prepare-prepared.ensures.rests)
 
 pub finish-requires : goal.finish-requires
 finish-requires g c =
@@ -23,7 +23,7 @@ finish-requires g c =
     (service_of g.H.Responder.answers g.H.Responder.joins g.H.Responder.goes_on g.H.Responder.rests) _ _ _ _ _ c.requires
     (answered_one g.P.Peer.traffic
     (service_of g.H.Responder.answers g.H.Responder.joins g.H.Responder.goes_on g.H.Responder.rests) _ _ _ _ _ _ _ _ _
-    (rests_still g.H.Responder.rests _ _ true c.prepare.ensures.rests) (sym c.state.ensures ∙ c.in-Looking.is)
+    (rests_still g.H.Responder.rests _ _ true c.prepare-prepared.ensures.rests) (sym c.state.ensures ∙ c.in-Looking.is)
     c.answer-goes_on.ensures)
 
 pub returns-clause-answered : goal.returns-clause-answered
@@ -32,14 +32,14 @@ returns-clause-answered g c =
     (service_of g.H.Responder.answers g.H.Responder.joins g.H.Responder.goes_on g.H.Responder.rests) _ _ _ _ _ _
     (answered_one g.P.Peer.traffic
     (service_of g.H.Responder.answers g.H.Responder.joins g.H.Responder.goes_on g.H.Responder.rests) _ _ _ _ _ _ _ _ _
-    (rests_still g.H.Responder.rests _ _ true c.prepare.ensures.rests) (sym c.state.ensures ∙ c.in-Looking.is)
+    (rests_still g.H.Responder.rests _ _ true c.prepare-prepared.ensures.rests) (sym c.state.ensures ∙ c.in-Looking.is)
     c.answer-goes_on.ensures) c.finish.ensures.kept
 
 pub returns-in_default-clause-first : goal.returns-in_default-clause-first
 returns-in_default-clause-first g c = λ at has. absurd (c.in_default.not-Looking (c.state.ensures ∙ at))
 
 pub returns-in-Waits-clause-first : goal.returns-in-Waits-clause-first
-returns-in-Waits-clause-first g c = λ at has. inr (c.prepare.ensures.waits c.in-Waits.is)
+returns-in-Waits-clause-first g c = λ at has. inr (c.prepare-prepared.ensures.waits c.in-Waits.is)
 
 pub returns-clause-first : goal.returns-clause-first
 returns-clause-first g c = λ at has.
