@@ -1,6 +1,7 @@
 """A whole day by the pages alone: an author, a director, a referee, four entrants and a spectator, in real windows of
-one engine, with a round by the clock: of a minute, or more where the machine has much else to do. The hall is killed
-in its midst, and so is an entrant's browser.
+one engine, with a round whose start and end come by the clock while pages are open. So that neither is waited for long,
+nor comes too soon for a slow machine, the round is moved nearer to them in the hall's file. The hall is killed in its
+midst, and so is an entrant's browser.
 """
 import contextlib
 import os
@@ -13,7 +14,7 @@ from harness.checks import check, holds, tell
 from harness.running import ROOT
 from page_tests import drawn
 from page_tests.firefox import DOWN, ENTER, HEAR, LEFT, RIGHT, hand_in, ready, spots
-from page_tests.place import Place, none, solved, until
+from page_tests.place import MINUTES, Place, none, solved, until
 from page_tests.staff_hands import FILL, IS_OFF, PRESS, earlier, kill
 from page_tests.windows import windows
 
@@ -21,9 +22,8 @@ FILES = {"sl": "slither.txt", "nu": "nurikabe.txt", "su": "real/sudoku9.txt"}
 NAMES = {1: "Slitherlink", 2: "Nurikabe", 3: "Sudoku"}
 PLAYERS = ("eve", "fay", "gus", "dan")
 TEXT = "An address of puzz.link, a puzzle's text, or the signs of a Sudoku"
-FIELDS = {"Id": "day", "Title": "The day", "by the clocks of": "UTC", "Minutes for protests": "1", "Penalty": "5",
-          "Bonus": "2"}
-AS_LONG, MOST = 6, 4  # so many times as long as the author took the entrants may need; minutes of a round
+FIELDS = {"Id": "day", "Title": "The day", "by the clocks of": "UTC", "Minutes": str(MINUTES),
+          "Minutes for protests": str(MINUTES), "Penalty": "5", "Bonus": "2"}
 LINES = """return [...document.querySelectorAll(arguments[0])].map((e) => e.innerText.trim())"""
 CHOSEN = """return [...document.querySelectorAll('.chosen li')].map((e) => e.dataset.name)"""
 
@@ -42,7 +42,7 @@ class Day:
     def __init__(self, program, place, engine, pictures, stack):
         self.program, self.place, self.engine, self.pictures, self.stack = program, place, engine, pictures, stack
         self.puzzles = [solved(program, name) for name in FILES.values()]
-        self.told, self.rulings, self.minutes = [], {}, 1
+        self.told, self.rulings = [], {}
         people = ["bob", "dora", "rex", *PLAYERS[:3], "anyone"]
         self.at = dict(zip(people, windows(self.browser("all"), len(people))))
         self.at["dan"] = windows(self.browser("dan"), 1)[0]
@@ -77,7 +77,6 @@ def play(program, engine, pictures):
         author(day)
         director(day)
         booklet(day)
-        place.begin_at(time.time() + 8 * day.minutes, "day")
         arrive(day)
         solve(day)
         hall_killed(day)
@@ -115,7 +114,6 @@ def agree(at):
 
 def author(day):
     """Three boards are pasted, seen, put, and have their solutions counted."""
-    begun = time.monotonic()
     at = day.enter("bob", "staff.html#/author")
     until(lambda: at.count("textarea"))
     for label, (text, _) in zip(FILES, day.puzzles):
@@ -126,7 +124,6 @@ def author(day):
         at.js("document.querySelector('.paste .certify').click()")
     chips = until(lambda: at.js(LINES, ".stand .chip") == ["one solution"] * len(FILES))
     holds("each has one solution", chips, at.js(LINES, ".stand"))
-    day.minutes = min(MOST, 1 + int(AS_LONG * (time.monotonic() - begun) / 60))
     at.picture("author")
     day.faults("bob")
 
@@ -135,8 +132,8 @@ def director(day):
     """A round is built from pictures, put and released."""
     at = day.enter("dora", "staff.html#/director/NEW")
     until(lambda: at.count(".card.pick") == len(FILES))
-    start = time.strftime("%Y-%m-%dT%H:%M", time.gmtime(time.time() + 300))
-    fill(at, {**FIELDS, "Start": start, "Minutes": str(day.minutes)})
+    start = time.strftime("%Y-%m-%dT%H:%M", time.gmtime(time.time() + 3600))
+    fill(at, {**FIELDS, "Start": start})
     for label in FILES:
         at.js("document.querySelector(arguments[0]).click()", f".card.pick[data-name='bob/{label}']")
     check("the puzzles are chosen by their pictures", at.js(CHOSEN), [f"bob/{it}" for it in FILES])
@@ -153,12 +150,23 @@ def director(day):
 # --- entrants
 
 
+def again(at):
+    """Loads the page anew, which has heard of no fault until then."""
+    none("the page's code had no fault", at.js("return window.faults"))
+    at.reload()
+    at.js(HEAR)
+
+
 def arrive(day):
     """Four wait for the start, and the puzzles come by themselves."""
+    begun = time.monotonic()
     for who in PLAYERS:
         at = day.enter(who)
         at.js("location.hash = '#/r/day'")
-        holds(f"{who} waits", until(lambda: "come by themselves" in at.text() or at.count(".cards.puzzles .card")))
+        holds(f"{who} waits", at.shows("come by themselves"), at.text())
+    day.place.begin_at(time.time() + 5 + time.monotonic() - begun, "day")
+    for who in PLAYERS:
+        again(day.at[who])
     for who in PLAYERS:
         there = until(lambda: day.at[who].count(".cards.puzzles .card svg.sheet") == len(FILES))
         holds(f"the puzzles come to {who} by themselves", there, day.at[who].text())
@@ -248,13 +256,25 @@ def browser_killed(day):
 
 def ended(day):
     """The end comes by the clock, and the pages say so by themselves."""
+    title = f"3. {NAMES[3]}"
     at = open_puzzle(day, "gus", 3)
-    at.keys(RIGHT)
-    over = until(lambda: at.text("button.hand") == "The round is over", 60 * day.minutes + 30)
-    holds("the end is told where a board is open", over, at.text("button.hand"))
+    begun = time.monotonic()
+    again(at)
+    ready(at, title)
+    earlier(day.place, end(day) - day.place.soon(begun))
+    again(at)
+    ready(at, title)
+    holds("the round still runs", at.text("button.hand").startswith("Hand in"), at.text("button.hand"))
+    holds("the end is told where a board is open", until(lambda: at.text("button.hand") == "The round is over"),
+          at.text("button.hand"))
+    late = time.time() - end(day)
+    holds("not before the hall's own end", late >= -1, late)
     check("and nothing can be handed in", at.js("return document.querySelector('button.hand').disabled"), True)
-    ends = day.place.ask("GET", "/rounds", "dora")["rounds"][0]["start"] + 60 * day.minutes
-    holds("not before the hall's own end", time.time() >= ends - 1, time.time() - ends)
+
+
+def end(day):
+    """When the round ends, by the hall."""
+    return day.place.ask("GET", "/rounds", "dora")["rounds"][0]["start"] + 60 * MINUTES
 
 
 # --- after the round
@@ -292,11 +312,10 @@ def rule(day):
 
 
 def publish(day):
-    """Once the minute for protests is over."""
-    earlier(day.place, 61)
-    at = day.enter("dora", "staff.html#/director/day") if not day.at["dora"].count("body.in") else day.at["dora"]
-    at.reload()
-    at.js(HEAR)
+    """Once the time for protests is over."""
+    earlier(day.place, 60 * MINUTES + 1)
+    at = day.at["dora"]
+    again(at)
     holds("the round is closed", at.shows("it may be published"), at.text())
     press(at, "Publish the table")
     agree(at)
@@ -366,7 +385,7 @@ def nothing_lost(day):
     check("the rulings", ruled, {who: words.split(",")[0] for who, words in day.rulings.items()})
     totals = {name: int(points) for _, name, points in day.table}
     check("the table's totals", totals, {who: points(day, who) for who in PLAYERS})
-    tell(f"{day.engine.__name__}: {len(stands)} answers told and kept, in a round of {day.minutes} minutes")
+    tell(f"{day.engine.__name__}: {len(stands)} answers told and kept")
     for who in PLAYERS:
         own_answers(day, who)
 

@@ -102,11 +102,13 @@ class Window:
         self.browser, self.window = browser, window
 
     def __getattr__(self, name):
-        self.browser.turn_to(self.window)
+        if self.browser.turned_to != self.window:
+            self.browser.turn_to(self.window)
+            self.browser.turned_to = self.window
         return getattr(self.browser, name)
 
 
 def windows(browser, count):
     """So many windows of a browser."""
-    first = browser.first()
+    first, browser.turned_to = browser.first(), None
     return [Window(browser, it) for it in (first, *(browser.another() for _ in range(count - 1)))]
