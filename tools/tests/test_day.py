@@ -1,5 +1,4 @@
-"""A whole day by the pages alone, in each of three engines: page_tests/day.py tells it. It takes minutes for each, and
-on a busy machine more, so it is run by --all alone."""
+"""A whole day by the pages alone, in each of three engines: page_tests/day.py tells it."""
 import os
 
 import pytest
@@ -9,7 +8,6 @@ from harness.checks import tell
 ENGINES = ("Chromium", "Firefox", "WebKit")
 
 
-@pytest.mark.long
 @pytest.mark.parametrize("name", ENGINES)
 def test_a_day_by_pages_alone(name, program, pytestconfig, room):
     pytest.importorskip("selenium", reason="python3-selenium isn't there")

@@ -8,6 +8,7 @@ import os
 import subprocess
 import sys
 import time
+from concurrent.futures import ThreadPoolExecutor
 from typing import NamedTuple
 
 from harness.checks import check, holds, tell
@@ -25,6 +26,7 @@ TEXT = "An address of puzz.link, a puzzle's text, or the signs of a Sudoku"
 FIELDS = {"Id": "day", "Title": "The day", "by the clocks of": "UTC", "Minutes": str(MINUTES),
           "Minutes for protests": str(MINUTES), "Penalty": "5", "Bonus": "2"}
 LINES = """return [...document.querySelectorAll(arguments[0])].map((e) => e.innerText.trim())"""
+SOON = 8  # so many seconds are left to what is moved nearer
 CHOSEN = """return [...document.querySelectorAll('.chosen li')].map((e) => e.dataset.name)"""
 
 
@@ -44,8 +46,10 @@ class Day:
         self.puzzles = [solved(program, name) for name in FILES.values()]
         self.told, self.rulings = [], {}
         people = ["bob", "dora", "rex", *PLAYERS[:3], "anyone"]
-        self.at = dict(zip(people, windows(self.browser("all"), len(people))))
-        self.at["dan"] = windows(self.browser("dan"), 1)[0]
+        with ThreadPoolExecutor() as pool:  # to start takes the longest
+            of_all, of_dan, self.spare = pool.map(self.browser, ("all", "dan", "spare"))
+        self.at = dict(zip(people, windows(of_all, len(people))))
+        self.at["dan"] = windows(of_dan, 1)[0]
 
     def browser(self, name):
         """One more browser of the engine, with its own folder."""
@@ -62,6 +66,12 @@ class Day:
         at.keys(*f"{who}-key-1", ENTER)
         holds(f"{who} is in", until(lambda: at.count("body.in")))
         return at
+
+    def move(self, seconds, *who):
+        """Moves the round so much nearer. Who turns to the own window again has the page ask for the rounds."""
+        earlier(self.place, int(seconds))
+        for name in who:
+            self.at[name].js("document.dispatchEvent(new Event('visibilitychange'))")
 
     def faults(self, *who):
         """That the code of the pages in these windows had no fault since they were loaded."""
@@ -150,26 +160,17 @@ def director(day):
 # --- entrants
 
 
-def again(at):
-    """Loads the page anew, which has heard of no fault until then."""
-    none("the page's code had no fault", at.js("return window.faults"))
-    at.reload()
-    at.js(HEAR)
-
-
 def arrive(day):
     """Four wait for the start, and the puzzles come by themselves."""
-    begun = time.monotonic()
     for who in PLAYERS:
         at = day.enter(who)
         at.js("location.hash = '#/r/day'")
         holds(f"{who} waits", at.shows("come by themselves"), at.text())
-    day.place.begin_at(time.time() + 5 + time.monotonic() - begun, "day")
-    for who in PLAYERS:
-        again(day.at[who])
+    day.move(start(day) - time.time() - SOON, *PLAYERS)
     for who in PLAYERS:
         there = until(lambda: day.at[who].count(".cards.puzzles .card svg.sheet") == len(FILES))
         holds(f"the puzzles come to {who} by themselves", there, day.at[who].text())
+    check("not before the hall's own start", time.time() >= start(day) - 1, True)
     day.at["eve"].picture("round")
 
 
@@ -186,10 +187,10 @@ def draw(day, at, number, but=0):
     if number == 3:
         for row in range(9):
             at.keys(*(key for sign in answer[9 * row:9 * row + 9] for key in (sign, RIGHT)), DOWN, *[LEFT] * 8)
-    for place in drawn.sides(text, answer)[but:] if number == 1 else ():
-        at.drag(spots(at, [place]))
-    for run in drawn.runs(drawn.walls(text, answer)[but:]) if number == 2 else ():
-        at.drag(spots(at, run))
+        return
+    runs = [[it] for it in drawn.sides(text, answer)[but:]] if number == 1 else drawn.runs(
+        drawn.walls(text, answer)[but:])
+    at.drags([spots(at, run) for run in runs])
 
 
 def told(day, at, who, number, right):
@@ -214,7 +215,7 @@ def solve(day):
     asked = agree(at)
     holds("an unfinished board asks first", "loose end" in asked, asked)
     told(day, at, "eve", 1, False)
-    at.drag(spots(at, drawn.sides(*day.puzzles[0])[:1]))
+    at.drags([spots(at, drawn.sides(*day.puzzles[0])[:1])])
     hand_in(at)
     told(day, at, "eve", 1, True)
     at.picture("right")
@@ -246,7 +247,7 @@ def browser_killed(day):
     at = open_puzzle(day, "dan", 2)
     draw(day, at, 2, but=2)
     at.browser.kill()
-    day.at["dan"] = windows(day.browser("dan-again"), 1)[0]
+    day.at["dan"] = windows(day.spare, 1)[0]
     at = day.enter("dan")
     at.js("location.hash = '#/r/day/3'")
     solved_before = until(lambda: at.text("button.hand") == "Solved")
@@ -256,25 +257,19 @@ def browser_killed(day):
 
 def ended(day):
     """The end comes by the clock, and the pages say so by themselves."""
-    title = f"3. {NAMES[3]}"
     at = open_puzzle(day, "gus", 3)
-    begun = time.monotonic()
-    again(at)
-    ready(at, title)
-    earlier(day.place, end(day) - day.place.soon(begun))
-    again(at)
-    ready(at, title)
-    holds("the round still runs", at.text("button.hand").startswith("Hand in"), at.text("button.hand"))
-    holds("the end is told where a board is open", until(lambda: at.text("button.hand") == "The round is over"),
+    check("a board is open", at.text("button.hand").startswith("Hand in"), True)
+    day.move(start(day) + 60 * MINUTES - time.time() - SOON, "gus")
+    holds("the end is told where it is open", until(lambda: at.text("button.hand") == "The round is over"),
           at.text("button.hand"))
-    late = time.time() - end(day)
+    late = time.time() - start(day) - 60 * MINUTES
     holds("not before the hall's own end", late >= -1, late)
     check("and nothing can be handed in", at.js("return document.querySelector('button.hand').disabled"), True)
 
 
-def end(day):
-    """When the round ends, by the hall."""
-    return day.place.ask("GET", "/rounds", "dora")["rounds"][0]["start"] + 60 * MINUTES
+def start(day):
+    """When the round begins, by the hall."""
+    return day.place.ask("GET", "/rounds", "dora")["rounds"][0]["start"]
 
 
 # --- after the round
@@ -313,9 +308,10 @@ def rule(day):
 
 def publish(day):
     """Once the time for protests is over."""
-    earlier(day.place, 60 * MINUTES + 1)
+    day.move(60 * MINUTES + 1)
     at = day.at["dora"]
-    again(at)
+    at.reload()
+    at.js(HEAR)
     holds("the round is closed", at.shows("it may be published"), at.text())
     press(at, "Publish the table")
     agree(at)

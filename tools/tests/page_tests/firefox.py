@@ -84,7 +84,7 @@ def ready(browser, title):
 
 
 def spots(browser, points):
-    return [browser.js(SPOT, *point) for point in points]
+    return browser.js(f"return arguments[0].map((point) => (function () {{ {SPOT} }}).apply(null, point))", points)
 
 
 def hand_in(browser):

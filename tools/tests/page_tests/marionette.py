@@ -99,6 +99,12 @@ class Firefox:
                              (("Down", holder), ("Down", key), ("Up", key), ("Up", holder))])
 
     def drag(self, spots):
-        moves = [{"type": "pointerMove", "x": round(x), "y": round(y), "origin": "viewport"} for x, y in spots]
-        self.perform("pointer", [moves[0], {"type": "pointerDown", "button": 0}, *moves[1:],
-                                 {"type": "pointerUp", "button": 0}], parameters={"pointerType": "mouse"})
+        self.drags([spots])
+
+    def drags(self, drags):
+        """One drag after another; one of a single spot is a click."""
+        actions = []
+        for spots in drags:
+            moves = [{"type": "pointerMove", "x": round(x), "y": round(y), "origin": "viewport"} for x, y in spots]
+            actions += [moves[0], {"type": "pointerDown", "button": 0}, *moves[1:], {"type": "pointerUp", "button": 0}]
+        self.perform("pointer", actions, parameters={"pointerType": "mouse"})

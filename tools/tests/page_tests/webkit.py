@@ -3,8 +3,8 @@ import contextlib
 import glob
 import os
 import shutil
+import socket
 import subprocess
-import warnings
 
 import pytest
 from selenium import webdriver
@@ -15,7 +15,7 @@ from selenium.webdriver.common.actions.pointer_input import PointerInput
 from selenium.webdriver.webkitgtk.options import Options
 
 from page_tests.firefox import play
-from page_tests.place import Place, until
+from page_tests.place import Place, free_port, until
 
 DRIVER, SCREEN = "/usr/bin/WebKitWebDriver", "/usr/bin/Xvfb"
 BROWSERS = "/usr/lib/*/webkit2gtk-4.*/MiniBrowser"
@@ -57,23 +57,28 @@ class WebKit:
     def __init__(self, pictures):
         self.pictures, self.open, self.home = pictures, contextlib.ExitStack(), f"{pictures}/webkit-home"
         os.makedirs(self.home, exist_ok=True)
-        os.environ.update(DISPLAY=self.open.enter_context(screen()), XDG_DATA_HOME=self.home, XDG_CACHE_HOME=self.home)
+        self.open.callback(shutil.rmtree, self.home, ignore_errors=True)
+        places = {"DISPLAY": self.open.enter_context(screen()), "XDG_DATA_HOME": self.home,
+                  "XDG_CACHE_HOME": self.home}
+        port = free_port()
+        self.process = self.open.enter_context(subprocess.Popen(
+            [DRIVER, f"--port={port}"], env={**os.environ, **places}, stdout=subprocess.DEVNULL,
+            stderr=subprocess.DEVNULL))
+        self.open.callback(self.process.terminate)
+        until(lambda: socket.create_connection(("127.0.0.1", port), 5).close() or True)
         options = Options()
         options.binary_location = sorted(glob.glob(BROWSERS))[-1]
         for word in ("--automation", "--geometry=1280x900"):
             options.add_argument(word)
-        with warnings.catch_warnings():  # of what selenium's own class for this driver does
-            warnings.simplefilter("ignore")
-            self.driver = webdriver.WebKitGTK(options=options, executable_path=DRIVER, service_log_path=os.devnull)
+        self.driver = webdriver.Remote(f"http://127.0.0.1:{port}", options=options, keep_alive=False)
         self.js = self.driver.execute_script
 
     def __enter__(self):
         return self
 
     def __exit__(self, *_):
-        self.driver.quit()
-        self.open.close()
-        shutil.rmtree(self.home, ignore_errors=True)
+        with self.open:
+            self.driver.quit()
 
     def load(self, url):
         self.driver.get(url)
@@ -100,11 +105,15 @@ class WebKit:
         ActionChains(self.driver, duration=0).key_down(holder).send_keys(key).key_up(holder).perform()
 
     def drag(self, spots):
+        self.drags([spots])
+
+    def drags(self, drags):
         actions = ActionBuilder(self.driver, mouse=PointerInput(interaction.POINTER_MOUSE, "mouse"), duration=0)
         hand = actions.pointer_action
-        for i, (x, y) in enumerate(spots):
-            hand.move_to_location(round(x), round(y))
-            if not i:
-                hand.pointer_down()
-        hand.pointer_up()
+        for spots in drags:
+            for i, (x, y) in enumerate(spots):
+                hand.move_to_location(round(x), round(y))
+                if not i:
+                    hand.pointer_down()
+            hand.pointer_up()
         actions.perform()

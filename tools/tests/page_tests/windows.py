@@ -54,19 +54,20 @@ class Chromium(OfSelenium, chromium.Browser):
     def load(self, url):
         self.driver.get(url)
 
-    def drag(self, spots):
-        self.mouse("Pressed", spots[0])
-        for spot in spots[1:]:
-            self.mouse("Moved", spot)
-        self.mouse("Released", spots[-1], buttons=0)
+    def drags(self, drags):
+        for spots in drags:
+            self.mouse("Pressed", spots[0])
+            for spot in spots[1:]:
+                self.mouse("Moved", spot)
+            self.mouse("Released", spots[-1], buttons=0)
 
 
 class WebKit(OfSelenium, webkit.WebKit):
     kind = "window"
 
-    def __exit__(self, *others):
-        super().__exit__(*others)
-        self.open.close()
+    def kill(self):
+        kill_all(self.process.pid)
+        self.process.wait()
 
 
 class Firefox(marionette.Firefox):
