@@ -105,7 +105,7 @@ const NO_FORM = { before: "protestsLater", running: "protestsLater", closed: "pr
 
 export function protestsView(app, left, id) {
   return frame(app, left, id, "protests", (box, { round, sheet, now, signal }) => {
-    const list = html("div"), said = html("div", { "aria-live": "polite" });
+    const list = html("div", { "aria-live": "polite" }), said = html("div", { "aria-live": "polite" });
     const renew = async () => {
       said.replaceChildren(...app.letters.of(id, "protest").map((letter) =>
         (letter.reply ? refused(app, letter) : html("p", { class: "note" }, phrase("sending")))));

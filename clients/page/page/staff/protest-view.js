@@ -21,7 +21,7 @@ export class ProtestView {
       ruling: null });
     this.head = html("h2", { tabindex: -1 }, `${protest.entrant} on puzzle ${protest.number}`);
     this.title = html("p", { class: "small" }, `${protest.round.title} · ${protest.token}`);
-    this.chip = html("span");
+    this.chip = html("span", { "aria-live": "polite" });
     this.said = html("div", { "aria-live": "polite" });
     this.choice = html("div");
     this.board = html("div");
@@ -101,8 +101,9 @@ export class ProtestView {
 
   tell() {
     const { protest, sheet } = this, isOpen = protest.ruling === "open";
+    const words = isOpen ? "not ruled" : rulingText(protest);
     this.chip.className = `chip ${{ open: "wait", upheld: "good", rejected: "bad" }[protest.ruling]}`;
-    this.chip.textContent = isOpen ? "not ruled" : rulingText(protest);
+    if (this.chip.textContent !== words) this.chip.textContent = words; // else it would be spoken again
     keepFocus(this.choice, () => refill(this.choice, this.choices()));
     this.board.replaceChildren(this.drawn());
     if (!isOpen) this.rule.replaceChildren(this.ruling?.refusal ?? "");
@@ -118,10 +119,14 @@ export class ProtestView {
       protests: this.protests.listed.get(round.id) ?? [] };
   }
 
-  // The list came anew: it may have been ruled by another referee.
+  // The list came anew: it may have been ruled by another referee. Where the focus was on the buttons that go, it is
+  // put on the protest's title.
   renew(protest) {
     const isSame = protest.ruling === this.protest.ruling && protest.points === this.protest.points;
     this.protest = protest;
-    if (!isSame) this.tell();
+    if (isSame) return;
+    const { activeElement, body } = document, isLost = activeElement === body || this.rule.contains(activeElement);
+    this.tell();
+    if (isLost) this.head.focus({ preventScroll: true });
   }
 }
