@@ -64,8 +64,8 @@ export default {
     + "takes it once. Only the moment at which it reaches the hall counts.",
   aboutPage: "Where the page fails",
   aboutPageText: "Load it anew: what you drew stays, unless the page says that this browser keeps nothing more. If "
-    + "that doesn't help, take another browser or machine, with your key; there you begin with an empty board, but all "
-    + "that the hall received stands. Else call a director.",
+    + "that doesn't help, take another browser or machine, with your key; there you begin with an empty board, but "
+    + "all that the hall received stands. Else call a director.",
 
   // pictures in words
   tellSlitherlink: "Lines across, row by row: {across}. Upright: {upright}.",
