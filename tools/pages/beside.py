@@ -37,6 +37,14 @@ def modules():
     return [os.path.relpath(it, PAGE).removesuffix(".js") for it in found]
 
 
+def module_named(name):
+    """The module of this name, or of a view; one of staff also without its folder, where entrants have none such."""
+    known = {os.path.basename(it): it for it in sorted(modules(), key=lambda it: -it.count("/"))}
+    known |= {view: of for of in modules() for _, view in exports(f"{PAGE}/{of}.js") if view.endswith("View")}
+    name = name.removesuffix(".js")
+    return name if name in modules() else known.get(name)
+
+
 def head_of(path):
     """The first sentence of the comment at the head of a module."""
     said = " ".join(it[3:] for it in itertools.takewhile(lambda it: it.startswith("// "), read(path).split("\n")))
@@ -77,9 +85,8 @@ def views(name):
 
 def page_module(name):
     """A module of the page, or the one of a view: its sentence, and for each sort of place path and lines."""
-    known = {view: of for of in modules() for _, view in exports(f"{PAGE}/{of}.js") if view.endswith("View")}
-    name = known.get(name, name.removesuffix(".js"))
-    if name not in modules():
+    name = module_named(name)
+    if name is None:
         return None
     path, text = f"{PAGE}/{name}.js", read(f"{PAGE}/{name}.js")
     shown = [(MAIN, lines_with(rf"\b{view}\]", read(MAIN))) for view, *_ in views(name)]

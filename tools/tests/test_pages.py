@@ -85,6 +85,9 @@ def test_places_of_a_view():
     for path in ("clients/page/page/view-puzzle.js", "clients/page/page/main.js", "tools/tests/page_tests/chromium.py",
                  "tools/tests/page_tests/slips.py", "clients/page/README.md"):
         assert f" {path}:" in told, path
+    staff = list(named.places_of("authorView"))
+    assert staff and staff == list(named.places_of("view-author")) == list(named.places_of("staff/view-author"))
+    assert "module words of the page" in next(iter(named.places_of("words.js")))
 
 
 def test_commands():
