@@ -1,4 +1,5 @@
-"""A whole day by the pages alone, in each of three engines: page_tests/day.py tells it."""
+"""A whole day by the pages alone, in each of three engines: page_tests/day.py tells it. It takes one to four minutes for
+each, so it is run by --all alone."""
 import os
 
 import pytest
@@ -8,6 +9,7 @@ from harness.checks import tell
 ENGINES = ("Chromium", "Firefox", "WebKit")
 
 
+@pytest.mark.long
 @pytest.mark.parametrize("name", ENGINES)
 def test_a_day_by_pages_alone(name, program, pytestconfig, room):
     pytest.importorskip("selenium", reason="python3-selenium isn't there")
