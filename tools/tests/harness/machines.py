@@ -10,7 +10,6 @@ import time
 
 from .checks import need
 
-NET = "10.66.0."
 NEEDED = ("ip", "nsenter", "unshare", "mount", "hostname")
 
 
@@ -34,6 +33,7 @@ class Switch:
     def __init__(self, room):
         need(*NEEDED)
         self.room, self.name, self.machines = room, f"hall{os.getpid()}", {}
+        self.network = f"10.66.{os.getpid() % 256}"
 
     def __enter__(self):
         ip("netns", "add", self.name)
@@ -45,6 +45,14 @@ class Switch:
         for it in self.machines.values():
             it.end()
         ip("netns", "del", self.name)
+
+    def plug(self):
+        """Plugs this system itself in, as one more machine: its address."""
+        ip("link", "add", self.name, "type", "veth", "peer", "name", "to-system", "netns", self.name)
+        ip("-n", self.name, "link", "set", "to-system", "master", "switch", "up")
+        ip("addr", "add", f"{self.network}.254/24", "dev", self.name)
+        ip("link", "set", self.name, "up")
+        return f"{self.network}.254"
 
     def add(self, name, own=()):
         """A machine that is up. `own` are folders of the system of which it has its own."""
@@ -59,8 +67,8 @@ class Machine:
 
     def __init__(self, switch, name, number, own):
         self.switch, self.name, self.own = switch.name, name, own
-        self.net, self.cable, self.address = f"{switch.name}{name}", f"to-{name}", f"{NET}{number}"
-        self.folder, self.first = f"{switch.room}/{name}", None
+        self.net, self.cable, self.address = f"{switch.name}{name}", f"to-{name}", f"{switch.network}.{number}"
+        self.folder, self.first, self.unit = f"{switch.room}/{name}", None, None
         os.makedirs(self.folder, exist_ok=True)
 
     def boot(self):
@@ -97,13 +105,15 @@ class Machine:
             return subprocess.Popen(self.inside(words), stdin=subprocess.DEVNULL, stdout=file, stderr=file)
 
     def begin_unit(self, log, *words):
-        """As a unit does: the command begins again a second after it ended, until `end_unit`."""
+        """As a unit does: the command begins again a second after it ended, until `end_unit`. `ended` has a line for
+        each end: which process it was, and its status."""
         script = (f"touch {self.folder}/on; while [ -e {self.folder}/on ]; do {shlex.join(words)} &"
-                  f" echo $! >{self.folder}/pid; wait $!; sleep 1; done")
-        return self.begin(log, "sh", "-c", script)
+                  f" echo $! >{self.folder}/pid; wait $!; echo $! $? >>{self.folder}/ended; sleep 1; done")
+        self.unit = self.begin(log, "sh", "-c", script)
 
     def end_unit(self):
         self.run("sh", "-c", f"rm -f {self.folder}/on; kill -9 $(cat {self.folder}/pid)")
+        self.unit.wait()
 
     def cut(self):
         """Pulls its cable: what is sent is lost, and no connection is told."""

@@ -47,13 +47,14 @@ def opened(text, first):
     return "\n".join([before, *(line.removeprefix("#") for line in lines)])
 
 
-def haproxy(path, log=subprocess.DEVNULL):
-    return subprocess.Popen([HAPROXY, "-db", "-f", path], stdout=log, stderr=subprocess.DEVNULL,
+def haproxy(path, log=subprocess.DEVNULL, more=()):
+    files = [part for it in (path, *more) for part in ("-f", it)]
+    return subprocess.Popen([HAPROXY, "-db", *files], stdout=log, stderr=subprocess.DEVNULL,
                             env={**os.environ, "PAGE": PAGE})
 
 
-def our_haproxy(front, back, room, tls=False, log=subprocess.DEVNULL, change=str):
-    """HAProxy by haproxy.cfg, from the one port to the other; without TLS where none is asked for."""
+def our_haproxy(front, back, room, tls=False, log=subprocess.DEVNULL, change=str, more=()):
+    """HAProxy by haproxy.cfg and more files, from the one port to the other; without TLS where none is asked for."""
     own = os.geteuid() == 0
     write(f"{room}/haproxy.cfg", change(placed("haproxy.cfg", [
         ("log /dev/log local0", "log stdout format raw local0"),
@@ -65,7 +66,7 @@ def our_haproxy(front, back, room, tls=False, log=subprocess.DEVNULL, change=str
         ("server hall 127.0.0.1:8080 ", f"server hall 127.0.0.1:{back} "),
         ("server searching 127.0.0.1:8080 ", f"server searching 127.0.0.1:{back} "),
     ])))
-    return haproxy(f"{room}/haproxy.cfg", log)
+    return haproxy(f"{room}/haproxy.cfg", log, more)
 
 
 def nginx(fragment, room):
