@@ -100,7 +100,8 @@ def definitions_of_rules():
     rules = variants("crates/hall_policy/src/rule.rt", "Rule")
     short = {number: sentence(told) for (_, told), number in zip(rules, numbers().values())}
     for name, told in definitions(RULES):
-        if found := re.match(r"(\d+)\. (.*)", told):
+        # What repeats is no denial.
+        if (found := re.match(r"(\d+)\. (.*)", told)) and not name.startswith("Same"):
             if len(sentence(found[2])) > len(short[int(found[1])]) + MORE:
                 yield [f"`{found[1]}`", sentence(found[2]), f"`{name}`"]
 
