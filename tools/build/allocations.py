@@ -94,7 +94,7 @@ PLACES = {
     ],
     "hall_desk/src/desk.rt": [
         "match self.try_seed(alloc, people) { Ok(reply) => reply, Err(_) => Reply::Unavailable,",
-        "match memos::put(alloc, &mut self.memos, &request.key, memo) {"
+        "match memos::put(alloc, &mut self.memos, request, memo) {"
         " Ok(()) => prepared, Err(_) => Prepared::Refused,",
     ],
     # Its bytes, what is compared with them, and the answer to a request that was refused, or had no moment.

@@ -38,7 +38,7 @@ use std::marker::Model;
 /// What answers requests to the hall, one after another, over the world of its store; a contract sees the store.
 ///
 /// It keeps copies of the tables that it made last and of the round that was read last, until what they tell of is
-/// changed, the searches that requests wait for, and for each key what a search found last.
+/// changed, the searches that requests wait for, and what these found last.
 #[derive(Drop)]
 pub struct Desk<S: ReadStore> {
     store: S,
@@ -95,9 +95,9 @@ impl<S: ReadStore> Desk<S> {
         // They are read for the ranges that their types keep.
         let _moment = t.get();
         request.in_range();
-        let memo = memos::take(&mut self.memos, &request.key);
+        let memo = memos::take(&mut self.memos, request);
         let plan = make_plan(alloc, &mut self.store, t, request, &mut self.copies, &memo);
-        let _kept = memos::put(alloc, &mut self.memos, &request.key, memo);
+        let _kept = memos::put(alloc, &mut self.memos, request, memo);
         plan
     }
 
@@ -127,7 +127,7 @@ impl<S: ReadStore> Desk<S> {
         ensures untouched { IsNobodys request.now → kept_by self.new ≡ kept_by self.old }
         ensures waits { result ≡ Prepared.Waits → MayWait (S.content (kept_by self.new)) request.now }
     {
-        let mut memo = memos::take(&mut self.memos, &request.key);
+        let mut memo = memos::take(&mut self.memos, request);
         let prepared = prepare(
             alloc,
             &mut self.store,
@@ -135,7 +135,7 @@ impl<S: ReadStore> Desk<S> {
             &mut self.searches,
             &mut memo,
         );
-        match memos::put(alloc, &mut self.memos, &request.key, memo) {
+        match memos::put(alloc, &mut self.memos, request, memo) {
             Ok(()) => prepared,
             Err(_) => Prepared::Refused,
         }

@@ -1,80 +1,85 @@
-//! What searches found last, for each of those who wanted them.
+//! What searches found last, for each of the requests that wanted them.
 
 use crate::memo::Memo;
-use hall_policy::Key;
+use hall_policy::{Action, PuzzleKey, Request};
 use std::alloc::{AllocError, Global};
 
-/// Of so many keys what was found is kept: twice as many as can search at once.
+/// So much is kept of what was found, of other puzzles or within other budgets: more than searches that end before the
+/// first of them is answered.
 const MOST_KEPT: usize = 16;
 
-/// What was found last for whoever has the key.
+/// What was found last of the puzzle under this name, within this budget.
 #[derive(Drop)]
 struct Kept {
-    key: Key,
+    name: PuzzleKey,
+    budget: u64,
     memo: Option<Memo>,
 }
 
-/// What searches found last, once for each key: so nobody's is lost to another's search before it is answered.
+/// What searches found last, once for each name and budget: so what a request waits for isn't lost to another's search
+/// before it is answered.
 #[derive(Drop)]
 pub(crate) struct Memos {
     kept: Vec<Kept>,
 }
 
 impl Memos {
-    /// Where something was kept for the key.
-    fn place_of(&self, key: &Key) -> usize {
+    /// Where something was kept for the name and the budget.
+    fn place_of(&self, name: &PuzzleKey, budget: u64) -> usize {
         for place in 0..self.kept.len() {
-            if self.kept[place].key == *key {
+            let kept = &self.kept[place];
+            if kept.name == *name && kept.budget == budget {
                 return place;
             }
         }
         self.kept.len()
     }
 
-    /// Takes what was kept for the key.
-    fn take(&mut self, key: &Key) -> Option<Memo> {
-        let place = self.place_of(key);
+    /// Takes what was kept for the name and the budget.
+    fn take(&mut self, name: &PuzzleKey, budget: u64) -> Option<Memo> {
+        let place = self.place_of(name, budget);
         if place < self.kept.len() {
             return self.kept[place].memo.take();
         }
         None
     }
 
-    /// Keeps this for the key, in place of what was. Refused, it is lost.
-    fn put(&mut self, key: &Key, memo: Memo) -> Result<(), AllocError> {
-        let place = self.place_of(key);
+    /// Keeps this for the name and the budget, in place of what was. Refused, it is lost.
+    fn put(&mut self, name: &PuzzleKey, budget: u64, memo: Memo) -> Result<(), AllocError> {
+        let place = self.place_of(name, budget);
         if place < self.kept.len() {
             self.kept[place].memo = Some(memo);
             return Ok(());
         }
-        let key = key.clone()?;
+        let name = name.clone()?;
         if self.kept.len() >= MOST_KEPT {
             let _oldest = self.kept.remove(0);
         }
         self.kept.push(Kept {
-            key,
+            name,
+            budget,
             memo: Some(memo),
         })?;
         Ok(())
     }
 }
 
-/// Takes what was kept for the key, if there is one.
-pub(crate) fn take(memos: &mut Option<Memos>, key: &Option<Key>) -> Option<Memo> {
-    match (memos, key) {
-        (Some(memos), Some(key)) => memos.take(key),
+/// Takes what was kept for the request, if anything was.
+pub(crate) fn take(memos: &mut Option<Memos>, request: &Request) -> Option<Memo> {
+    match (memos, &request.action) {
+        (Some(memos), Action::Certify { key, budget }) => memos.take(key, budget.get()),
         _ => None,
     }
 }
 
-/// Keeps it for the key, in place of what was: what was taken before needs no memory. Refused, it is lost.
+/// Keeps it for the request, in place of what was: what was taken before needs no memory. Refused, it is lost.
 pub(crate) fn put(
     alloc: Global,
     memos: &mut Option<Memos>,
-    key: &Option<Key>,
+    request: &Request,
     memo: Option<Memo>,
 ) -> Result<(), AllocError> {
-    let (Some(key), Some(memo)) = (key, memo) else {
+    let (Action::Certify { key, budget }, Some(memo)) = (&request.action, memo) else {
         return Ok(());
     };
     let mut all = match memos.take() {
@@ -83,7 +88,7 @@ pub(crate) fn put(
             kept: Vec::new(alloc),
         },
     };
-    let put = all.put(key, memo);
+    let put = all.put(key, budget.get(), memo);
     *memos = Some(all);
     put
 }
