@@ -17,13 +17,29 @@ use std::io::{Stderr, Write};
 use std::net::{Ipv4Addr, Shutdown, SocketAddr, TcpStream};
 use std::test::Fail;
 
+/// What is heard of a turn, beside whether a connection has gone.
+type Heard = Log<((usize, Step), Option<Option<Moment>>), bool>;
+
+/// What was heard, and this too.
+fn with_heard(
+    heard: &Heard,
+    place: usize,
+    step: Step,
+    held: &Option<Option<Moment>>,
+    has_gone: bool,
+) -> Heard
+    ensures { result.items ≡ heard.now.items ++ (((place, step), held.now), has_gone) ∷ [] }
+{
+    heard.and(&((place, step), *held), &has_gone)
+}
+
 /// Sockets that let none in, and give none a turn, once a connection has gone.
 #[derive(Drop)]
 struct Brief<'r> {
     inner: EventLoop<'r, HostRuntime, Stderr>,
     has_gone: bool,
     nexts: Log<Next<Socket>, bool>,
-    heard: Log<((usize, Step), Option<Option<Moment>>), bool>,
+    heard: Heard,
     ghost same: { AgreeInTurns (logged nexts) (map (λ one. one.0) heard.items) (said_by inner) },
 }
 
@@ -54,7 +70,7 @@ impl<'r> Sockets for Brief<'r> {
 
     fn stands(&mut self, place: usize, step: Step, held: Option<Option<Moment>>) {
         self.has_gone = matches!(step, Step::Over);
-        self.heard = self.heard.and(&((place, step), held), &self.has_gone);
+        self.heard = with_heard(&self.heard, place, step, &held, self.has_gone);
         self.inner.stands(place, step, held);
     }
 
