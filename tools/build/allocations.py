@@ -22,7 +22,8 @@ TESTS = ("hall_tests", "store_tests", "puzzle_tests", "probe", "test_harness")
 # What is looked for: a fault of memory, and what is answered by 503.
 MADE = (
     r"(?:AllocError|AllocFailed|\w+::OutOfMemory|(?:\w+Fault|Self)::Memory"
-    r"|(?:Reply|Answer|Status|Self)::Unavailable|(?:Answer|Self)::Shut|GroupEnd::(?:Refused|Shut)|Prepared::Refused|UNAVAILABLE)"
+    r"|(?:Reply|Answer|Status|Self)::Unavailable|(?:Answer|Self)::Shut|GroupEnd::(?:Refused|Shut)"
+    r"|Prepared::Refused|UNAVAILABLE)"
 )
 # Above the desk's plans, that the store failed.
 FAILED = r"(?:StoreFault::Failed|ToolFault::Store)"

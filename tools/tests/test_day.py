@@ -1,5 +1,5 @@
-"""A whole day by the pages alone, in each of three engines: page_tests/day.py tells it. It takes one to four minutes for
-each, so it is run by --all alone."""
+"""A whole day by the pages alone, in each of three engines: page_tests/day.py tells it. It takes one to four minutes
+for each, so it is run by --all alone."""
 import os
 
 import pytest

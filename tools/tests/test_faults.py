@@ -239,8 +239,8 @@ def without_room(files_of, beside, number):
 
 @pytest.mark.parametrize("how", ["full", "quota", "large"])
 def test_writes_without_room(how, files_of, program, room):
-    """Of the writes of an answer one alone ends the server, by which the database shows it: it is of a byte that stands,
-    for which no disk lacks room."""
+    """Of the writes of an answer one alone ends the server, by which the database shows it: it is of a byte that
+    stands, for which no disk lacks room."""
     beside = Beside(program, room, "devices", DEVICE_HOW=how, DEVICE_WHICH="of")
     ways = list(itertools.takewhile(bool, (without_room(files_of, beside, n) for n in itertools.count(1))))
     check(f"{how}: it serves on at {ways}", ways.count("serves on") >= 2 * ways.count("ends") >= 2, True)

@@ -459,7 +459,7 @@ def cut_off(served, name, first):
 
 
 def test_a_hall_that_is_cut_off_ends(parts, db, program, room):
-    """Of a hall that was cut off no process is left that answers: it ended with 3, in the midst of a write or a sync."""
+    """Of a hall that was cut off no process is left that answers: it ended with 3, in a write or a sync."""
     with Volume(room) as volume:
         served, ways = Served(volume, program, db), {}
         for number in range(CUTS):
