@@ -33,6 +33,8 @@ pub mod Going
 pub mod Looked
 pub mod Room
 pub mod Lines
+pub mod Fair
+pub mod Waited
 pub mod Twice
 pub mod Gated
 pub mod Numbers

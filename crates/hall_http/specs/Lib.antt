@@ -26,6 +26,8 @@ pub mod Steps
 pub mod Resting
 pub mod Feeding
 pub mod Held
+pub mod Fair
+pub mod Waited
 pub mod History
 pub mod Turns
 pub mod Crowd

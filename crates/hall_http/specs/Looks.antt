@@ -1,6 +1,7 @@
 -- What the event loop asked of the clock and of its sockets, and what it was told.
 use Rattle.std.specs.Prelude.{◌≡◌, ◌<◌, ◌≤◌, ◌+◌, ◌-◌, ◌^◌, ◌⊎◌, ℕ, true, min, Option, Some, None, List, [], ◌∷◌, ◌++◌}
 use Rattle.std.specs.Prelude.{length, map}
+use Rattle.std.specs.List.{fold}
 use Rattle.hall_http.specs.Limits.{most_asked, most_counted, most_events}
 use Rattle.hall_http.specs.declared.event_loop.Look.{Look}
 use Rattle.hall_http.specs.declared.event_loop.Look.TheVariants.{Clock, Sockets}
@@ -48,3 +49,17 @@ read_after last None = last
 -- the milliseconds that have counted, of those before and those that passed: of a long time only the first count
 abbrev pub counted : ℕ → ℕ → ℕ
 counted elapsed passed = min (elapsed + min passed most_counted) (2 ^ 64 - 1)
+
+-- the milliseconds that have counted, and the one that the clock was last read at, after one more look
+abbrev pub after_look : ℕ × ℕ → Look × ℕ → ℕ × ℕ
+after_look (elapsed, last) (Clock read quiet, told) =
+    (counted elapsed (passed_since last read), read_after last read)
+after_look so_far (Sockets patience, told) = so_far
+
+-- so many have counted, and it was last read at this one, after these looks
+abbrev pub time_by : Looks → ℕ × ℕ
+time_by looks = fold after_look (0, 0) looks
+
+-- so many had counted after some first of these looks
+abbrev pub IsTimeBy : Looks → ℕ → Type 0
+IsTimeBy looks now = (front rest : Looks) × (looks ≡ front ++ rest) × ((time_by front).0 ≡ now)

@@ -13,6 +13,15 @@ waits_in queue place = has queue.waiting.items place
 abbrev pub called : Queue → List ℕ
 called queue = called_in queue.motions.items
 
+-- some may have come, behind those that wait, and nobody was called
+abbrev pub ComeBehind : Queue → Queue → Type 0
+ComeBehind old new =
+    (called new ≡ called old) × (more : List ℕ) × (new.waiting.items ≡ old.waiting.items ++ more)
+
+-- some may have come, behind those that wait, and then the place, the first of all, went
+abbrev pub GoesAhead : Queue → ℕ → Queue → Type 0
+GoesAhead old place new = (more : List ℕ) × (old.waiting.items ++ more ≡ place ∷ new.waiting.items)
+
 -- the place that came first of those that wait
 abbrev pub IsFirst : Queue → ℕ → Type 0
 IsFirst queue place = (behind : List ℕ) × (queue.waiting.items ≡ place ∷ behind)

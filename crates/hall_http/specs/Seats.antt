@@ -1,10 +1,11 @@
 -- Who came to the places, and who has gone.
-use Rattle.std.specs.Prelude.{◌≡◌, ◌≢◌, ◌<◌, ◌≤◌, ◌+◌, ◌==◌, ◌⊎◌, ℕ, Bool, true, List, [], ◌∷◌, ◌++◌}
+use Rattle.std.specs.Prelude.{◌≡◌, ◌≢◌, ◌<◌, ◌≤◌, ◌+◌, ◌==◌, ◌⊎◌, ℕ, Bool, true, false, List, [], ◌∷◌, ◌++◌}
 use Rattle.std.specs.Prelude.{Option, Some, None, flat_map, get_or, is_some, length, map, set}
 use Rattle.mio.specs.declared.net.stream.TcpStream.{TcpStream}
 use Rattle.hall_http.specs.Coming.{Heard, Nexts}
+use Rattle.hall_http.specs.Fair.{turned}
 use Rattle.hall_http.specs.Limits.{most_connections}
-use Rattle.hall_http.specs.Queue.{called, waits_in}
+use Rattle.hall_http.specs.Queue.{ComeBehind, GoesAhead, called, waits_in}
 use Rattle.hall_http.specs.Places.{HasExpired, MayMakeRoom, counted_for, goes_at, taken, wait_in}
 use Rattle.hall_http.specs.declared.client.Step.{Step}
 use Rattle.hall_http.specs.declared.client.Step.TheVariants as step
@@ -27,6 +28,7 @@ pub record AreFresh (connections : ℕ) (places : Places) : Type 0 where
   pub lost : places.lost.items ≡ []
   pub let_go : places.let_go.items ≡ []
   pub heard : places.heard.items ≡ []
+  pub elapsed : places.elapsed ≡ 0
   pub most : places.most ≡ connections
 
 -- no place was given meanwhile, and none was free again; nobody was let go, no more or fewer may come in all, and
@@ -55,6 +57,7 @@ Frees old place new =
     (new.seated.items ≡ old.seated.items) × (new.most ≡ old.most) × (new.let_go.items ≡ old.let_go.items)
     × (new.heard.items ≡ old.heard.items) × (new.elapsed ≡ old.elapsed)
     × (is_some (get_or old.visits.items place None) ≡ true → FreesOne old place new)
+    × (is_some (get_or old.visits.items place None) ≡ false → new.freed.items ≡ old.freed.items)
 
 -- who stands so after its turn leaves its place, where it was there; and else no place is free again
 abbrev pub LeavesBy : Step → Places → ℕ → Places → Type 0
@@ -67,6 +70,10 @@ HasHeard old one new =
     (new.seated.items ≡ old.seated.items) × (new.most ≡ old.most) × (new.let_go.items ≡ old.let_go.items)
     × (new.heard.items ≡ old.heard.items ++ (one, old.elapsed) ∷ []) × (new.elapsed ≡ old.elapsed)
     × LeavesBy one.0.1 old one.0.0 new
+
+-- all that they heard of turns, in order
+abbrev pub heard_in : Places → List Heard
+heard_in places = map (λ one. one.0) places.heard.items
 
 -- the place is free, and one more may be here
 abbrev pub IsOpen : Places → ℕ → Type 0
@@ -117,6 +124,12 @@ abbrev pub LetsGo : Places → ℕ → Places → Type 0
 LetsGo old place new =
     (one : LetGo × ℕ) × (one.0.place ≡ place) × (new.let_go.items ≡ old.let_go.items ++ one ∷ [])
 
+-- whoever is known so at the place was let go, at this millisecond
+abbrev pub LetsGoNow : Places → ℕ → Places → Type 0
+LetsGoNow old place new =
+    (one : LetGo × ℕ) × (new.let_go.items ≡ old.let_go.items ++ one ∷ [])
+    × (get_or old.visits.items place None ≡ Some one.0.visit) × (one.1 ≡ old.elapsed)
+
 -- what was waited for last is this, after as many requests
 abbrev pub WaitedFor : Option Visit → Wish → ℕ → Wait → Type 0
 WaitedFor old what requests last =
@@ -155,25 +168,23 @@ gone_at _ = []
 abbrev pub AreLetGo : {P : Type 0} → Nexts P → Places → Type 0
 AreLetGo nexts places = flat_map gone_at nexts ≡ map (λ one. one.0.place) places.let_go.items
 
--- the place of one that has its turn
-abbrev pub turn_at : {P : Type 0} → Next P → List ℕ
-turn_at (next.Turn place) = place ∷ []
-turn_at _ = []
-
 -- those that had their turns, of all that was to be done, are those that were called in this line, in this order
 abbrev pub AreCalled : {P : Type 0} → Nexts P → Queue → Type 0
-AreCalled nexts ready = flat_map turn_at nexts ≡ called ready
+AreCalled nexts ready = turned nexts ≡ called ready
 
--- whoever has a turn was called after these, a newcomer waits in line, and nobody else was called
-abbrev pub CallsOne : {P : Type 0} → List ℕ → Next P → Queue → Type 0
-CallsOne before (next.Turn place) ready = called ready ≡ before ++ place ∷ []
-CallsOne before (next.Newcomer place peer) ready = (called ready ≡ before) × (waits_in ready place ≡ true)
-CallsOne before _ ready = called ready ≡ before
+-- Whoever has a turn was called, and a newcomer waits in line. Whoever is let go may have stood in it, as the first; and
+-- else nobody goes from it, and nobody was called.
+abbrev pub CallsOne : {P : Type 0} → Queue → Next P → Queue → Type 0
+CallsOne old (next.Turn place) new =
+    (called new ≡ called old ++ place ∷ []) × GoesAhead old place new × (place < most_connections)
+CallsOne old (next.Newcomer place peer) new = ComeBehind old new × (waits_in new place ≡ true)
+CallsOne old (next.Gone place) new = ComeBehind old new ⊎ ((called new ≡ called old) × GoesAhead old place new)
+CallsOne old _ new = ComeBehind old new
 
 -- so it is where anything is to be done; else nobody was called
-abbrev pub MayCall : {P : Type 0} → List ℕ → Option (Next P) → Queue → Type 0
-MayCall before (Some said) ready = CallsOne before said ready
-MayCall before None ready = called ready ≡ before
+abbrev pub MayCall : {P : Type 0} → Queue → Option (Next P) → Queue → Type 0
+MayCall old (Some said) new = CallsOne old said new
+MayCall old None new = ComeBehind old new
 
 -- whoever is ready at the place waits in line
 abbrev pub IsReadyInLine : Places → ℕ → Queue → Type 0

@@ -1,19 +1,25 @@
 //! The system's sockets: who comes, whose turn it is, and who has waited too long.
-ghost use Rattle.std.specs.Prelude.{◌≡◌, ◌++◌, ◌⊎◌, ℕ, [], ◌∷◌, IfNone, IfOk, IfSome, Option, None, Some, false, get_or};
-ghost use Rattle.std.specs.Prelude.{nat_lt, true};
-ghost use Rattle.hall_http.specs.Looks.{IsHeardOut, TellsAll, counted, passed_since, read_after};
+ghost use Rattle.std.specs.Prelude.{◌≡◌, ◌<◌, ◌++◌, ◌⊎◌, ℕ, [], ◌∷◌, IfNone, IfOk, IfSome, Option, None, Some, false, get_or};
+ghost use Rattle.std.specs.Prelude.{All, nat_lt, true};
+ghost use Rattle.hall_http.specs.Looks.{IsHeardOut, IsTimeBy, TellsAll, counted, passed_since, read_after};
+ghost use Rattle.hall_http.specs.Looks.{time_by};
+ghost use Rattle.hall_http.specs.declared.client.Step.TheVariants as Step;
 ghost use Rattle.hall_http.specs.declared.event_loop.Look.TheVariants as Look;
 ghost use Rattle.hall_http.specs.declared.server.Next.TheVariants as Next;
 ghost use Rattle.hall_http.specs.Coming.{logged};
-ghost use Rattle.hall_http.specs.Queue.{called, waits_in};
+ghost use Rattle.hall_http.specs.Queue.{ComeBehind, called, waits_in};
 ghost use Rattle.hall_http.specs.Seats.{AreCalled, CallsOne, GoesFirst, IsInLine, IsReadyInLine, MayCall, MayGoBy};
 ghost use Rattle.hall_http.specs.declared.places.Visit.TheVariants.{Waiting};
 ghost use Rattle.hall_http.specs.declared.places.Wait.{Wait};
 ghost use Rattle.hall_http.specs.Places.{HasExpired, HasLeft};
 ghost use Rattle.hall_http.specs.Seats.{AreFresh, AreLetGo, AreStill, HasHeard, HaveAllGone, IsOpen, MayLetGo};
-ghost use Rattle.hall_http.specs.Seats.{IsUnheard, StandsAt};
+ghost use Rattle.hall_http.specs.Seats.{IsUnheard, StandsAt, heard_in};
+ghost use Rattle.hall_http.specs.Fair.{Owes};
+ghost use Rattle.hall_http.specs.Limits.{most_connections};
+ghost use Rattle.hall_http.specs.Waited.{WasJudged};
 
 use crate::client::{Step, Wish};
+use crate::clients::MOST_CLIENTS;
 use crate::device::write_all;
 use crate::places::{LONGEST_ROUND, Places, Visit};
 use crate::queue::{Motion, Queue};
@@ -91,6 +97,7 @@ pub struct EventLoop<'r, N, E> {
     refuses_writes: bool,
     ghost lets_go: { AreLetGo (logged nexts) schedule.places },
     ghost in_line: { AreCalled (logged nexts) schedule.ready },
+    ghost owes: { ∥ Owes (logged nexts) (heard_in schedule.places) schedule.ready.waiting.items ∥₁ },
 }
 
 /// Who is here and who waits, and whose turn it is.
@@ -124,6 +131,9 @@ struct Schedule<'r, N> {
     /// All that was asked of the clock and of the sockets, and how many things these told.
     looks: Log<Look, usize>,
     ghost heard_out: { has_heard ≡ true → ∥ IsHeardOut looks.items ∥₁ },
+    ghost counts: { time_by looks.items ≡ (places.elapsed, read) },
+    ghost timed: { All (λ one. ∥ IsTimeBy looks.items one.1 ∥₁) places.heard.items },
+    ghost judged: { All (λ one. ∥ WasJudged looks.items one ∥₁) places.let_go.items },
 }
 
 impl<'r, N: Net + AllocGlobal + time::Clock, E: Drop> EventLoop<'r, N, E> {
@@ -251,7 +261,7 @@ impl<'r, N> Schedule<'r, N> {
     fn wake(&mut self, place: usize)
         ensures asked { (self.new.looks ≡ self.old.looks) × (self.new.has_heard ≡ self.old.has_heard) }
         ensures places { IsUnheard self.old.places self.new.places }
-        ensures line { called self.new.ready ≡ called self.old.ready }
+        ensures line { ComeBehind self.old.ready self.new.ready }
         ensures woken { (wait : Wait) → get_or self.old.places.visits.items place None ≡ Some (Waiting wait) →
             waits_in self.new.ready place ≡ true }
     {
@@ -283,7 +293,7 @@ impl<'r, N> Schedule<'r, N> {
             ⊎ StandsAt self.old.places place (λ visit. HasLeft visit self.old.places.elapsed) }
         ensures gone { result ≡ Some (Next.Gone place) }
         ensures handed_out { MayHandOut self.old.places result self.new.places }
-        ensures line { MayCall (called self.old.ready) result self.new.ready }
+        ensures ready { self.new.ready ≡ self.old.ready }
     {
         self.places.let_go(place);
         self.try_again();
@@ -305,7 +315,7 @@ impl<'r, N> Schedule<'r, N> {
     /// the place of one has its turn in line, if its request needs more work by then.
     fn call_searching(&mut self)
         ensures places { IsUnheard self.old.places self.new.places }
-        ensures line { called self.new.ready ≡ called self.old.ready }
+        ensures line { ComeBehind self.old.ready self.new.ready }
     {
         for _gone in 0..self.searching.len() {
             let Some(place) = self.searching.first() else {
@@ -325,7 +335,7 @@ impl<'r, N> Schedule<'r, N> {
     /// is, one who searches is ready too.
     fn begin_round(&mut self)
         ensures places { IsUnheard self.old.places self.new.places }
-        ensures line { called self.new.ready ≡ called self.old.ready }
+        ensures line { ComeBehind self.old.ready self.new.ready }
     {
         if self.holding == 0 || self.answers >= MOST_ANSWERS {
             self.answers = 0;
@@ -437,7 +447,7 @@ impl<'r, N> Schedule<'r, N> {
     /// too, is let go in its place.
     fn first(&mut self) -> Option<Next<Socket>>
         ensures handed_out { MayHandOut self.old.places result self.new.places }
-        ensures line { MayCall (called self.old.ready) result self.new.ready }
+        ensures line { MayCall self.old.ready result self.new.ready }
     {
         if self.round == 0 {
             return None;
@@ -456,7 +466,7 @@ impl<'r, N> Schedule<'r, N> {
     fn judge(&mut self) -> Option<Next<Socket>>
         requires { self.old.has_heard ≡ true }
         ensures handed_out { MayHandOut self.old.places result self.new.places }
-        ensures line { MayCall (called self.old.ready) result self.new.ready }
+        ensures line { MayCall self.old.ready result self.new.ready }
     {
         if self.backlog == Backlog::Waiting
             && let Some(next) = self.admit()
@@ -467,12 +477,28 @@ impl<'r, N> Schedule<'r, N> {
         self.let_go(place)
     }
 
+    /// Who is let in, or has to go, where all was heard; and else a round begins.
+    #[tactic(auto, using(crate::proofs::Fair::behind_then))]
+    fn judge_heard(&mut self) -> Option<Next<Socket>>
+        ensures handed_out { MayHandOut self.old.places result self.new.places }
+        ensures line { MayCall self.old.ready result self.new.ready }
+    {
+        if !self.has_heard {
+            return None;
+        }
+        if let Some(next) = self.judge() {
+            return Some(next);
+        }
+        self.begin_round();
+        None
+    }
+
     /// Lets a newcomer in, where there is one and a place for it.
     fn admit(&mut self) -> Option<Next<Socket>>
         requires { self.old.has_heard ≡ true }
         ensures heard { IfNone result (self.new.has_heard ≡ true) }
         ensures handed_out { MayHandOut self.old.places result self.new.places }
-        ensures line { MayCall (called self.old.ready) result self.new.ready }
+        ensures line { MayCall self.old.ready result self.new.ready }
     {
         let Some(place) = self.free_place() else {
             return self.make_room();
@@ -495,7 +521,7 @@ impl<'r, N> Schedule<'r, N> {
         requires { self.old.has_heard ≡ true }
         ensures heard { IfNone result (self.new.has_heard ≡ true) }
         ensures handed_out { MayHandOut self.old.places result self.new.places }
-        ensures line { MayCall (called self.old.ready) result self.new.ready }
+        ensures line { MayCall self.old.ready result self.new.ready }
         ensures first { (place : ℕ) → result ≡ Some (Next.Gone place) → GoesFirst self.old.places place }
     {
         if self.places.has_room()
@@ -515,7 +541,7 @@ impl<'r, N> Schedule<'r, N> {
         requires heard { self.old.has_heard ≡ true }
         ensures heard { IfNone result (self.new.has_heard ≡ true) }
         ensures handed_out { MayHandOut self.old.places result self.new.places }
-        ensures line { MayCall (called self.old.ready) result self.new.ready }
+        ensures line { MayCall self.old.ready result self.new.ready }
     {
         let interests = Interest::READABLE | Interest::WRITABLE;
         let set = stream.set_nodelay(true).and_then(|_| {
@@ -569,7 +595,7 @@ impl<'r, N: time::Clock> Schedule<'r, N> {
     /// patience is judged.
     fn poll_once(&mut self) -> io::Result<()>
         ensures still { AreStill self.old.places self.new.places }
-        ensures line { called self.new.ready ≡ called self.old.ready }
+        ensures line { ComeBehind self.old.ready self.new.ready }
     {
         self.has_heard = false;
         self.count_time();
@@ -588,7 +614,7 @@ impl<'r, N: time::Clock> Schedule<'r, N> {
     fn hear_all(&mut self) -> io::Result<()>
         requires { self.old.has_heard ≡ false }
         ensures places { IsUnheard self.old.places self.new.places }
-        ensures line { called self.new.ready ≡ called self.old.ready }
+        ensures line { ComeBehind self.old.ready self.new.ready }
         ensures unheard { self.new.has_heard ≡ false }
         ensures all { IfOk result (λ _. ∥ IsHeardOut self.new.looks.items ∥₁) }
     {
@@ -605,7 +631,7 @@ impl<'r, N: time::Clock> Schedule<'r, N> {
     fn hear(&mut self, patience: Option<u64>) -> io::Result<usize>
         requires { self.old.has_heard ≡ false }
         ensures places { IsUnheard self.old.places self.new.places }
-        ensures line { called self.new.ready ≡ called self.old.ready }
+        ensures line { ComeBehind self.old.ready self.new.ready }
         ensures unheard { self.new.has_heard ≡ false }
         ensures told { IfOk result (λ told.
             self.new.looks.items ≡ self.old.looks.items ++ (Look.Sockets patience, told) ∷ []) }
@@ -675,18 +701,15 @@ impl<'r, N: time::Clock> Schedule<'r, N> {
     /// Waits until something is to be done.
     fn next(&mut self) -> Next<Socket>
         ensures handed_out { HandsOut self.old.places result self.new.places }
-        ensures line { CallsOne (called self.old.ready) result self.new.ready }
+        ensures line { CallsOne self.old.ready result self.new.ready }
         ensures over { result ≡ Next.End → HaveAllGone self.new.places }
     {
         for _round in 0..u64::MAX {
             if self.places.are_over() {
                 return Next::End;
             }
-            if self.has_heard {
-                if let Some(next) = self.judge() {
-                    return next;
-                }
-                self.begin_round();
+            if let Some(next) = self.judge_heard() {
+                return next;
             }
             if let Some(next) = self.first() {
                 return next;
@@ -707,7 +730,7 @@ impl<'r, N: time::Clock> Schedule<'r, N> {
     /// Waits until something is to be done, and tells at which millisecond it is.
     fn next_at(&mut self) -> (Next<Socket>, u64)
         ensures handed_out { HandsOut self.old.places result.0 self.new.places }
-        ensures line { CallsOne (called self.old.ready) result.0 self.new.ready }
+        ensures line { CallsOne self.old.ready result.0 self.new.ready }
         ensures over { result.0 ≡ Next.End → HaveAllGone self.new.places }
         ensures at { result.1 ≡ self.new.places.elapsed }
     {
@@ -719,7 +742,7 @@ impl<'r, N: time::Clock> Schedule<'r, N> {
     /// The connection at the place isn't held any more, and is ready.
     fn answered(&mut self, place: usize)
         ensures places { self.new.places ≡ self.old.places }
-        ensures line { called self.new.ready ≡ called self.old.ready }
+        ensures line { ComeBehind self.old.ready self.new.ready }
         ensures ready { IsReadyInLine self.new.places place self.new.ready }
     {
         self.holding = self.holding.saturating_sub(1);
@@ -728,13 +751,26 @@ impl<'r, N: time::Clock> Schedule<'r, N> {
         }
     }
 
+    /// Notes how the connection at the place stands after its turn, and for which moment its request is held.
+    fn hears(&mut self, place: usize, step: Step, held: Option<Option<Moment>>)
+        ensures heard { HasHeard self.old.places ((place, step), held) self.new.places }
+        ensures ready { self.new.ready ≡ self.old.ready }
+    {
+        self.places.hears(place, step, held);
+    }
+
     /// Hears how the connection at the place stands after its turn, and for which moment its request is held.
     fn stands(&mut self, place: usize, step: Step, held: Option<Option<Moment>>)
         ensures heard { HasHeard self.old.places ((place, step), held) self.new.places }
-        ensures line { called self.new.ready ≡ called self.old.ready }
+        ensures line { ComeBehind self.old.ready self.new.ready }
         ensures ready { IsInLine self.new.places place step self.new.ready }
+        ensures goes_on { step ≡ Step.Again → place < most_connections → waits_in self.new.ready place ≡ true }
     {
-        self.places.hears(place, step, held);
+        self.hears(place, step, held);
+        if step == Step::Again && place < MOST_CLIENTS {
+            self.ready.push(place);
+            return;
+        }
         match self.places.at(place) {
             Some(Visit::Ready(_)) if step == Step::Holds => {
                 self.holding = self.holding.saturating_add(1);

@@ -1,8 +1,10 @@
 //! The places of the connections, and how many of these may still come.
-ghost use Rattle.std.specs.Prelude.{◌≡◌, ◌≤◌, ◌<◌, ◌+◌, [], ◌∷◌, ◌++◌, All, IfOk, IfSome, None, Some, get_or, length};
-ghost use Rattle.std.specs.Prelude.{false, true};
+ghost use Rattle.std.specs.Prelude.{◌≡◌, ◌≤◌, ◌<◌, ◌+◌, ◌⊎◌, [], ◌∷◌, ◌++◌, All, IfOk, IfSome, None, Some, get_or, length};
+ghost use Rattle.std.specs.Prelude.{false, is_some, true};
 ghost use Rattle.hall_http.specs.Limits.{most_connections};
-ghost use Rattle.hall_http.specs.Places.{IsLetGo, counted_for, patience_of, taken, until_of};
+ghost use Rattle.hall_http.specs.Places.{IsLetGo, counted_for, patience_of, taken, until_of, wait_in};
+ghost use Rattle.hall_http.specs.Waited.{HadWaited, WaitAsHeard};
+ghost use Rattle.hall_http.specs.declared.client.Step.TheVariants as Step;
 ghost use Rattle.hall_http.specs.declared.places.Visit.TheVariants.{Ready};
 
 use crate::client::{Step, Wish};
@@ -87,6 +89,18 @@ pub(crate) enum Visit {
     Searching(Wait),
 }
 
+impl Visit {
+    /// It is ready, and what it waited for is what it waited for last.
+    fn woken(self) -> Visit
+        ensures { result ≡ Ready (wait_in self) }
+    {
+        match self {
+            Visit::Waiting(wait) | Visit::Searching(wait) => Visit::Ready(Some(wait)),
+            Visit::Ready(last) => Visit::Ready(last),
+        }
+    }
+}
+
 /// A connection that is let go: its place, what was known of it, and whether all places were taken.
 #[derive(Clone, Copy)]
 pub(crate) struct LetGo {
@@ -124,11 +138,14 @@ pub(crate) struct Places {
     ghost stays: { length seated.items ≡ length freed.items + here },
     ghost fits: { here ≤ left },
     ghost rightly: { All (λ one. ∥ IsLetGo one ∥₁) let_go.items },
+    ghost waits: { WaitAsHeard heard.items visits.items },
+    ghost waited: { All (λ one. ∥ HadWaited heard.items one.0 ∥₁) let_go.items },
 }
 
 impl Places {
     ghost use Rattle.hall_http.specs.Seats.{AreFresh, AreStill, Frees, FreesOne, HasHeard};
     ghost use Rattle.hall_http.specs.Seats.{HaveAllGone, IsHeard, IsOpen, IsUnheard, LetsGo, LosesOne, MayLetGo};
+    ghost use Rattle.hall_http.specs.Seats.{LetsGoNow};
     ghost use Rattle.hall_http.specs.Seats.{TouchesOnly, WaitsFrom, Wakes};
     ghost use Rattle.hall_http.specs.Seats.{are_full};
     ghost use Rattle.hall_http.specs.Looks.{counted};
@@ -217,8 +234,8 @@ impl Places {
         ensures there { TouchesOnly self.old place self.new }
         ensures woken { Wakes (get_or self.old.visits.items place None) (get_or self.new.visits.items place None) }
     {
-        if let Some(Visit::Waiting(wait) | Visit::Searching(wait)) = self.at(place) {
-            self.visits[place] = Some(Visit::Ready(Some(wait)));
+        if let Some(visit) = self.at(place) {
+            self.visits[place] = Some(visit.woken());
         }
     }
 
@@ -239,14 +256,28 @@ impl Places {
         }
     }
 
-    /// What is known from now on of the connection at the place, if one is there.
-    fn put(&mut self, place: usize, visit: Visit)
-        ensures unheard { IsUnheard self.old self.new }
-        ensures there { TouchesOnly self.old place self.new }
-        ensures known { (known : Visit) → get_or self.new.visits.items place None ≡ Some known → known ≡ visit }
+    /// What is known of the connection at the place, if one is there, once it stands so after its turn; and nothing
+    /// where it is over.
+    fn after(&self, place: usize, step: Step) -> Option<Visit>
+        ensures known { IfSome result (λ visit.
+            IsHeard (get_or self.now.visits.items place None) step self.now.elapsed visit) }
+        ensures there { IfSome result (λ _.
+            (place < most_connections) × (is_some (get_or self.now.visits.items place None) ≡ true)) }
+        ensures none { result ≡ None → (get_or self.now.visits.items place None ≡ None) ⊎ (step ≡ Step.Over) }
     {
-        if self.at(place).is_some() {
-            self.visits[place] = Some(visit);
+        let visit = self.at(place)?;
+        match step {
+            Step::Again | Step::Holds => Some(visit.woken()),
+            Step::Searches { requests } => Some(Visit::Searching(self.wait(
+                place,
+                Wish::Searching,
+                requests,
+            ))),
+            Step::Leaves => Some(Visit::Ready(Some(self.wait(place, Wish::Leaving, 0)))),
+            Step::Waits { wish, requests } => {
+                Some(Visit::Waiting(self.wait(place, wish, counted_for(wish, requests))))
+            }
+            Step::Over => None,
         }
     }
 
@@ -258,23 +289,14 @@ impl Places {
         ensures known { (visit : Visit) → get_or self.new.visits.items place None ≡ Some visit →
             IsHeard (get_or self.old.visits.items place None) step self.old.elapsed visit }
     {
-        match step {
-            Step::Again | Step::Holds => self.wakes(place),
-            Step::Searches { requests } => {
-                let wait = self.wait(place, Wish::Searching, requests);
-                self.put(place, Visit::Searching(wait));
-            }
-            Step::Leaves => {
-                let wait = self.wait(place, Wish::Leaving, 0);
-                self.put(place, Visit::Ready(Some(wait)));
-            }
-            Step::Waits { wish, requests } => {
-                let wait = self.wait(place, wish, counted_for(wish, requests));
-                self.put(place, Visit::Waiting(wait));
-            }
-            Step::Over => self.free(place),
-        }
-        self.heard = self.heard.and(&((place, step), held), &self.elapsed);
+        let told = ((place, step), held);
+        let Some(visit) = self.after(place, step) else {
+            self.free(place);
+            self.heard = self.heard.and(&told, &self.elapsed);
+            return;
+        };
+        self.visits[place] = Some(visit);
+        self.heard = self.heard.and(&told, &self.elapsed);
     }
 
     /// Gives a newcomer the place, which is ready and has waited for nothing. What comes of it is which places were
@@ -312,6 +334,7 @@ impl Places {
     pub(crate) fn let_go(&mut self, place: usize)
         requires { MayLetGo self.old place }
         ensures gone { LetsGo self.old place self.new }
+        ensures now { LetsGoNow self.old place self.new }
         ensures freed { FreesOne self.old place self.new }
         ensures there { TouchesOnly self.old place self.new }
         ensures seated { self.new.seated.items ≡ self.old.seated.items }

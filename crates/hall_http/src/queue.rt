@@ -35,7 +35,7 @@ pub(crate) struct Queue {
 }
 
 impl Queue {
-    ghost use Rattle.hall_http.specs.Queue.{HasCome, HasGone, IsFirst, called, waits_in};
+    ghost use Rattle.hall_http.specs.Queue.{ComeBehind, HasCome, HasGone, IsFirst, called, waits_in};
 
     /// None waits yet.
     pub(crate) fn new(alloc: Global) -> Result<Queue, AllocError>
@@ -66,7 +66,7 @@ impl Queue {
         requires { place < most_connections }
         ensures came { HasCome self.old place self.new }
         ensures waits { waits_in self.new place ≡ true }
-        ensures called { called self.new ≡ called self.old }
+        ensures behind { ComeBehind self.old self.new }
     {
         if !self.waiting.contains(&place) {
             self.waiting.push_back_reserved(place);

@@ -1,10 +1,10 @@
 use Rattle.std.proofs.Common.{◌≡◌}
-use Rattle.hall_http.specs.Queue.{called}
+use Rattle.hall_http.specs.Queue.{ComeBehind}
 use Rattle.hall_http.specs.Seats.{AreStill}
 use Rattle.hall_http.proofs.event_loop.Schedule.next.Given as goal
 
 abbrev pub invariant-loop-round : goal.invariant-loop-round
 invariant-loop-round g l = record {
   places : AreStill l.fn.self.places l.self.places;
-  line : called l.self.ready ≡ called l.fn.self.ready;
+  line : ComeBehind l.fn.self.ready l.self.ready;
 }

@@ -1,5 +1,7 @@
 use Rattle.std.proofs.Common.{◌≡◌, subst, rules, ◌++◌, ◌∷◌, [], true}
 use Rattle.hall_http.specs.declared.event_loop.Look.TheVariants.{Clock}
+use Rattle.hall_http.specs.Queue.{ComeBehind}
+use Rattle.hall_http.proofs.Fair.{behind_then}
 use Rattle.hall_http.proofs.Looked.{all_told, all_told_before}
 use Rattle.hall_http.proofs.event_loop.Schedule.poll_once.Goals.{then-not-tells_all+in_ok-hear_all, else-not-tells_all+else-not-is_quiet}
 use Rattle.hall_http.proofs.event_loop.Schedule.poll_once.Goals as goal
@@ -20,4 +22,30 @@ invariant_of-self-2 g c = record {
         (all_told c.count_time.new.self.looks.items now c.patience-patience.result c.in_ok-told.told
         c.in_ok-told.ensures.told (c.tells_all.ensures tells)) clock ∣₁)
   ];
+  counts = elim c.if-not-tells_all.branch [
+    | then-not-tells_all+in_ok-hear_all w ↦ rw w.self-is w.hear_all.new.self.counts
+    | else-not-tells_all+else-not-is_quiet w ↦ rw w.self-is c.count_time-is_quiet.new.self.counts
+  ];
+  timed = elim c.if-not-tells_all.branch [
+    | then-not-tells_all+in_ok-hear_all w ↦ rw w.self-is w.hear_all.new.self.timed
+    | else-not-tells_all+else-not-is_quiet w ↦ rw w.self-is c.count_time-is_quiet.new.self.timed
+  ];
+  judged = elim c.if-not-tells_all.branch [
+    | then-not-tells_all+in_ok-hear_all w ↦ rw w.self-is w.hear_all.new.self.judged
+    | else-not-tells_all+else-not-is_quiet w ↦ rw w.self-is c.count_time-is_quiet.new.self.judged
+  ];
 }
+
+pub returns-clause-line : goal.returns-clause-line
+returns-clause-line g c =
+    let first = c.args.self.now.ready in
+    let then = c.count_time-is_quiet.new.self.ready in
+    let so_far : ComeBehind first then =
+    rw c.count_time-is_quiet.ensures.ready
+    (subst (λ queue. ComeBehind queue c.hear.new.self.ready) c.count_time.ensures.ready c.hear.ensures.line) in
+    rw c.try_again.ensures.ready
+    (elim c.if-not-tells_all.branch [
+      | then-not-tells_all+in_ok-hear_all w ↦
+          rw w.self-is (behind_then first then w.hear_all.new.self.ready so_far w.hear_all.ensures.line)
+      | else-not-tells_all+else-not-is_quiet w ↦ rw w.self-is so_far
+    ])
