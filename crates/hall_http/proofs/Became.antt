@@ -8,7 +8,7 @@ use Rattle.std.proofs.lemmas.List.Elements.{All-append, All-cons, All-nil}
 use Rattle.hall_http.specs.Peer.{Traffic, IsLater}
 use Rattle.hall_http.specs.Crowd.{AllLeave, AreGone, AreKept, AreStill, ComesTo, HasGone, HaveGoneSince, HaveBecome}
 use Rattle.hall_http.specs.Crowd.{IsAt}
-use Rattle.hall_http.specs.Crowd.{IsHereOrGone, MayLose, Past, Receives, WasAt, number_past, traffic_past}
+use Rattle.hall_http.specs.Crowd.{IsHereOrGone, MayLose, Past, Receives, WasAt, WentLater, number_past, traffic_past}
 use Rattle.hall_http.specs.Turns.{Turn}
 use Rattle.hall_http.specs.declared.client.Client.{Client}
 use Rattle.hall_http.specs.declared.clients.Clients.{Clients}
@@ -19,7 +19,7 @@ use Rattle.hall_http.proofs.Peers.{later_same, later_then}
 use Rattle.hall_http.proofs.SoFar.{split_grown}
 
 -- what holds of all holds of each
-of_each : {X : Type 0} (Holds : X → Type 0) (front rest : List X) (x : X) → All Holds (front ++ x ∷ rest) → Holds x
+pub of_each : {X : Type 0} (Holds : X → Type 0) (front rest : List X) (x : X) → All Holds (front ++ x ∷ rest) → Holds x
 of_each Holds [] rest x all = all 0 x (omega arith)
 of_each Holds (y ∷ front) rest x all = of_each Holds front rest x (λ i d inside. all (suc i) d (omega arith))
 
@@ -103,15 +103,16 @@ module _ {P : Type 0} (traffic : P → Traffic) where
   }
 
   -- where all have gone
+  pub all_went : (u : Clients P) → AreGone u → (t : Traffic) → IsHereOrGone traffic u t
+      → WentLater traffic u.gone.items t
+  all_went u empty t (inl x) = let clash = sym (empty x.0) ∙ x.2 in absurd cc
+  all_went u empty t (inr went) = went
+
   pub all_became : (s u : Clients P) → AreGone u → HaveBecome traffic u s → HaveGoneSince traffic u.gone.items s
   all_became s u empty became = record {
     rest = became.rest;
     first = became.first;
-    here = λ place k at.
-        elim (became.here place k at) [
-          | inl x ↦ let clash = sym (empty x.0) ∙ x.2 in absurd cc
-          | inr went ↦ went
-        ];
+    here = λ place k at. all_went u empty (traffic k.peer) (became.here place k at);
   }
 
   module _ (few many then : ℕ) (turns later : List Turn) (s u : Clients P) (kept : AreKept traffic few many turns s)
@@ -165,7 +166,7 @@ module _ {P : Type 0} (traffic : P → Traffic) where
     later_still t v first (inr (front, one, rest, is, second)) =
         inr (front, one, rest, is, later_then t v (traffic_past traffic one) first second)
 
-    onward : (t : Traffic) → IsHereOrGone traffic s t → IsHereOrGone traffic u t
+    pub onward : (t : Traffic) → IsHereOrGone traffic s t → IsHereOrGone traffic u t
     onward t (inl (place, l, at, later)) = later_still t (traffic l.peer) later (become place l at)
     onward t (inr (front, one, rest, is, later)) = inr (
       front,

@@ -12,13 +12,16 @@ use Rattle.hall_http.specs.Connection.{Exchange, LeavesOpen, requests_of}
 use Rattle.hall_http.specs.Peer.{Traffic, IsLater, IsUntouched}
 use Rattle.hall_http.specs.Crowd.{AreApart, AreKept, AreThose, AreConnectionsTold, HasGone, IsAt, AreGone, IsPast}
 use Rattle.hall_http.specs.Crowd.{IsHandedOut, AnswersNoMore, AreAnsweredOf, AreStill, ComesTo, HasAt, IsHeldAt, MayGo}
-use Rattle.hall_http.specs.Crowd.{Past, Serves, number_past, traffic_past}
+use Rattle.hall_http.specs.Crowd.{MayWaitAfter, Past, Serves, WaitsAt, number_past, traffic_past}
 use Rattle.hall_http.specs.Head.{HasNoWholeRequest, IsWholeRequest}
 use Rattle.hall_http.specs.History.{ConnectionHistory, Stands, IsReplying, Ends}
 use Rattle.hall_http.specs.Turns.{GroupedSession}
 use Rattle.hall_http.specs.Turns.{Turn, Service, of, AreOpenButLast, AreSent, HasEnded, IsConnectionTold, IsClient}
+use Rattle.hall_http.specs.Turns.{IsNextRequest}
 use Rattle.hall_http.specs.Turns.{IsOneAt, IsRefusedAfter, IsRefusedRightly, IsPlaceAnswered, IsPlaceKept}
 use Rattle.hall_http.specs.Reading.{at_first}
+use Rattle.hall_http.specs.Progress.{AnswersFirst}
+use Rattle.hall_http.specs.Steps.{HasRequest, KeepsWaiting}
 use Rattle.hall_http.specs.declared.client.Client.{Client}
 use Rattle.hall_http.specs.declared.clients.Away.{Away}
 use Rattle.hall_http.specs.declared.clients.Clients.{Clients}
@@ -35,7 +38,7 @@ use Rattle.hall_http.proofs.Histories.{stands_at}
 use Rattle.hall_http.proofs.Numbers.{numbered, exchanges_numbered, of_none, own_more, others_same, known_more, read_at}
 use Rattle.hall_http.proofs.Numbers.{where_is, is_there, is_still}
 use Rattle.hall_http.proofs.Grouped.{grouped_alone}
-use Rattle.hall_http.proofs.Heard.{handled_none}
+use Rattle.hall_http.proofs.Heard.{AreServedSo, handled_none, may_now}
 use Rattle.hall_http.proofs.Peers.{later_same}
 use Rattle.hall_http.proofs.SoFar.{still_same}
 
@@ -579,6 +582,39 @@ module _ {P : Type 0} (traffic : P → Traffic) where
               (kept.gone i d within);
         }
 
+  -- one of which no more were answered wasn't, and may wait
+  pub not_answered : {H : Type 0} (may_wait : H → List ℕ → Type 0) (k l : Client P) (h : H) (xs : List Exchange)
+      → IsClient traffic xs k → IsClient traffic xs l → k.connection.state ≡ state.Looking
+      → HasRequest k.connection → AnswersFirst may_wait k h l → KeepsWaiting may_wait k.connection h
+  not_answered may_wait k l h xs before after looking has first =
+      elim (first looking has) [
+        | inl more ↦
+            let same = before.has.requests ∙ ap length before.answered in
+            let still = after.has.requests ∙ ap length after.answered in
+            absurd (omega (arith, more, same, still))
+        | inr waits ↦ waits
+      ]
+
+  -- the request at the front of what waits is the next one
+  next_request : (turns : List Turn) (k : Client P) → IsClient traffic (of (number k) turns) k → (size : ℕ)
+      → IsWholeRequest (take size k.connection.inbox)
+      → IsNextRequest (traffic k.peer) turns (take size k.connection.inbox)
+  next_request turns k client size whole =
+      let inbox = k.connection.inbox in
+      let done = of (number k) turns in (
+        drop size inbox ++ client.off,
+        client.heard
+            ∙ ap (λ (came : List ℕ). came ++ client.off)
+            (client.has.came
+            ∙ ap (λ (xs : List Exchange). requests_of xs ++ inbox) client.answered
+            ∙ ap (λ (all : List ℕ). requests_of done ++ all) (sym (take-append-drop size inbox)))
+            ∙ append_assoc (requests_of done) (take size inbox ++ drop size inbox) client.off
+            ∙ ap (λ (all : List ℕ). requests_of done ++ all)
+            (append_assoc (take size inbox) (drop size inbox) client.off)
+            ∙ sym (append_assoc (requests_of done) (take size inbox) (drop size inbox ++ client.off)),
+        whole,
+      )
+
   module _ (s : Clients P) (place : ℕ) (inside : place < length s.places.items) (old new : Option (Client P))
       (is : old ≡ get_or s.places.items place old) where
     abbrev after : Clients P
@@ -643,36 +679,60 @@ module _ {P : Type 0} (traffic : P → Traffic) where
     pub keep_place : IsPlaceKept traffic old new → AnswersNoMore traffic s after
     keep_place keeps = (kept_still keeps, keep_one keeps)
 
-    one_answered : (one : HeldRequest) (more : List Exchange) (n : ℕ) → HasAt traffic s one.place n
-        → IsOneAt one.moment more → AreAnsweredOf (IsHeldAt traffic s) (one ∷ []) (numbered n more)
-    one_answered one more n there (inl none) = inl (ap (numbered n) none)
-    one_answered one more n there (inr (x, only, at)) = inr (n, x, [], (there, at), ap (numbered n) only, refl)
+    one_answered : (one : HeldRequest) (more : List Exchange) (n : ℕ) (MayPass : List Turn → HeldRequest → Type 0)
+        → HasAt traffic s one.place n → IsOneAt one.moment more → (more ≡ [] → MayPass [] one)
+        → AreAnsweredOf (IsHeldAt traffic s) MayPass [] (one ∷ []) (numbered n more)
+    one_answered one more n MayPass there (inl none) passes = inl (passes none, ap (numbered n) none)
+    one_answered one more n MayPass there (inr (x, only, at)) passes =
+        inr (n, x, [], (there, at), ap (numbered n) only, refl)
 
-    -- whoever stands at the place is answered, at the moment
+    -- one that isn't answered may wait
+    one_waits : {H : Type 0} (service : Service H) (before at : H) (one : HeldRequest) (k : Client P)
+        → IsAt s one.place k → (turns : List Turn)
+        → IsClient traffic (of (number k) turns) k → GroupedSession service before [] at
+        → KeepsWaiting service.may_wait k.connection at → (more : List Exchange) → more ≡ []
+        → WaitsAt (MayWaitAfter service before at (numbered (number k) more)) traffic s turns [] one
+    one_waits service before at one k stood turns client session (size, whole, wait) more none =
+        rw none (
+          k,
+          take size k.connection.inbox,
+          stood,
+          subst (λ (all : List Turn). IsNextRequest (traffic k.peer) all (take size k.connection.inbox))
+              (sym (append-nil turns)) (next_request turns k client size whole),
+          may_now service before at [] session (take size k.connection.inbox) wait,
+        )
+
+    -- whoever stands at the place is answered, at the moment, or may wait
     pub answer_place : {H : Type 0} (service : Service H) (before at : H) (one : HeldRequest) → one.place ≡ place
-        → IsPlaceAnswered service traffic one.moment before old at new → Serves service traffic (one ∷ []) before s at after
-    answer_place service before at one here (inl (none, still, same)) = (
-      still_free after refl still,
-      λ few many turns kept.
-          rw same
-          (handled_none service before
-          (λ more. AreAnsweredOf (IsHeldAt traffic s) (one ∷ []) more × AreKept traffic few many (turns ++ more) after) (
-            inl refl,
-            subst (λ (all : List Turn). AreKept traffic few many all after) (sym (append-nil turns))
-                (none_changed none still few many turns kept),
-          )),
-    )
-    answer_place service before at one here (inr (k, l, was, now, step)) = (
+        → (old ≡ None → ⊥)
+        → ((k l : Client P) (xs : List Exchange) → old ≡ Some k → new ≡ Some l → IsClient traffic xs k
+        → IsClient traffic xs l → GroupedSession service before [] at → KeepsWaiting service.may_wait k.connection at)
+        → IsPlaceAnswered service traffic one.moment before old at new
+        → Serves service traffic (one ∷ []) before s at after
+    answer_place service before at one here there waits (inl (none, still, same)) = absurd (there none)
+    answer_place service before at one here there waits (inr (k, l, was, now, step)) = (
       still_one k l was now step.later,
       λ few many turns kept.
           let stood : IsAt s place k = read_at s.places.items place old (Some k) inside is was in
-          let (more, few_more, session, client) = step.answered (of (number k) turns) (kept.here place k stood) in
+          let stands = kept.here place k stood in
+          let (more, few_more, session, client) = step.answered (of (number k) turns) stands in
+          let grouped = grouped_alone service more before at session in
+          let is_at : IsAt s one.place k = rw here stood in
           record {
             turns = numbered (number k) more;
             session = subst (λ (xs : List Exchange). GroupedSession service before xs at)
-                (sym (exchanges_numbered (number k) more)) (grouped_alone service more before at session);
+                (sym (exchanges_numbered (number k) more)) grouped;
             holds = (
-              one_answered one more (number k) (k, rw here stood, refl) few_more,
+              one_answered one more (number k)
+                  (WaitsAt (MayWaitAfter service before at (numbered (number k) more)) traffic s turns)
+                  (k, is_at, refl) few_more
+                  (λ none.
+                  let alone = subst (λ (xs : List Exchange). GroupedSession service before xs at) none grouped in
+                  one_waits service before at one k is_at turns stands alone
+                  (waits k l (of (number k) turns) was now stands
+                  (subst (λ (xs : List Exchange). IsClient traffic xs l)
+                  (ap (λ (more : List Exchange). of (number k) turns ++ more) none
+                  ∙ append-nil (of (number k) turns)) client) alone) more none),
               rw now (kept_turned few many turns s kept place inside k l stood step.later.number more client),
             );
           },
@@ -690,12 +750,10 @@ module _ {P : Type 0} (traffic : P → Traffic) where
       ]
 
   -- nobody is answered
-  pub serves_none : {H : Type 0} (service : Service H) (held : List HeldRequest) (at : H) (s : Clients P)
-      → AreAnsweredOf (IsHeldAt traffic s) held [] → Serves service traffic held at s at s
-  serves_none service held at s none = (
+  pub serves_none : {H : Type 0} (service : Service H) (at : H) (s : Clients P) → Serves service traffic [] at s at s
+  serves_none service at s = (
     still_same traffic s,
     λ few many turns kept.
-        handled_none service at
-        (λ more. AreAnsweredOf (IsHeldAt traffic s) held more × AreKept traffic few many (turns ++ more) s)
-        (none, subst (λ (all : List Turn). AreKept traffic few many all s) (sym (append-nil turns)) kept),
+        handled_none service at (AreServedSo service traffic [] at s at s (few, many) turns)
+        (refl, subst (λ (all : List Turn). AreKept traffic few many all s) (sym (append-nil turns)) kept),
   )

@@ -1,11 +1,11 @@
 -- Requests that are answered together: what is noted while they are told, one after another, is what was answered.
 use Rattle.std.proofs.Common.{◌≡◌, ◌≢◌, ◌∙◌, ap, refl, sym, subst, inl, inr, ℕ, List, [], ◌∷◌, ◌++◌, append_assoc, length}
-use Rattle.std.proofs.Common.{get_or, take, Option, Some, None}
+use Rattle.std.proofs.Common.{arith, get_or, length-append, take, Option, Some, None}
 use Rattle.std.specs.Prelude.{All, MatchOption, map}
 use Rattle.std.proofs.lemmas.List.{append-nil, map-append}
 use Rattle.std.proofs.lemmas.List.Elements.{All-cons, All-head, All-nil, All-push, All-tail}
 use Rattle.hall_http.specs.Connection.{Exchange, of_groups}
-use Rattle.hall_http.specs.Crowd.{AreAnsweredOf, AreKept, IsHeldAt, Serves}
+use Rattle.hall_http.specs.Crowd.{AreOthersSame, IsSameAt, MayWaitAfter, Serves}
 use Rattle.hall_policy.specs.declared.record.AnswerRow.{AnswerRow}
 use Rattle.hall_http.specs.Group.{AreWaiting, Awaits, IsGathered, JoinsAt, answered_at, exchanges_at, place_of}
 use Rattle.hall_http.specs.Group.{recording, requests_of}
@@ -23,9 +23,10 @@ use Rattle.hall_http.specs.declared.group.Group.{Group}
 use Rattle.hall_http.specs.declared.group.Member.{Member}
 use Rattle.hall_http.specs.declared.responder.GroupEnd.{GroupEnd}
 use Rattle.hall_http.specs.declared.responder.GroupEnd.TheVariants as group
+use Rattle.hall_http.proofs.Became.{of_each}
 use Rattle.hall_http.proofs.Crowds.{serves_none}
 use Rattle.hall_http.proofs.Grouped.{grouped_joined, grouped_last}
-use Rattle.hall_http.proofs.Heard.{handled_same, serves_more}
+use Rattle.hall_http.proofs.Heard.{may_rest, serves_more, waits_by}
 
 rest_noted : (told : List Exchange) (left : List (List Exchange)) (then : List Exchange)
     → AreRests recording.rests told left then → then ≡ told
@@ -52,6 +53,13 @@ pub all_noted : (told xs then : List Exchange) → GroupedSession recording told
 all_noted told xs then (groups, is, all) =
     groups_noted told groups then all ∙ ap (λ (zs : List Exchange). told ++ zs) is
 
+-- where one more was noted, it was answered
+pub some_noted : (told : List Exchange) (x : Exchange) → GroupedSession recording told [] (told ++ x ∷ []) → ⊥
+some_noted told x session =
+    let same = all_noted told [] (told ++ x ∷ []) session in
+    let longer = ap length same in
+    omega (arith, longer, length-append told (x ∷ []), length-append {A = Exchange} told [])
+
 module _ {H P : Type 0} (service : Service H) (traffic : P → Traffic) where
   -- what was told one after another was answered together
   pub serves_together : (held : List HeldRequest) (h i : H) (xs : List Exchange) (s u : Clients P)
@@ -64,7 +72,11 @@ module _ {H P : Type 0} (service : Service H) (traffic : P → Traffic) where
           turns = so.turns;
           session = subst (λ (ys : List Exchange). GroupedSession service h ys i)
               (all_noted [] (exchanges_of so.turns) xs so.session) (grouped_joined service h xs i says);
-          holds = so.holds;
+          holds = (
+            waits_by service traffic (MayWaitAfter recording [] xs so.turns) (MayWaitAfter service h i so.turns) s
+                turns (λ some request wait. absurd wait.5) held so.turns so.holds.0,
+            so.holds.1,
+          );
         },
   )
 
@@ -78,7 +90,11 @@ module _ {H P : Type 0} (service : Service H) (traffic : P → Traffic) where
         record {
           turns = so.turns;
           session = grouped_last service h (exchanges_of so.turns) m i so.session rested;
-          holds = so.holds;
+          holds = (
+            waits_by service traffic (MayWaitAfter service h m so.turns) (MayWaitAfter service h i so.turns) s turns
+                (may_rest service h m i so.turns rested) held so.turns so.holds.0,
+            so.holds.1,
+          );
         },
   )
 
@@ -115,7 +131,7 @@ module _ {P : Type 0} (traffic : P → Traffic) (end : GroupEnd) (s : Clients P)
   tells_none members waiting = record {
     done = [];
     all = refl;
-    serves = serves_none traffic recording [] [] s refl;
+    serves = serves_none traffic recording [] s;
     waiting = waiting;
     same = λ i d within. refl;
   }
@@ -140,13 +156,22 @@ module _ {P : Type 0} (traffic : P → Traffic) (end : GroupEnd) (s : Clients P)
         (map-append (λ (m : Member). answered_at (place_of s m) m.request.moment m.joined) so.done (member ∷ []))
         ∙ map-append (told_at_end end) (exchanges_at s so.done) (exchanges_at s (member ∷ [])))
 
+    -- nothing changes at the places of others
+    pub tells_others : (w : Clients P)
+        → ((place : ℕ) → All (λ member. member.request.place ≢ place) members → IsSameAt s u place)
+        → AreOthersSame u member.request.place w
+        → (place : ℕ) → All (λ member. member.request.place ≢ place) members → IsSameAt s w place
+    tells_others w before others place differs =
+        others place
+        (λ same.
+        of_each (λ member. member.request.place ≢ place) so.done rest member
+        (subst (All (λ member. member.request.place ≢ place)) so.all differs) (sym same)) ∙ before place differs
+
     -- it was told
     pub tells_more : (w : Clients P)
         → ((told : List Exchange) → Serves recording traffic (member.request ∷ []) told u
         (told ++ answered_at (place_of u member) member.request.moment (joined_told end member.joined) ∷ []) w)
-        → ((place : ℕ) → place ≢ member.request.place
-        → get_or w.places.items place None ≡ get_or u.places.items place None)
-        → TellsSoFar members w rest
+        → AreOthersSame u member.request.place w → TellsSoFar members w rest
     tells_more w serves others = record {
       done = so.done ++ member ∷ [];
       all = so.all ∙ sym (append_assoc so.done (member ∷ []) rest);
@@ -156,8 +181,9 @@ module _ {P : Type 0} (traffic : P → Traffic) (end : GroupEnd) (s : Clients P)
           (subst
           (λ (told : List Exchange).
           Serves recording traffic (requests_of so.done ++ member.request ∷ []) [] s told w) told_more
-          (serves_more recording traffic (requests_of so.done) (member.request ∷ []) _ _ _ _ _ _ so.serves
-          (serves (told_in so.done))));
+          (serves_more recording traffic (requests_of so.done) (member.request ∷ []) _ _ _ s u _
+          (All-cons (λ one. IsSameAt s u one.place) member.request [] here (All-nil (λ one. IsSameAt s u one.place)))
+          so.serves (serves (told_in so.done))));
       waiting = so.waiting.2;
       same = λ i d within.
           others ((get_or rest i d).request.place) (so.waiting.1 i d within)

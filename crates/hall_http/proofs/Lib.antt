@@ -43,6 +43,7 @@ pub mod Became
 pub mod Holdings
 pub mod Heard
 pub mod Crowds
+pub mod Ready
 pub mod Gathered
 pub mod Comings
 pub mod Serving

@@ -13,7 +13,8 @@ use Rattle.hall_http.specs.Coming.{Nexts, Said, since, stays_open}
 use Rattle.hall_http.specs.Crowd.{AreAtMoments, AreHandled, AreKept, AreKeptAtTurns, AreServed, AreServedAtTurns}
 use Rattle.hall_http.specs.Crowd.{AreThose}
 use Rattle.hall_http.specs.Crowd.{AreGone, AnswersNoMore, AllLeave, AreAsSaid, EndUnavailable, HaveGone, IsFor}
-use Rattle.hall_http.specs.Crowd.{HaveGoneSince, HaveBecome, MayWaitAfter, WaitsForSearchAfter}
+use Rattle.hall_http.specs.Crowd.{HaveGoneSince, HaveBecome, IsHereOrGone, MayWaitAfter, NextMayWait}
+use Rattle.hall_http.specs.Crowd.{WaitsForSearchAfter, WentLater}
 use Rattle.hall_http.specs.Groups.{AreAnsweredTogether, AreAnsweredWhileOpen, IsGroupAnswered}
 use Rattle.hall_http.specs.Peer.{Traffic}
 use Rattle.hall_http.specs.Resting.{AreRests, IsGroup, RestingGroups, still}
@@ -25,9 +26,10 @@ use Rattle.hall_http.specs.declared.server.ServeAllEnd.{ServeAllEnd}
 use Rattle.hall_http.proofs.Crowds.{kept_told, kept_those}
 use Rattle.hall_http.proofs.Groups.{groups_lead, groups_run, groups_stop}
 use Rattle.hall_http.proofs.Rested.{still_on}
-use Rattle.hall_http.proofs.Became.{all_became, became_on, leave_passes}
+use Rattle.hall_http.proofs.Became.{all_became, all_went, became_on, leave_passes, onward}
 use Rattle.hall_http.proofs.Heard.{have_heard_by}
-use Rattle.hall_http.proofs.SoFar.{for_grown, grows_by, left_grown, turns_grown}
+use Rattle.hall_http.proofs.Holdings.{next_by, turns_by}
+use Rattle.hall_http.proofs.SoFar.{for_grown, grows_by, left_grown}
 use Rattle.hall_http.proofs.Runs.{answered_kept, runs_sane}
 
 module _ {D H : Type 0} (kept : D → H) (content : H → Content) where
@@ -38,7 +40,8 @@ module _ {D H : Type 0} (kept : D → H) (content : H → Content) where
   reads h i = Kept (over h) (over i)
 
   abbrev desk_service : Service (D × Bool)
-  desk_service = service_of (IsAnsweredOver over) (AreAnsweredTogether over) (GoesOn over) reads
+  desk_service =
+      service_of (IsAnsweredOver over) (AreAnsweredTogether over) (GoesOn over) reads (WaitsForSearch over)
 
   abbrev IsOne : D × Bool → List Exchange → D × Bool → Type 0
   IsOne = IsGroup (gated (IsAnsweredOver over) (GoesOn over)) (gated_group (AreAnsweredTogether over) (GoesOn over))
@@ -164,12 +167,11 @@ module _ {D H C P : Type 0} (kept : D → H) (content : H → Content) (now_give
     (handled : AreHandled
     (desk_service kept content)
     (λ turns.
-    AreKeptAtTurns
-    (MayWaitAfter
-    (desk_service kept content)
-    (λ z. WaitsForSearch (over kept content) z.0) (h, true) (i, stays_open why) turns)
-    traffic old new turns s
-    × AreAtMoments traffic now_gives c s.gone.items (old, new) turns d)
+    AreKeptAtTurns (MayWaitAfter (desk_service kept content) (h, true) (i, stays_open why) turns) traffic old new
+    turns s
+    × AreAtMoments (IsFor traffic s.gone.items)
+    (NextMayWait (MayWaitAfter (desk_service kept content) (h, true) (i, stays_open why) turns)
+    (IsHereOrGone traffic s)) now_gives c (old, new) turns d)
     (h, true) (i, stays_open why))
     (keeps : AnswersNoMore traffic s u) (empty : AreGone u) where
   abbrev groups : List (List Exchange)
@@ -209,9 +211,7 @@ module _ {D H C P : Type 0} (kept : D → H) (content : H → Content) (now_give
 
   -- who may be kept waiting in between
   waits_after : (turns : List Turn) (request : List ℕ)
-      → MayWaitAfter
-      (desk_service kept content)
-      (λ z. WaitsForSearch (over kept content) z.0) (h, true) (i, stays_open why) handled.turns turns request
+      → MayWaitAfter (desk_service kept content) (h, true) (i, stays_open why) handled.turns turns request
       → WaitsForSearchAfter content (kept h) (kept i) handled.turns turns request
   waits_after turns request (m, rest, is, first, second, waits) = (
     kept m.0,
@@ -235,14 +235,22 @@ module _ {D H C P : Type 0} (kept : D → H) (content : H → Content) (now_give
           moments.1,
           moments.2,
           moments.3,
-          turns_grown traffic s.gone.items u.gone.items grows (since old new) moments.0 handled.turns moments.1
-              moments.2 moments.4,
+          turns_by (IsFor traffic s.gone.items) (IsFor traffic u.gone.items)
+              (NextMayWait (MayWaitAfter (desk_service kept content) (h, true) (i, stays_open why) handled.turns)
+              (IsHereOrGone traffic s))
+              (NextMayWait (WaitsForSearchAfter content (kept h) (kept i) handled.turns)
+              (WentLater traffic u.gone.items)) (for_grown traffic s.gone.items u.gone.items grows)
+              (next_by (MayWaitAfter (desk_service kept content) (h, true) (i, stays_open why) handled.turns)
+              (WaitsForSearchAfter content (kept h) (kept i) handled.turns) (IsHereOrGone traffic s)
+              (WentLater traffic u.gone.items) waits_after
+              (λ t was.
+              all_went traffic u empty t
+              (onward traffic old.count new.count new.count handled.turns handled.turns s u handled.holds.0.0 after
+              (omega arith) passes t was))) (since old new) moments.0 handled.turns moments.1 moments.2 moments.4,
           moments.5,
         ),
         have_heard_by traffic
-            (MayWaitAfter
-            (desk_service kept content)
-            (λ z. WaitsForSearch (over kept content) z.0) (h, true) (i, stays_open why) handled.turns)
+            (MayWaitAfter (desk_service kept content) (h, true) (i, stays_open why) handled.turns)
             (WaitsForSearchAfter content (kept h) (kept i) handled.turns) (HaveBecome traffic s)
             (HaveGoneSince traffic u.gone.items) waits_after
             (λ z was.

@@ -7,12 +7,11 @@ use Rattle.std.proofs.lemmas.List.{append-nil}
 use Rattle.std.proofs.lemmas.List.Elements.{All-nil, All-push}
 use Rattle.http_server.specs.declared.log.Log.{Log}
 use Rattle.hall_http.specs.Peer.{Traffic}
-use Rattle.hall_http.specs.Coming.{Heard, Nexts, Said, since}
-use Rattle.hall_http.specs.Crowd.{AreAnsweredOf, AreKept, AreStill, Holding, IsHeldFor}
+use Rattle.hall_http.specs.Coming.{Nexts, Said, since}
+use Rattle.hall_http.specs.Crowd.{AreKept, AreStill}
 use Rattle.hall_http.specs.Crowd.{AnswersNoMore, ComesTo, HasAt, IsAt, IsFor, AllLeave, AreAsSaid, HasLeft}
 use Rattle.hall_http.specs.Crowd.{IsFree, KeepsPlace, MayLose, Past, Receives, WasHandedOut, WasHere, WasNext, WasToGo}
-use Rattle.hall_http.specs.Crowd.{WasTurnedAway, number_past, AreAtTurns, at_answer, at_first, at_newcomer, at_other}
-use Rattle.hall_http.specs.Crowd.{at_turn, at_visit}
+use Rattle.hall_http.specs.Crowd.{WasTurnedAway, number_past}
 use Rattle.hall_http.specs.Crowd.{MayTurnAway}
 use Rattle.hall_http.specs.Crowd.{WasAt, WasStillHere, WasTaken}
 use Rattle.hall_http.specs.Turns.{Turn}
@@ -181,45 +180,6 @@ module _ {P : Type 0} (traffic : P → Traffic) where
   left_grown gone more grows steps left each i d inside =
       let it = get_or left i d in
       to_go_grown gone more grows steps it.1.0 it.1.1 (number_past traffic it) (each i d inside)
-
-  -- what was answered of those that are held was so
-  answers_grown : (gone more : List (Past P)) → Grows gone more → (steps : Nexts P) (held : List Holding)
-      (turns : List Turn) → AreAnsweredOf (IsHeldFor traffic gone steps) held turns
-      → AreAnsweredOf (IsHeldFor traffic more steps) held turns
-  answers_grown gone more grows steps [] turns none = none
-  answers_grown gone more grows steps (one ∷ held) turns (inl later) =
-      inl (answers_grown gone more grows steps held turns later)
-  answers_grown gone more grows steps (one ∷ held) turns (inr (number, x, later, (is, was, moment), all, rest)) =
-      inr (
-        number,
-        x,
-        later,
-        (is, for_grown gone more grows steps one.1.place number was, moment),
-        all,
-        answers_grown gone more grows steps held later rest,
-      )
-
-  pub turns_grown : (gone more : List (Past P)) → Grows gone more → (steps : Nexts P) (heard : List Heard)
-      (turns : List Turn) (held : List Holding) (moments : List (Option ℕ))
-      → AreAtTurns traffic gone steps heard turns held moments → AreAtTurns traffic more steps heard turns held moments
-  turns_grown gone more grows steps heard turns held moments at_first = at_first
-  turns_grown gone more grows steps heard turns held moments (at_other before told same some read one quiet none at) =
-      at_other before told same some read one quiet none (turns_grown gone more grows before told same some read at)
-  turns_grown gone more grows steps heard turns held moments
-      (at_newcomer before told same some read place peer at) =
-      at_newcomer before told same some read place peer (turns_grown gone more grows before told same some read at)
-  turns_grown gone more grows steps heard turns held moments
-      (at_visit before told same some read place how at over) =
-      at_visit before told same some read place how (turns_grown gone more grows before told same some read at) over
-  turns_grown gone more grows steps heard turns held moments
-      (at_turn before told same some read number one at was none) =
-      at_turn before told same some read number one (turns_grown gone more grows before told same some read at)
-      (for_grown gone more grows before one.place number was) none
-  turns_grown gone more grows steps heard turns held moments
-      (at_answer before told some others front rest read at answered) =
-      at_answer before told some others front rest read
-      (turns_grown gone more grows before told some (front ++ rest) read at)
-      (answers_grown gone more grows before front others answered)
 
   -- what was said before, and one thing more
   handed_more : (steps rest : Nexts P) (one : Next P) (place number : ℕ) → WasHandedOut traffic steps rest place number

@@ -9,9 +9,10 @@ use Rattle.hall_http.specs.Answered.{IsUnavailable}
 use Rattle.hall_http.specs.Peer.{Traffic, IsLater, IsOver, IsUntouched}
 use Rattle.hall_http.specs.Progress.{TakesTurnAt}
 use Rattle.hall_http.specs.Request.{ReachesStore}
-use Rattle.hall_http.specs.Steps.{StandsRightly}
+use Rattle.hall_http.specs.Steps.{HasRequest, StandsRightly}
 use Rattle.hall_http.specs.Turns.{GroupedSession, Turn, Service, exchanges_of, of, IsConnectionTold, IsClient}
-use Rattle.hall_http.specs.Coming.{Heard, Nexts, Said, AreCounted, AreDone, newcomer, since}
+use Rattle.hall_http.specs.Turns.{IsNextRequest}
+use Rattle.hall_http.specs.Coming.{Heard, Nexts, Said, AreCounted, AreDone, since}
 use Rattle.hall_http.specs.declared.server.Next.TheVariants as next
 use Rattle.hall_http.specs.declared.server.Next.{Next}
 use Rattle.hall_http.specs.declared.server.ServeAllEnd.{ServeAllEnd}
@@ -29,6 +30,7 @@ use Rattle.hall_http.specs.declared.clients.Clients.{Clients}
 use Rattle.hall_http.specs.declared.clients.Departure.{Departure}
 use Rattle.hall_http.specs.declared.clients.Departure.TheVariants as departure
 use Rattle.hall_http.specs.declared.clients.HeldRequest.{HeldRequest}
+use Rattle.hall_http.specs.declared.connection.State.TheVariants as state
 use Rattle.hall_http.specs.declared.peer.Closed.{Closed}
 
 -- the connection at a place
@@ -172,27 +174,78 @@ pub record AreHandled {H : Type 0} (service : Service H) (Holds : List Turn → 
   pub session : GroupedSession service before (exchanges_of turns) after
   pub holds : Holds turns
 
--- Some of those that are held were answered, or none, in their order, each at its moment. So each was of the connection
--- that is there, and the others weren't answered.
-abbrev pub AreAnsweredOf : {X : Type 0} → (X → ℕ → Option ℕ → Type 0) → List X → List Turn → Type 0
-AreAnsweredOf There [] more = more ≡ []
-AreAnsweredOf There (one ∷ held) more =
-    AreAnsweredOf There held more
+-- After the first of all requests, these, were answered so, and before the rest of them were, the request may be kept
+-- waiting.
+abbrev pub MayWaitBetween : {H : Type 0} → (H → List Exchange → H → Type 0) → (H → List ℕ → Type 0) → H → H → List Turn
+    → List Turn → List ℕ → Type 0
+MayWaitBetween {H} Answers may_wait before after all turns request =
+    (h : H) × (rest : List Turn) × (all ≡ turns ++ rest) × Answers before (exchanges_of turns) h
+    × Answers h (exchanges_of rest) after × may_wait h request
+
+-- so it is by a responder
+abbrev pub MayWaitAfter : {H : Type 0} → Service H → H → H → List Turn → List Turn → List ℕ → Type 0
+MayWaitAfter service = MayWaitBetween (GroupedSession service) service.may_wait
+
+-- so it is over a store, for a search
+abbrev pub WaitsForSearchAfter : {H : Type 0} → (H → Content) → H → H → List Turn → List Turn → List ℕ → Type 0
+WaitsForSearchAfter content = MayWaitBetween (AreAnsweredInGroups content) (WaitsForSearch content)
+
+-- After some requests those that are held were answered too, in their order, each at its moment, and so each was of the
+-- connection that is there. One is passed over, and isn't answered, only where it may be after those that were answered
+-- until then.
+abbrev pub AreAnsweredOf : {X : Type 0} → (X → ℕ → Option ℕ → Type 0) → (List Turn → X → Type 0) → List Turn → List X
+    → List Turn → Type 0
+AreAnsweredOf There MayPass turns [] more = more ≡ []
+AreAnsweredOf There MayPass turns (one ∷ held) more =
+    (MayPass turns one × AreAnsweredOf There MayPass turns held more)
     ⊎ ((number : ℕ) × (x : Exchange) × (later : List Turn) × There one number x.moment × (more ≡ (number, x) ∷ later)
-    × AreAnsweredOf There held later)
+    × AreAnsweredOf There MayPass (turns ++ (number, x) ∷ []) held later)
 
 -- a request that is held for the moment is of the connection of this number, which is at its place
 abbrev pub IsHeldAt : {P : Type 0} → (P → Traffic) → Clients P → HeldRequest → ℕ → Option ℕ → Type 0
 IsHeldAt traffic s one number moment = HasAt traffic s one.place number × (moment ≡ one.moment)
 
--- some requests that are held were answered, one after another
+-- After these requests and some more, the next one of whoever is at the place of one that is held is whole, and may be
+-- kept waiting.
+abbrev pub WaitsAt : {P : Type 0} → (List Turn → List ℕ → Type 0) → (P → Traffic) → Clients P → List Turn → List Turn
+    → HeldRequest → Type 0
+WaitsAt {P} may_wait traffic s turns some one =
+    (k : Client P) × (request : List ℕ) × IsAt s one.place k × IsNextRequest (traffic k.peer) (turns ++ some) request
+    × may_wait some request
+
+-- Some requests that are held were answered, one after another. None of them was passed over but one that may be kept
+-- waiting, as of that moment.
 abbrev pub Serves : {H P : Type 0} → Service H → (P → Traffic) → List HeldRequest → H → Clients P → H → Clients P
     → Type 0
 Serves service traffic held before s after u =
     AreStill traffic s u
     × ((few many : ℕ) (turns : List Turn) → AreKept traffic few many turns s
     → AreHandled service
-    (λ more. AreAnsweredOf (IsHeldAt traffic s) held more × AreKept traffic few many (turns ++ more) u) before after)
+    (λ more. AreAnsweredOf (IsHeldAt traffic s) (WaitsAt (MayWaitAfter service before after more) traffic s turns) []
+    held more × AreKept traffic few many (turns ++ more) u) before after)
+
+-- nothing changed at the place
+abbrev pub IsSameAt : {P : Type 0} → Clients P → Clients P → ℕ → Type 0
+IsSameAt s u place = get_or u.places.items place None ≡ get_or s.places.items place None
+
+-- nothing changed at other places
+abbrev pub AreOthersSame : {P : Type 0} → Clients P → ℕ → Clients P → Type 0
+AreOthersSame s place u = (other : ℕ) → other ≢ place → IsSameAt s u other
+
+-- whoever was at a place is there still, as before
+abbrev pub AreAllThere : {P : Type 0} → Clients P → Clients P → Type 0
+AreAllThere {P} s u = (place : ℕ) (k : Client P) → IsAt s place k → IsAt u place k
+
+-- one is at the place, to be looked at, and a whole request stands at the front of what waits
+abbrev pub StandsWhole : {P : Type 0} → Clients P → ℕ → Type 0
+StandsWhole {P} s place =
+    (k : Client P) × IsAt s place k × (k.connection.state ≡ state.Looking) × HasRequest k.connection
+
+-- those that are held are each of another place, at which one stands so
+abbrev pub AreReady : {P : Type 0} → Clients P → List HeldRequest → Type 0
+AreReady s [] = Unit {0}
+AreReady s (one ∷ held) =
+    StandsWhole s one.place × All (λ other. other.place ≢ one.place) held × AreReady s held
 
 -- the connection of this number was turned away
 abbrev pub WasTurnedAway : {P : Type 0} → (P → Traffic) → List (Past P) → ℕ → Type 0
@@ -286,17 +339,22 @@ abbrev pub Holding : Type 0
 Holding = ℕ × HeldRequest
 
 -- those that are held at other places
-abbrev pub without : ℕ → List HeldRequest → List HeldRequest
-without place held = filter (λ one. not (one.place == place)) held
-
 abbrev pub without_holding : ℕ → List Holding → List Holding
 without_holding place held = filter (λ one. not (one.1.place == place)) held
 
--- a request that is held for the moment is of a newcomer of this number that was handed out for its place by these
--- steps and kept that since
-abbrev pub IsHeldFor : {P : Type 0} → (P → Traffic) → List (Past P) → Nexts P → Holding → ℕ → Option ℕ → Type 0
-IsHeldFor traffic gone steps one number moment =
-    (one.0 ≡ number) × IsFor traffic gone steps one.1.place number × (moment ≡ one.1.moment)
+-- those that are held still once this was said: where a connection is let go, its request isn't
+abbrev pub held_after : {P : Type 0} → Next P → List Holding → List Holding
+held_after (next.Gone place) held = without_holding place held
+held_after _ held = held
+
+-- those that are held still after a turn of the place that ended so: where the connection is over, its request isn't
+abbrev pub held_on : ℕ → Step → List Holding → List Holding
+held_on place step.Over held = without_holding place held
+held_on place _ held = held
+
+-- a request that is held for the moment is of the connection of this number, which is the one of its place
+abbrev pub IsHeldFor : (ℕ → ℕ → Type 0) → Holding → ℕ → Option ℕ → Type 0
+IsHeldFor IsOf one number moment = (one.0 ≡ number) × IsOf one.1.place number × (moment ≡ one.1.moment)
 
 -- nobody has a turn by this, and nothing is answered
 abbrev pub IsNoTurn : {P : Type 0} → Next P → Type 0
@@ -310,45 +368,44 @@ requests_in held = map (λ one. one.1) held
 
 -- While these things were done, one after another, this was heard of the turns, these requests were answered, these are
 -- held, and these moments were read. A moment is read only for a turn by which a request is to be answered, and it is
--- heard with that turn. The request, of a place of which none is held, is held for it then, behind all others: of a
--- newcomer that was handed out for the place before and kept it since. So it is of each such turn, unless one of the
--- place is held already, or as many as may be; and with any other no moment is heard. Requests are answered only where
--- the first of those that are held are taken off, in their order, each at its moment, and of its connection, which has
--- kept its place since. And what is held at a place is let go once a newcomer comes for it.
-pub data AreAtTurns {P : Type 0} (traffic : P → Traffic) (gone : List (Past P))
+-- heard with that turn. The request, of a place of which none is held, is held for it then, behind all others: of the
+-- connection that is the one of the place by what was done before. So it is of each such turn, unless one of the place
+-- is held already, or as many as may be; and with any other no moment is heard. Requests are answered only where the
+-- first of those that are held are taken off, one at least where any are held: in their order, each at its moment, and
+-- of its connection, which is the one of its place still. One that is taken off is passed over, and isn't answered,
+-- only where the next request of its connection may wait after those that were answered until then. And what is held at
+-- a place isn't held any more once its connection is let go, or is over after a turn.
+pub data AreAtTurns {P : Type 0} (IsOf : Nexts P → ℕ → ℕ → Type 0) (MayWait : List Turn → ℕ → Type 0)
     : Nexts P → List Heard → List Turn → List Holding → List (Option ℕ) → Type 0 where
-  at_first : AreAtTurns traffic gone [] [] [] [] []
+  at_first : AreAtTurns IsOf MayWait [] [] [] [] []
   at_other : (steps : Nexts P) (heard : List Heard) (turns : List Turn) (held : List Holding)
-      (moments : List (Option ℕ)) (one : Next P) → IsNoTurn one → newcomer one ≡ 0
-      → AreAtTurns traffic gone steps heard turns held moments
-      → AreAtTurns traffic gone (steps ++ one ∷ []) heard turns held moments
-  at_newcomer : (steps : Nexts P) (heard : List Heard) (turns : List Turn) (held : List Holding)
-      (moments : List (Option ℕ)) (place : ℕ) (peer : P)
-      → AreAtTurns traffic gone steps heard turns held moments
-      → AreAtTurns traffic gone (steps ++ next.Newcomer place peer ∷ []) heard turns (without_holding place held)
-      moments
+      (moments : List (Option ℕ)) (one : Next P) → IsNoTurn one
+      → AreAtTurns IsOf MayWait steps heard turns held moments
+      → AreAtTurns IsOf MayWait (steps ++ one ∷ []) heard turns (held_after one held) moments
   at_visit : (steps : Nexts P) (heard : List Heard) (turns : List Turn) (held : List Holding)
       (moments : List (Option ℕ)) (place : ℕ) (how : Step)
-      → AreAtTurns traffic gone steps heard turns held moments → HoldsNoMore place how (requests_in held)
-      → AreAtTurns traffic gone (steps ++ next.Turn place ∷ []) (heard ++ ((place, how), None) ∷ []) turns held moments
+      → AreAtTurns IsOf MayWait steps heard turns held moments → HoldsNoMore place how (requests_in held)
+      → AreAtTurns IsOf MayWait (steps ++ next.Turn place ∷ []) (heard ++ ((place, how), None) ∷ []) turns
+      (held_on place how held) moments
   at_turn : (steps : Nexts P) (heard : List Heard) (turns : List Turn) (held : List Holding)
       (moments : List (Option ℕ)) (number : ℕ) (one : HeldRequest)
-      → AreAtTurns traffic gone steps heard turns held moments → IsFor traffic gone steps one.place number
+      → AreAtTurns IsOf MayWait steps heard turns held moments → IsOf steps one.place number
       → is_held one.place (requests_in held) ≡ false
-      → AreAtTurns traffic gone (steps ++ next.Turn one.place ∷ [])
+      → AreAtTurns IsOf MayWait (steps ++ next.Turn one.place ∷ [])
       (heard ++ ((one.place, step.Holds), Some one.moment) ∷ []) turns (held ++ (number, one) ∷ [])
       (moments ++ one.moment ∷ [])
   at_answer : (steps : Nexts P) (heard : List Heard) (turns more : List Turn) (front held : List Holding)
-      (moments : List (Option ℕ)) → AreAtTurns traffic gone steps heard turns (front ++ held) moments
-      → AreAnsweredOf (IsHeldFor traffic gone steps) front more
-      → AreAtTurns traffic gone (steps ++ next.Answer ∷ []) heard (turns ++ more) held moments
+      (moments : List (Option ℕ)) → AreAtTurns IsOf MayWait steps heard turns (front ++ held) moments
+      → (front ≡ [] → held ≡ [])
+      → AreAnsweredOf (IsHeldFor (IsOf steps)) (λ before one. MayWait before one.0) turns front more
+      → AreAtTurns IsOf MayWait (steps ++ next.Answer ∷ []) heard (turns ++ more) held moments
 
 -- so they were in the meantime, by what was said and heard, and the moments are those that the clock gave, in order
-abbrev pub AreAtMoments : {C P : Type 0} → (P → Traffic) → (C → Option ℕ → C → Type 0) → C → List (Past P)
-    → Said P × Said P → List Turn → C → Type 0
-AreAtMoments traffic now_gives clock gone (old, new) turns later =
+abbrev pub AreAtMoments : {C P : Type 0} → (Nexts P → ℕ → ℕ → Type 0) → (List Turn → ℕ → Type 0)
+    → (C → Option ℕ → C → Type 0) → C → Said P × Said P → List Turn → C → Type 0
+AreAtMoments IsOf MayWait now_gives clock (old, new) turns later =
     (heard : List Heard) × (held : List Holding) × (moments : List (Option ℕ))
-    × (new.heard ≡ old.heard ++ heard) × AreAtTurns traffic gone (since old new) heard turns held moments
+    × (new.heard ≡ old.heard ++ heard) × AreAtTurns IsOf MayWait (since old new) heard turns held moments
     × AreReadings now_gives clock moments later
 
 -- How whoever is at the place stands after these requests: none is there, and that it is over is told; or one is, and
@@ -357,6 +414,13 @@ abbrev pub StandsThere : {P : Type 0} → (List Turn → List ℕ → Type 0) �
 StandsThere {P} may_wait s turns told =
     (IsFree s told.0 × (told.1 ≡ step.Over))
     ⊎ ((k : Client P) × IsAt s told.0 k × (told.1 ≢ step.Over) × StandsRightly may_wait k.connection turns told.1)
+
+-- After these requests the next one of the connection of this number is whole, by what had come of it until then, and
+-- may be kept waiting; and this became of that.
+abbrev pub NextMayWait : (List Turn → List ℕ → Type 0) → (Traffic → Type 0) → List Turn → ℕ → Type 0
+NextMayWait may_wait Became turns number =
+    (t : Traffic) × (request : List ℕ) × (t.number ≡ number) × IsNextRequest t turns request × may_wait turns request
+    × Became t
 
 -- one of those that have gone is the one with this traffic, later on
 abbrev pub WentLater : {P : Type 0} → (P → Traffic) → List (Past P) → Traffic → Type 0
@@ -404,7 +468,8 @@ pub record IsToldRightly {P : Type 0} (may_wait : List Turn → List ℕ → Typ
   pub heard : List Heard
   pub held : List Holding
   pub moments : List (Option ℕ)
-  pub turned : AreAtTurns traffic clients.gone.items steps heard turns held moments
+  pub turned : AreAtTurns (IsFor traffic clients.gone.items)
+      (NextMayWait may_wait (IsHereOrGone traffic clients)) steps heard turns held moments
   pub later : became clients
   pub stands : StandsThere may_wait clients turns told
   pub took : TookTurn traffic few turns clients told
@@ -438,23 +503,6 @@ abbrev pub AreKeptAtTurns : {P : Type 0} → (List Turn → List ℕ → Type 0)
     → Clients P → Type 0
 AreKeptAtTurns may_wait traffic old new turns s =
     AreKept traffic old.count new.count turns s × HaveHeard may_wait traffic (HaveBecome traffic s) old new turns
-
--- After the first of all requests, these, were answered so, and before the rest of them were, the request may be kept
--- waiting.
-abbrev pub MayWaitBetween : {H : Type 0} → (H → List Exchange → H → Type 0) → (H → List ℕ → Type 0) → H → H → List Turn
-    → List Turn → List ℕ → Type 0
-MayWaitBetween {H} Answers may_wait before after all turns request =
-    (h : H) × (rest : List Turn) × (all ≡ turns ++ rest) × Answers before (exchanges_of turns) h
-    × Answers h (exchanges_of rest) after × may_wait h request
-
--- so it is by a responder
-abbrev pub MayWaitAfter : {H : Type 0} → Service H → (H → List ℕ → Type 0) → H → H → List Turn → List Turn → List ℕ
-    → Type 0
-MayWaitAfter service = MayWaitBetween (GroupedSession service)
-
--- so it is over a store, for a search
-abbrev pub WaitsForSearchAfter : {H : Type 0} → (H → Content) → H → H → List Turn → List Turn → List ℕ → Type 0
-WaitsForSearchAfter content = MayWaitBetween (AreAnsweredInGroups content) (WaitsForSearch content)
 
 -- Each request that was answered is of one of the connections, of which no two have the same number. And of each
 -- connection what came spells its requests among these, and what it was sent is a first part of the replies to them.
@@ -494,7 +542,9 @@ abbrev pub AreServedAtTurns : {H C P : Type 0} → (H → Content) → (C → Op
     → ServeAllEnd → (H × C) × Said P → (H × C) × Said P → List (Past P) → Type 0
 AreServedAtTurns content now_gives traffic why (before, old) (after, new) gone =
     (all : AreServed content traffic why before.0 after.0 gone)
-    × AreAtMoments traffic now_gives before.1 gone (old, new) all.turns after.1
+    × AreAtMoments (IsFor traffic gone)
+    (NextMayWait (WaitsForSearchAfter content before.0 after.0 all.turns) (WentLater traffic gone)) now_gives before.1
+    (old, new) all.turns after.1
     × HaveHeard (WaitsForSearchAfter content before.0 after.0 all.turns) traffic (HaveGoneSince traffic gone) old new
     all.turns
 

@@ -14,13 +14,14 @@ use Rattle.hall_http.specs.declared.connection.State.TheVariants as state
 use Rattle.hall_http.specs.declared.group.Group.{Group}
 use Rattle.hall_http.specs.declared.group.Member.{Member}
 
--- a service that only notes what is answered, one after another
+-- a service that only notes what is answered, one after another, and keeps nothing waiting
 abbrev pub recording : Service (List Exchange)
 recording = record {
   answers = λ told moment request reply then.
       then ≡ told ++ record { request = request; moment = moment; reply = reply } ∷ [];
   joins = λ told xs then. then ≡ told ++ xs;
   rests = λ told then. then ≡ told;
+  may_wait = λ told request. ⊥;
 }
 
 -- the bytes that wait of whoever is at a place

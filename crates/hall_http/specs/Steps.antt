@@ -205,9 +205,11 @@ WaitsRightly (step.Searches requests) k = ⊥
 WaitsRightly step.Holds k = ⊥
 WaitsRightly _ k = Unit {0}
 
--- so it stands after its turn; or where the step is that its request needs more work, that may be kept waiting, and so
--- many were answered before it; or where it is that it is to be answered, a whole one stands at the front
+-- so it stands after its turn; or where the step is that its request needs more work, it is to be looked at again, the
+-- request may be kept waiting, and so many were answered before it; or where it is that it is to be answered, it is to
+-- be looked at, and a whole one stands at the front
 abbrev pub StandsRightly : {H : Type 0} → (H → List ℕ → Type 0) → Connection → H → Step → Type 0
-StandsRightly may_wait k h (step.Searches requests) = KeepsWaiting may_wait k h × (requests ≡ k.requests)
+StandsRightly may_wait k h (step.Searches requests) =
+    (k.state ≡ state.Looking) × KeepsWaiting may_wait k h × (requests ≡ k.requests)
 StandsRightly may_wait k h step.Holds = (k.state ≡ state.Looking) × HasRequest k
 StandsRightly may_wait k h other = WaitsRightly other k

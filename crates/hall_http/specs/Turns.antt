@@ -119,23 +119,34 @@ abbrev pub IsMoved : {P : Type 0} → (P → Traffic) → Client P → Step → 
 IsMoved traffic k step l =
     IsClientKept traffic k l × IsOverRightly step (traffic l.peer) × WaitsRightly step l.connection
 
--- how requests are answered: what a responder may answer, alone or together, and how it rests
+-- how requests are answered: what a responder may answer, alone or together, how it rests, and what it may keep waiting
 pub record Service (H : Type 0) : Type 1 where
   pub answers : H → Option ℕ → List ℕ → List ℕ → H → Type 0
   pub joins : H → List Exchange → H → Type 0
   pub rests : H → H → Type 0
+  pub may_wait : H → List ℕ → Type 0
 
 -- by a responder that answers while it goes on
 abbrev pub service_of : {H : Type 0} → (H → Option ℕ → List ℕ → List ℕ → H → Type 0)
-    → (H → List Exchange → H → Type 0) → (H → List ℕ → H → Type 0) → (H → H → Type 0) → Service (H × Bool)
-service_of answers joins goes_on rests =
-    record { answers = gated answers goes_on; joins = gated_group joins goes_on; rests = still rests }
+    → (H → List Exchange → H → Type 0) → (H → List ℕ → H → Type 0) → (H → H → Type 0) → (H → List ℕ → Type 0)
+    → Service (H × Bool)
+service_of answers joins goes_on rests may_wait = record {
+  answers = gated answers goes_on;
+  joins = gated_group joins goes_on;
+  rests = still rests;
+  may_wait = λ h. may_wait h.0;
+}
 
 -- these requests were answered, in some groups, one after another, with rests before, between and after them
 abbrev pub GroupedSession : {H : Type 0} → Service H → H → List Exchange → H → Type 0
 GroupedSession service h xs i =
     (groups : List (List Exchange)) × (of_groups groups ≡ xs)
     × RestingGroups (IsGroup service.answers service.joins) service.rests h groups i
+
+-- the next request of a connection after these, by what came of it, is this one, which is whole
+abbrev pub IsNextRequest : Traffic → List Turn → List ℕ → Type 0
+IsNextRequest t turns request =
+    (rest : List ℕ) × (t.came ≡ requests_of (of t.number turns) ++ request ++ rest) × IsWholeRequest request
 
 -- none of these requests, or one, at the moment
 abbrev pub IsOneAt : Option ℕ → List Exchange → Type 0

@@ -156,7 +156,7 @@ impl<P: Peer> Client<P> {
         moment: Option<Moment>,
     ) -> bool
         requires { (xs : List Exchange) × IsClient P.traffic xs self.old }
-        ensures answered { IsClientAnswered (service_of H.answers H.joins H.goes_on H.rests) P.traffic moment
+        ensures answered { IsClientAnswered (service_of H.answers H.joins H.goes_on H.rests H.may_wait) P.traffic moment
             (responder.old, true) self.old (responder.new, result) self.new }
         ensures first { AnswersFirst H.may_wait self.old responder.new self.new }
     {

@@ -5,7 +5,8 @@ ghost use Rattle.hall_http.specs.Group.{Awaits, JoinsAt, answered_at, recording}
 ghost use Rattle.hall_http.specs.Progress.{AnswersFirstAt, TakesTurnAt};
 ghost use Rattle.hall_http.specs.Connection.{Exchange};
 ghost use Rattle.hall_http.specs.Crowd.{Admits, AllLeave, AnswersNoMore, AreGone, AreKept, AreSomeKept, IsAt, IsFree};
-ghost use Rattle.hall_http.specs.Crowd.{MayGo, MayLose, MayTurnAway, Receives, Serves};
+ghost use Rattle.hall_http.specs.Crowd.{AreAllThere, AreOthersSame, MayGo, MayLose, MayTurnAway, Receives, Serves};
+ghost use Rattle.hall_http.specs.Crowd.{StandsWhole};
 ghost use Rattle.hall_http.specs.Peer.{IsUntouched};
 ghost use Rattle.hall_http.specs.Resting.{HasRested};
 ghost use Rattle.hall_http.specs.Steps.{StandsRightly};
@@ -106,7 +107,7 @@ fn answer_at<P: Peer, H: Responder>(
     moment: Option<Moment>,
 ) -> bool
     requires { (k : Client P) → place.old ≡ Some k → (xs : List Exchange) × IsClient P.traffic xs k }
-    ensures answered { IsPlaceAnswered (service_of H.answers H.joins H.goes_on H.rests) P.traffic moment
+    ensures answered { IsPlaceAnswered (service_of H.answers H.joins H.goes_on H.rests H.may_wait) P.traffic moment
         (responder.old, true) place.old (responder.new, result) place.new }
     ensures first { AnswersFirstAt H.may_wait place.old responder.new place.new }
 {
@@ -199,6 +200,7 @@ impl<P: Peer + Drop> Clients<P> {
         requires { IsUntouched (P.traffic peer) }
         ensures admits { Admits P.traffic place peer self.old self.new }
         ensures receives { Receives place peer self.old self.new }
+        ensures there { AreAllThere self.old self.new }
         ensures long { length self.new.places.items ≡ length self.old.places.items }
     {
         if !self.is_free(place) {
@@ -214,6 +216,7 @@ impl<P: Peer + Drop> Clients<P> {
         requires may { MayTurnAway self.old place why }
         ensures admits { Admits P.traffic place peer self.old self.new }
         ensures receives { Receives place peer self.old self.new }
+        ensures there { AreAllThere self.old self.new }
         ensures long { length self.new.places.items ≡ length self.old.places.items }
     {
         let closed = Closed::new(peer);
@@ -237,6 +240,7 @@ impl<P: Peer + Drop> Clients<P> {
         ensures none { IsFree self.new place → result ≡ Step.Over }
         ensures takes { TakesTurnAt P.traffic (get_or self.old.places.items place None) result
             (get_or self.new.places.items place None) }
+        ensures others { AreOthersSame self.old place self.new }
         ensures gone { self.new.gone ≡ self.old.gone }
         ensures long { length self.new.places.items ≡ length self.old.places.items }
     {
@@ -246,7 +250,8 @@ impl<P: Peer + Drop> Clients<P> {
         turn_at(&mut self.places[place], alloc, routes, responder)
     }
 
-    /// The request that is held is answered, if it still waits. The result is whether the responder goes on.
+    /// The request that is held is answered, or is passed over where it may wait. The result is whether the responder
+    /// goes on.
     pub(crate) fn answer<H: Responder>(
         &mut self,
         alloc: Global,
@@ -254,11 +259,13 @@ impl<P: Peer + Drop> Clients<P> {
         held: &HeldRequest,
         responder: &mut H,
     ) -> bool
-        requires { AreSomeKept P.traffic self.old }
-        ensures serves { Serves (service_of H.answers H.joins H.goes_on H.rests) P.traffic (held.now ∷ [])
+        requires kept { AreSomeKept P.traffic self.old }
+        requires ready { StandsWhole self.old held.now.place }
+        ensures serves { Serves (service_of H.answers H.joins H.goes_on H.rests H.may_wait) P.traffic (held.now ∷ [])
             (responder.old, true) self.old (responder.new, result) self.new }
         ensures first { AnswersFirstAt H.may_wait (get_or self.old.places.items held.now.place None) responder.new
             (get_or self.new.places.items held.now.place None) }
+        ensures others { AreOthersSame self.old held.now.place self.new }
         ensures gone { self.new.gone ≡ self.old.gone }
         ensures long { length self.new.places.items ≡ length self.old.places.items }
     {
@@ -297,8 +304,7 @@ impl<P: Peer + Drop> Clients<P> {
         ensures serves { (told : List Exchange) → Serves recording P.traffic (held.now ∷ []) told self.old
             (told ++ answered_at (get_or self.old.places.items held.now.place None) held.now.moment joined ∷ [])
             self.new }
-        ensures others { (place : ℕ) → place ≢ held.now.place →
-            get_or self.new.places.items place None ≡ get_or self.old.places.items place None }
+        ensures others { AreOthersSame self.old held.now.place self.new }
         ensures gone { self.new.gone ≡ self.old.gone }
         ensures long { length self.new.places.items ≡ length self.old.places.items }
     {
@@ -342,6 +348,7 @@ impl<P: Peer + Drop> Clients<P> {
             self.new.places.items ≡ slice_set self.old.places.items place None }
         ensures kept { AnswersNoMore P.traffic self.old self.new }
         ensures lost { MayLose P.traffic departure place self.old self.new }
+        ensures others { AreOthersSame self.old place self.new }
         ensures long { length self.new.places.items ≡ length self.old.places.items }
     {
         if place >= self.places.len() {

@@ -3,8 +3,7 @@ ghost use Rattle.std.specs.Prelude.{◌≡◌, ◌<◌, ◌++◌, List, [], ◌�
 ghost use Rattle.hall_http.specs.Limits.{most_connections};
 ghost use Rattle.hall_http.specs.declared.client.Step.TheVariants as Step;
 ghost use Rattle.hall_http.specs.declared.clients.HeldRequest.{HeldRequest};
-ghost use Rattle.hall_http.specs.Crowd.{without};
-ghost use Rattle.hall_http.specs.Held.{HoldsNoMore, HoldsOne, is_held};
+ghost use Rattle.hall_http.specs.Held.{HoldsNoMore, HoldsOne, is_held, without};
 
 use crate::client::Step;
 use crate::clients::{HeldRequest, MOST_CLIENTS};
@@ -63,6 +62,7 @@ impl Held {
 
     /// Where the connection at the place stands so after its turn that its request is to be answered, that is held from
     /// now on, unless it was before. Then the clock is asked for its moment, which comes of it, and else it isn't.
+    /// Where the connection is over, nothing is held at the place any more.
     pub(crate) fn hold<C: Clock>(
         &mut self,
         place: usize,
@@ -71,6 +71,10 @@ impl Held {
     ) -> Option<Option<Moment>>
         ensures { HoldsOne C.now_gives ((place, step), result) clock.old self.old clock.new self.new }
     {
+        if let Step::Over = step {
+            self.forget(place);
+            return None;
+        }
         if !self.may_hold(place, step) {
             return None;
         }

@@ -1,6 +1,6 @@
 //! Many connections at once: which of them goes a step is the sockets' choice, and what a step is isn't.
 ghost use Rattle.std.specs.Prelude.{◌≡◌, ◌≢◌, ◌+◌, List, [], ◌∷◌, ◌++◌, true, IfOk, None, OnErr, get_or, length};
-ghost use Rattle.std.specs.Prelude.{map};
+ghost use Rattle.std.specs.Prelude.{All, ℕ, map};
 ghost use Rattle.hall_http.specs.Group.{AreWaiting, IsGathered, exchanges_at, recording, requests_of};
 ghost use Rattle.hall_http.specs.Joining.{told_at_end};
 ghost use Rattle.hall_http.specs.Progress.{TakesTurnAt};
@@ -13,8 +13,9 @@ ghost use Rattle.hall_desk.specs.Desk.{kept_by, SaneThen};
 ghost use Rattle.hall_desk.specs.Sane.{Sane};
 ghost use Rattle.hall_desk.specs.Promises.{HasUniqueSolutions, RightAnswersAreSolutions};
 ghost use Rattle.hall_http.specs.Crowd.{Admits, AnswersNoMore, AreAsSaid, AreAtMoments, AreHandled, AreKept};
-ghost use Rattle.hall_http.specs.Crowd.{AreKeptAtTurns, AreServedAtTurns, AreSomeKept, EndsServing, IsAt, IsFree};
-ghost use Rattle.hall_http.specs.Crowd.{MayLose, MayWaitAfter, Receives, Serves};
+ghost use Rattle.hall_http.specs.Crowd.{AreAllThere, AreKeptAtTurns, AreOthersSame, AreReady, AreServedAtTurns};
+ghost use Rattle.hall_http.specs.Crowd.{AreSomeKept, EndsServing, IsAt, IsFor, IsFree, IsHereOrGone, IsSameAt};
+ghost use Rattle.hall_http.specs.Crowd.{MayLose, MayWaitAfter, NextMayWait, Receives, Serves};
 ghost use Rattle.hall_http.specs.Peer.{IsUntouched};
 ghost use Rattle.hall_http.specs.declared.clients.Departure.TheVariants as Departure;
 ghost use Rattle.hall_http.specs.Coming.{AreAllHeard, AreDone, Hears, IsFreshPeer, Said, newcomer, since, stays_open};
@@ -193,20 +194,19 @@ fn handle_all<H: Responder, S: Sockets, C: Clock>(
     ensures over { result ≡ ServeAllEnd.Served → S.is_over sockets.new }
     ensures fair { S.is_fair sockets.new }
     ensures said { AreAsSaid S.Peer.traffic (since (S.said sockets.old) (S.said sockets.new)) clients.new }
-    ensures handled { AreHandled (service_of H.answers H.joins H.goes_on H.rests)
-        (λ turns. AreKeptAtTurns (MayWaitAfter (service_of H.answers H.joins H.goes_on H.rests)
-        (λ h. H.may_wait h.0) (responder.old, true) (responder.new, stays_open result) turns) S.Peer.traffic
+    ensures handled { AreHandled (service_of H.answers H.joins H.goes_on H.rests H.may_wait)
+        (λ turns. AreKeptAtTurns (MayWaitAfter (service_of H.answers H.joins H.goes_on H.rests H.may_wait)
+        (responder.old, true) (responder.new, stays_open result) turns) S.Peer.traffic
         (S.said sockets.old) (S.said sockets.new) turns clients.new
-        × AreAtMoments S.Peer.traffic C.now_gives clock.old clients.new.gone.items
+        × AreAtMoments (IsFor S.Peer.traffic clients.new.gone.items)
+        (NextMayWait (MayWaitAfter (service_of H.answers H.joins H.goes_on H.rests H.may_wait) (responder.old, true)
+        (responder.new, stays_open result) turns) (IsHereOrGone S.Peer.traffic clients.new)) C.now_gives clock.old
         (S.said sockets.old, S.said sockets.new) turns clock.new)
         (responder.old, true) (responder.new, stays_open result) }
 {
     for _step in 0..u64::MAX {
         match sockets.next() {
-            Next::Newcomer { place, peer } => {
-                held.forget(place);
-                let_in(alloc, clients, place, peer);
-            }
+            Next::Newcomer { place, peer } => let_in(alloc, clients, place, peer),
             Next::Turn(place) => {
                 let step = visit(alloc, routes, place, clients, responder);
                 let moment = held.hold(place, step, clock);
@@ -218,7 +218,10 @@ fn handle_all<H: Responder, S: Sockets, C: Clock>(
                 }
                 sockets.hear_of_writes(responder.refuses_writes());
             }
-            Next::Gone(place) => clients.forget(place, Departure::LetGo),
+            Next::Gone(place) => {
+                clients.forget(place, Departure::LetGo);
+                held.forget(place);
+            }
             Next::End => return ServeAllEnd::Served,
             Next::Refused => return ServeAllEnd::Refused,
         }
@@ -227,8 +230,9 @@ fn handle_all<H: Responder, S: Sockets, C: Clock>(
 }
 
 /// The first of the requests that are held are answered, each at its moment: those in front that can be are answered
-/// together, and then no more; and what can't be is answered alone. The result is whether the responder goes on; where
-/// it doesn't, each whose reply waits is sent once more.
+/// together, and then no more; and what can't be is answered alone, or is passed over where it may wait. It is one at
+/// least where any are held, and at the places of those that are held still nothing changes. The result is whether the
+/// responder goes on; where it doesn't, each whose reply waits is sent once more.
 fn answer_held<H: Responder, S: Sockets>(
     alloc: Global,
     routes: &Routes,
@@ -237,10 +241,12 @@ fn answer_held<H: Responder, S: Sockets>(
     sockets: &mut S,
     responder: &mut H,
 ) -> bool
-    requires { AreSomeKept S.Peer.traffic clients.old }
-    ensures serves { (front : List HeldRequest) × (held.old ≡ front ++ held.new)
-        × Serves (service_of H.answers H.joins H.goes_on H.rests) S.Peer.traffic front
+    requires kept { AreSomeKept S.Peer.traffic clients.old }
+    requires ready { AreReady clients.old held.old }
+    ensures serves { (front : List HeldRequest) × (held.old ≡ front ++ held.new) × (front ≡ [] → held.new ≡ [])
+        × Serves (service_of H.answers H.joins H.goes_on H.rests H.may_wait) S.Peer.traffic front
         (responder.old, true) clients.old (responder.new, result) clients.new }
+    ensures same { result ≡ true → All (λ one. IsSameAt clients.old clients.new one.place) held.new }
     ensures said { S.said sockets.new ≡ S.said sockets.old }
     ensures fair { S.is_fair sockets.old → S.is_fair sockets.new }
     ensures gone { clients.new.gone ≡ clients.old.gone }
@@ -274,8 +280,10 @@ fn answer_together<H: Responder, S: Sockets>(
     requires kept { AreSomeKept S.Peer.traffic clients.old }
     requires gathered { IsGathered H.have_joined clients.old group responder.old }
     requires some { group.members.items ≢ [] }
-    ensures serves { Serves (service_of H.answers H.joins H.goes_on H.rests) S.Peer.traffic
+    ensures serves { Serves (service_of H.answers H.joins H.goes_on H.rests H.may_wait) S.Peer.traffic
         (requests_of group.members.items) (responder.old, true) clients.old (responder.new, result) clients.new }
+    ensures others { result ≡ true → (place : ℕ) →
+        All (λ member. member.request.place ≢ place) group.members.items → IsSameAt clients.old clients.new place }
     ensures said { S.said sockets.new ≡ S.said sockets.old }
     ensures fair { S.is_fair sockets.old → S.is_fair sockets.new }
     ensures gone { clients.new.gone ≡ clients.old.gone }
@@ -302,6 +310,8 @@ fn tell_all<S: Sockets>(
     requires waiting { AreWaiting clients.old members.items }
     ensures serves { Serves recording S.Peer.traffic (requests_of members.items) [] clients.old
         (map (told_at_end end) (exchanges_at clients.old members.items)) clients.new }
+    ensures others { (place : ℕ) → All (λ member. member.request.place ≢ place) members.items →
+        IsSameAt clients.old clients.new place }
     ensures said { S.said sockets.new ≡ S.said sockets.old }
     ensures fair { S.is_fair sockets.old → S.is_fair sockets.new }
     ensures gone { clients.new.gone ≡ clients.old.gone }
@@ -320,6 +330,7 @@ fn let_in<P: Peer + Drop>(alloc: Global, clients: &mut Clients<P>, place: usize,
     requires { IsUntouched (P.traffic peer) }
     ensures admits { Admits P.traffic place peer clients.old clients.new }
     ensures receives { Receives place peer clients.old clients.new }
+    ensures there { AreAllThere clients.old clients.new }
     ensures long { length clients.new.places.items ≡ length clients.old.places.items }
 {
     match Inbox::of_newcomer(alloc) {
@@ -345,6 +356,7 @@ fn visit<P: Peer + Drop, H: Responder>(
     ensures over { IsFree clients.new place → result ≡ Step.Over }
     ensures takes { TakesTurnAt P.traffic (get_or clients.old.places.items place None) result
         (get_or clients.new.places.items place None) }
+    ensures others { AreOthersSame clients.old place clients.new }
     ensures long { length clients.new.places.items ≡ length clients.old.places.items }
 {
     let step = clients.turn(alloc, routes, place, responder);

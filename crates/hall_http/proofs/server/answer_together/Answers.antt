@@ -16,7 +16,8 @@ returns-then-goes_on-clause-serves g c =
     let members = c.args.group.members.items in
     let s = c.args.clients.now in
     serves_together
-    (service_of g.H.Responder.answers g.H.Responder.joins g.H.Responder.goes_on g.H.Responder.rests)
+    (service_of g.H.Responder.answers g.H.Responder.joins g.H.Responder.goes_on g.H.Responder.rests
+    g.H.Responder.may_wait)
     g.S.Peer.Peer.traffic (requests_of members) _ _ _ s _
     (c.store_joined-end.ensures (exchanges_at s members) true (some_answered s members c.requires.some)
     c.requires.gathered.joined (λ shut. absurd (c.goes_on.ensures.opened c.if-goes_on.true shut)) (λ on. refl))
@@ -28,11 +29,18 @@ returns-clause-serves g c =
     let s = c.args.clients.now in
     serves_then _ g.S.Peer.Peer.traffic (requests_of members) _ _ s _ _
     (serves_together
-    (service_of g.H.Responder.answers g.H.Responder.joins g.H.Responder.goes_on g.H.Responder.rests)
+    (service_of g.H.Responder.answers g.H.Responder.joins g.H.Responder.goes_on g.H.Responder.rests
+    g.H.Responder.may_wait)
     g.S.Peer.Peer.traffic (requests_of members) _ _ _ s _
     (c.store_joined-end.ensures (exchanges_at s members) false (some_answered s members c.requires.some)
     c.requires.gathered.joined (λ shut. refl) (λ on. absurd (on (c.goes_on.ensures.shut c.if-goes_on.false))))
     c.tell_all.ensures.serves) c.finish.ensures.kept
+
+pub returns-then-goes_on-clause-others : goal.returns-then-goes_on-clause-others
+returns-then-goes_on-clause-others g c = λ on place differs. c.tell_all.ensures.others place differs
+
+pub returns-clause-others : goal.returns-clause-others
+returns-clause-others g c = λ on. absurd cc
 
 pub returns-clause-gone : goal.returns-clause-gone
 returns-clause-gone g c = c.finish.ensures.gone ∙ c.tell_all.ensures.gone

@@ -3,7 +3,7 @@ use Rattle.std.proofs.lemmas.List.{nil_from_length}
 use Rattle.hall_http.specs.Crowd.{AreSomeKept}
 use Rattle.hall_http.specs.Group.{recording}
 use Rattle.hall_http.specs.declared.group.Member.{Member}
-use Rattle.hall_http.proofs.Gathered.{TellsSoFar, next_waits, tells_all, tells_more, tells_none}
+use Rattle.hall_http.proofs.Gathered.{TellsSoFar, next_waits, tells_all, tells_more, tells_none, tells_others}
 use Rattle.hall_http.proofs.Heard.{serves_kept}
 use Rattle.hall_http.proofs.server.tell_all.Goals as goal
 
@@ -11,6 +11,7 @@ pub loop-member-init : goal.loop-member-init
 loop-member-init g c = record {
   tells = tells_none g.S.Peer.Peer.traffic c.args.end c.args.clients.now c.args.members.items c.requires.waiting;
   counted = omega arith;
+  others = λ place differs. refl;
   said = refl;
   fair = λ fair. fair;
   gone = refl;
@@ -44,6 +45,13 @@ loop-member-preserved g c = record {
       c.take_first-request.ensures c.loop-member.invariant.tells) c.accept.new.self
       (rw c.told.ensures at c.accept.ensures.serves) c.accept.ensures.others;
   counted = omega (arith, ap length c.take_first-request.ensures, c.loop-member.invariant.counted);
+  others = tells_others g.S.Peer.Peer.traffic c.args.end c.args.clients.now c.args.members.items
+      c.loop-member.clients c.take_first-request.result c.take_first-request.new.members.items
+      (subst
+      (λ (left : List Member).
+      TellsSoFar g.S.Peer.Peer.traffic c.args.end c.args.clients.now c.args.members.items c.loop-member.clients left)
+      c.take_first-request.ensures c.loop-member.invariant.tells) c.accept.new.self
+      c.loop-member.invariant.others c.accept.ensures.others;
   fair = λ fair. c.answered.ensures.fair;
   said = c.answered.ensures.said ∙ c.loop-member.invariant.said;
   gone = c.accept.ensures.gone ∙ c.loop-member.invariant.gone;

@@ -15,6 +15,10 @@ returns-in-Over-clause-lost g c =
     loses_before g.P.Peer.traffic c.args.clients.now c.turn-step.new.self c.forget.new.self
     c.turn-step.ensures.kept.0 c.turn-step.ensures.gone departure.Over c.args.place c.forget.ensures.lost
 
+pub returns-in-Over-clause-others : goal.returns-in-Over-clause-others
+returns-in-Over-clause-others g c = λ other differs.
+    c.forget.ensures.others other differs ∙ c.turn-step.ensures.others other differs
+
 pub returns-in_default-clause-lost : goal.returns-in_default-clause-lost
 returns-in_default-clause-lost g c =
     loses_none g.P.Peer.traffic departure.Over c.args.place c.args.clients.now c.turn-step.new.self

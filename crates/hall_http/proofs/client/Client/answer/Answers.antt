@@ -8,30 +8,36 @@ use Rattle.hall_http.proofs.client.Client.answer.Goals as goal
 
 pub returns-in_default-clause-answered : goal.returns-in_default-clause-answered
 returns-in_default-clause-answered g c = answered_none g.P.Peer.traffic
-    (service_of g.H.Responder.answers g.H.Responder.joins g.H.Responder.goes_on g.H.Responder.rests) _ _ _ _
+    (service_of g.H.Responder.answers g.H.Responder.joins g.H.Responder.goes_on g.H.Responder.rests
+    g.H.Responder.may_wait) _ _ _ _
     (rests_never _ _)
 
 pub returns-in-Waits-clause-answered : goal.returns-in-Waits-clause-answered
 returns-in-Waits-clause-answered g c =
     answered_none g.P.Peer.traffic
-    (service_of g.H.Responder.answers g.H.Responder.joins g.H.Responder.goes_on g.H.Responder.rests) _ _ _ _
+    (service_of g.H.Responder.answers g.H.Responder.joins g.H.Responder.goes_on g.H.Responder.rests
+    g.H.Responder.may_wait) _ _ _ _
     (rests_still g.H.Responder.rests _ _ true c.prepare-prepared.ensures.rests)
 
 pub finish-requires : goal.finish-requires
 finish-requires g c =
     answered_client g.P.Peer.traffic
-    (service_of g.H.Responder.answers g.H.Responder.joins g.H.Responder.goes_on g.H.Responder.rests) _ _ _ _ _ c.requires
+    (service_of g.H.Responder.answers g.H.Responder.joins g.H.Responder.goes_on g.H.Responder.rests
+    g.H.Responder.may_wait) _ _ _ _ _ c.requires
     (answered_one g.P.Peer.traffic
-    (service_of g.H.Responder.answers g.H.Responder.joins g.H.Responder.goes_on g.H.Responder.rests) _ _ _ _ _ _ _ _ _
+    (service_of g.H.Responder.answers g.H.Responder.joins g.H.Responder.goes_on g.H.Responder.rests
+    g.H.Responder.may_wait) _ _ _ _ _ _ _ _ _
     (rests_still g.H.Responder.rests _ _ true c.prepare-prepared.ensures.rests) (sym c.state.ensures ∙ c.in-Looking.is)
     c.answer-goes_on.ensures)
 
 pub returns-clause-answered : goal.returns-clause-answered
 returns-clause-answered g c =
     answered_sent g.P.Peer.traffic
-    (service_of g.H.Responder.answers g.H.Responder.joins g.H.Responder.goes_on g.H.Responder.rests) _ _ _ _ _ _
+    (service_of g.H.Responder.answers g.H.Responder.joins g.H.Responder.goes_on g.H.Responder.rests
+    g.H.Responder.may_wait) _ _ _ _ _ _
     (answered_one g.P.Peer.traffic
-    (service_of g.H.Responder.answers g.H.Responder.joins g.H.Responder.goes_on g.H.Responder.rests) _ _ _ _ _ _ _ _ _
+    (service_of g.H.Responder.answers g.H.Responder.joins g.H.Responder.goes_on g.H.Responder.rests
+    g.H.Responder.may_wait) _ _ _ _ _ _ _ _ _
     (rests_still g.H.Responder.rests _ _ true c.prepare-prepared.ensures.rests) (sym c.state.ensures ∙ c.in-Looking.is)
     c.answer-goes_on.ensures) c.finish.ensures.kept
 

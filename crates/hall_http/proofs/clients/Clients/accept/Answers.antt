@@ -5,6 +5,7 @@ use Rattle.hall_http.specs.Crowd.{Serves}
 use Rattle.hall_http.specs.Group.{Awaits, answered_at, recording}
 use Rattle.hall_http.specs.declared.client.Client.{Client}
 use Rattle.hall_http.proofs.Crowds.{answer_place}
+use Rattle.hall_http.proofs.Gathered.{some_noted}
 use Rattle.hall_http.proofs.Numbers.{is_still, read_at}
 use Rattle.hall_http.proofs.clients.Clients.accept.Goals as goal
 
@@ -53,7 +54,11 @@ returns-clause-serves g c =
     c.index_mut-place.ensures.value refl))
     (answer_place g.P.Peer.traffic c.args.self.now held.place inside c.index_mut-place.result.now
     c.accept_at.new.place c.index_mut-place.ensures.value recording told _ held refl
-    (c.accept_at.ensures told held.moment))
+    (λ none.
+    subst (λ (o : Option (Client g.row.P.Denot)). Awaits o c.args.joined)
+    (read_at c.args.self.now.places.items c.args.held.now.place c.index_mut-place.result.now _ inside
+    c.index_mut-place.ensures.value refl ∙ none) c.requires.awaits)
+    (λ k l xs was now before after session. absurd (some_noted told _ session)) (c.accept_at.ensures told held.moment))
 
 pub returns-clause-others : goal.returns-clause-others
 returns-clause-others g c =

@@ -4,7 +4,7 @@ use Rattle.std.specs.Prelude.{slice_set}
 use Rattle.std.specs.Vec.{with_item}
 use Rattle.hall_http.specs.declared.client.Client.{Client}
 use Rattle.hall_http.proofs.Crowds.{kept_gone, keep_place, still_free}
-use Rattle.hall_http.proofs.Numbers.{read_at}
+use Rattle.hall_http.proofs.Numbers.{is_still, read_at}
 use Rattle.hall_http.proofs.Peers.{later_as}
 use Rattle.hall_http.proofs.SoFar.{keeps_all}
 use Rattle.hall_http.proofs.clients.Clients.forget.Goals as goal
@@ -16,6 +16,21 @@ pub returns-then-place-len-clause-none : goal.returns-then-place-len-clause-none
 returns-then-place-len-clause-none g c =
     get_or_past c.args.self.now.places.items c.args.place None
     (omega (arith, c.if-place-len.true, c.len.ensures))
+
+pub returns-then-place-len-clause-others : goal.returns-then-place-len-clause-others
+returns-then-place-len-clause-others g c = λ other differs. refl
+
+pub returns-in_default-clause-others : goal.returns-in_default-clause-others
+returns-in_default-clause-others g c =
+    let inside : c.args.place < length c.args.self.now.places.items =
+    omega (arith, c.if-place-len.false, c.len.ensures, c.args.self.now.places.ok.0) in
+    λ other differs. is_still c.args.self.now.places.items c.args.place c.take_at.new.place inside other differs
+
+pub returns-clause-others : goal.returns-clause-others
+returns-clause-others g c =
+    let inside : c.args.place < length c.args.self.now.places.items =
+    omega (arith, c.if-place-len.false, c.len.ensures, c.args.self.now.places.ok.0) in
+    λ other differs. is_still c.args.self.now.places.items c.args.place c.take_at.new.place inside other differs
 
 pub returns-then-place-len-clause-lost : goal.returns-then-place-len-clause-lost
 returns-then-place-len-clause-lost g c = inl refl

@@ -1,7 +1,7 @@
 use Rattle.std.proofs.Common.{◌∙◌, arith, ◌<◌, ◌≤◌, None, Some, length, refl, sym}
 use Rattle.std.proofs.lemmas.List.{get_or_past}
 use Rattle.hall_http.proofs.Crowds.{keep_place}
-use Rattle.hall_http.proofs.Numbers.{is_there, read_at}
+use Rattle.hall_http.proofs.Numbers.{is_still, is_there, read_at}
 use Rattle.hall_http.proofs.Rested.{rests_never}
 use Rattle.hall_http.proofs.SoFar.{keeps_all}
 use Rattle.hall_http.proofs.clients.Clients.turn.Goals as goal
@@ -64,6 +64,15 @@ returns-clause-none g c =
     omega (arith, c.if-place-len.false, c.len.ensures, c.args.self.now.places.ok.0) in
     λ free.
     c.turn_at.ensures.none (sym (is_there c.args.self.now.places.items c.args.place c.turn_at.new.place inside) ∙ free)
+
+pub returns-then-place-len-clause-others : goal.returns-then-place-len-clause-others
+returns-then-place-len-clause-others g c = λ other differs. refl
+
+pub returns-clause-others : goal.returns-clause-others
+returns-clause-others g c =
+    let inside : c.args.place < length c.args.self.now.places.items =
+    omega (arith, c.if-place-len.false, c.len.ensures, c.args.self.now.places.ok.0) in
+    λ other differs. is_still c.args.self.now.places.items c.args.place c.turn_at.new.place inside other differs
 
 pub returns-then-place-len-clause-takes : goal.returns-then-place-len-clause-takes
 returns-then-place-len-clause-takes g c = λ l at.

@@ -11,6 +11,9 @@ returns-clause-admits g c = (
       (rw c.new-closed.ensures next) refl c.and-self.ensures (rw c.new-closed.ensures c.requires.untouched),
 )
 
+pub returns-clause-there : goal.returns-clause-there
+returns-clause-there g c = λ other k at. at
+
 pub returns-clause-receives : goal.returns-clause-receives
 returns-clause-receives g c =
     inr (c.new-closed.result, c.args.why, c.new-closed.ensures, c.requires.may, c.and-self.ensures)

@@ -1,6 +1,6 @@
 use Rattle.std.proofs.Common.{◌∙◌, ap, rules, List}
 use Rattle.std.proofs.lemmas.Fn.{filter_same}
-use Rattle.hall_http.specs.Crowd.{without}
+use Rattle.hall_http.specs.Held.{without}
 use Rattle.hall_http.specs.declared.clients.HeldRequest.{HeldRequest}
 use Rattle.hall_http.proofs.held.Held.forget.Goals as goal
 
