@@ -1,9 +1,9 @@
 -- Requests that are held, and how they are answered.
-use Rattle.std.proofs.Common.{◌≡◌, ◌∙◌, sym, ap, subst, refl, inl, inr, ℕ, ◌==◌, List, [], ◌∷◌, ◌++◌, append_assoc}
-use Rattle.std.proofs.Common.{get_or, Option, None, Some, true, false}
+use Rattle.std.proofs.Common.{◌≡◌, ◌∙◌, sym, ap, subst, refl, arith, inl, inr, ℕ, ◌==◌, List, [], ◌∷◌, ◌++◌, append_assoc}
+use Rattle.std.proofs.Common.{get_or, length, Option, None, Some, true, false}
 use Rattle.std.specs.Prelude.{All, Bool, cond, not, map}
 use Rattle.std.proofs.lemmas.Option.{same_Some}
-use Rattle.std.proofs.lemmas.List.{append-nil, map-append}
+use Rattle.std.proofs.lemmas.List.{append-nil, length-map, map-append}
 use Rattle.std.proofs.lemmas.List.Elements.{All-head, All-tail}
 use Rattle.hall_http.specs.Coming.{Heard, Nexts, Said, since}
 use Rattle.hall_http.specs.Connection.{Exchange, AreReadings}
@@ -11,7 +11,7 @@ use Rattle.hall_http.specs.Crowd.{AreAllThere, AreAnsweredOf, AreAsSaid, AreAtMo
 use Rattle.hall_http.specs.Crowd.{HasAt, Holding, IsAt, IsFor, IsFree, IsHeldAt, IsHeldFor, IsHereOrGone, IsNoTurn}
 use Rattle.hall_http.specs.Crowd.{NextMayWait, WaitsAt, held_after, held_on, requests_in, without_holding}
 use Rattle.hall_http.specs.Crowd.{at_answer, at_first, at_other, at_turn, at_visit}
-use Rattle.hall_http.specs.Held.{HoldsNoMore, HoldsOne, is_held, kept_on, without}
+use Rattle.hall_http.specs.Held.{HoldsNoMore, HoldsOne, IsShare, is_held, kept_on, without}
 use Rattle.hall_http.specs.Peer.{Traffic}
 use Rattle.hall_http.specs.Turns.{IsNextRequest, Turn}
 use Rattle.hall_http.specs.declared.client.Client.{Client}
@@ -422,7 +422,7 @@ module _ {P : Type 0} (traffic : P → Traffic) where
 
             -- some of them were answered, or may wait, and the rest are held
             pub so_answer : (front rest : List HeldRequest) (then : List Heard) → then ≡ now
-                → requests ≡ front ++ rest → (front ≡ [] → rest ≡ []) → AreStill traffic s u → (more : List Turn)
+                → requests ≡ front ++ rest → IsShare front rest → AreStill traffic s u → (more : List Turn)
                 → AreAnsweredOf (IsHeldAt traffic s) (WaitsAt ahead traffic s turns) [] front more
                 → AreHeldSo might (steps ++ next.Answer ∷ []) then u rest later (turns ++ more)
             so_answer front rest then told is least still more answered =
@@ -439,8 +439,10 @@ module _ {P : Type 0} (traffic : P → Traffic) where
                       (subst
                       (λ (held : List Holding).
                       AreAtTurns (IsFor traffic u.gone.items) (NextMayWait might (IsHereOrGone traffic u)) steps
-                      so.heard turns held so.moments) all grown)
-                      (λ nothing. none_in b (last ∙ least (sym one ∙ ap requests_in nothing)))
+                      so.heard turns held so.moments) all grown) (
+                        λ nothing. none_in b (last ∙ least.0 (sym one ∙ ap requests_in nothing)),
+                        omega (arith, least.1, ap length one, length-map (λ holding. holding.1) a),
+                      )
                       (subst
                       (λ (all : List Turn).
                       AreAnsweredOf (IsHeldFor (IsFor traffic u.gone.items steps))

@@ -1,14 +1,16 @@
 -- Those that are held stand ready to be answered, each at its place.
 use Rattle.std.proofs.Common.{◌≡◌, ◌≢◌, ◌∙◌, sym, ap, subst, refl, arith, inl, inr, ℕ, ◌==◌, List, [], ◌∷◌, ◌++◌}
-use Rattle.std.proofs.Common.{get_or, Option, None, Some, suc, true, false}
+use Rattle.std.proofs.Common.{◌<◌, ◌≤◌, length, length-append, get_or, Option, None, Some, suc, true, false}
 use Rattle.std.specs.Prelude.{◌||◌, ◌⊎◌, All, Bool, cond, not}
 use Rattle.std.proofs.lemmas.Bool.{eqb-true, eqb-false}
 use Rattle.std.proofs.lemmas.Option.{same_Some}
+use Rattle.std.proofs.lemmas.List.{length-map}
 use Rattle.std.proofs.lemmas.List.Elements.{All-cons, All-head, All-nil, All-push, All-tail}
 use Rattle.hall_http.specs.Coming.{Heard}
 use Rattle.hall_http.specs.Crowd.{AreAllThere, AreOthersSame, AreReady, IsAt, IsFree, IsSameAt, StandsWhole}
 use Rattle.hall_http.specs.Group.{requests_of}
 use Rattle.hall_http.specs.Held.{HoldsOne, is_held, kept_on, without}
+use Rattle.hall_http.specs.Limits.{most_answered, most_joined}
 use Rattle.hall_http.specs.Peer.{Traffic}
 use Rattle.hall_http.specs.Progress.{TakesTurnAt}
 use Rattle.hall_http.specs.Steps.{HasRequest, StandsRightly}
@@ -234,3 +236,16 @@ module _ {P : Type 0} where
           rw is
           (ready_more u held (record { place = place; moment = moment }) apart (stands_now how free stands takes holds)
           (on_ready (λ over. let clash = sym holds ∙ over in absurd cc)))
+
+-- so few are taken off where some were alone, and then these together
+pub joined_few : (front : List HeldRequest) (members : List Member) (one : ℕ) → length front ≤ one → one < 4
+    → length members ≤ most_joined → length (front ++ requests_of members) ≤ most_answered
+joined_few front members one alone less together =
+    omega (
+      arith,
+      alone,
+      less,
+      together,
+      length-append front (requests_of members),
+      length-map (λ (member : Member). member.request) members,
+    )

@@ -203,13 +203,15 @@ pub had_more : (heard : HeardAt) (one : Heard × ℕ) (gone : List (LetGo × ℕ
     → All (λ (past : LetGo × ℕ). ∥ HadWaited (heard ++ one ∷ []) past.0 ∥₁) gone
 had_more heard one gone all k d less =
     ∥∥₁_map (all k d less)
-    (λ (wait, is, front, rest, parts, since). (
+    (λ (wait, is, front, rest, how, held, parts, waits). (
       wait,
       is,
       front,
       rest ++ one ∷ [],
-      ap (λ xs. xs ++ one ∷ []) parts ∙ append_assoc front rest (one ∷ []),
-      since,
+      how,
+      held,
+      ap (λ xs. xs ++ one ∷ []) parts ∙ append_assoc front (_ ∷ rest) (one ∷ []),
+      waits,
     ))
 
 some_wait : (visit : Visit) (now : ℕ) → HasExpired visit now ⊎ MayMakeRoom visit now
@@ -227,7 +229,7 @@ pub had_waited : (heard : HeardAt) (visits : List (Option Visit)) (one : LetGo) 
 had_waited heard visits one now all at may =
     let (wait, is) = some_wait one.visit now may in
     ∥∥₁_map (all one.place one.visit wait at is)
-    (λ since. (wait, is, heard, [], sym (append-nil heard), since))
+    (λ (front, rest, how, held, parts, waits, on). (wait, is, front, rest, how, held, parts, waits))
 
 -- what was the time by some looks was it also once more was asked
 pub timed_more : {A : Type 0} (looks : Looks) (one : Look × ℕ) (all : List (A × ℕ))

@@ -4,7 +4,7 @@ use Rattle.std.specs.Prelude.{◌==◌, false, not, length, map}
 use Rattle.std.specs.List.{filter}
 use Rattle.std.proofs.Common.{get_or}
 use Rattle.hall_http.specs.Limits.{most_connections}
-use Rattle.hall_http.specs.Held.{HoldsNoMore, is_held}
+use Rattle.hall_http.specs.Held.{HoldsNoMore, IsShare, is_held}
 use Rattle.hall_http.specs.Answered.{IsUnavailable}
 use Rattle.hall_http.specs.Peer.{Traffic, IsLater, IsOver, IsUntouched}
 use Rattle.hall_http.specs.Progress.{TakesTurnAt}
@@ -371,7 +371,7 @@ requests_in held = map (λ one. one.1) held
 -- heard with that turn. The request, of a place of which none is held, is held for it then, behind all others: of the
 -- connection that is the one of the place by what was done before. So it is of each such turn, unless one of the place
 -- is held already, or as many as may be; and with any other no moment is heard. Requests are answered only where the
--- first of those that are held are taken off, one at least where any are held: in their order, each at its moment, and
+-- first of those that are held are taken off, one at least where any are held, and at most 67: in their order, each at its moment, and
 -- of its connection, which is the one of its place still. One that is taken off is passed over, and isn't answered,
 -- only where the next request of its connection may wait after those that were answered until then. And what is held at
 -- a place isn't held any more once its connection is let go, or is over after a turn.
@@ -396,7 +396,7 @@ pub data AreAtTurns {P : Type 0} (IsOf : Nexts P → ℕ → ℕ → Type 0) (Ma
       (moments ++ one.moment ∷ [])
   at_answer : (steps : Nexts P) (heard : List Heard) (turns more : List Turn) (front held : List Holding)
       (moments : List (Option ℕ)) → AreAtTurns IsOf MayWait steps heard turns (front ++ held) moments
-      → (front ≡ [] → held ≡ [])
+      → IsShare front held
       → AreAnsweredOf (IsHeldFor (IsOf steps)) (λ before one. MayWait before one.0) turns front more
       → AreAtTurns IsOf MayWait (steps ++ next.Answer ∷ []) heard (turns ++ more) held moments
 

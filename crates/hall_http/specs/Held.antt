@@ -3,7 +3,7 @@ use Rattle.std.specs.Prelude.{◌≡◌, ◌≢◌, ◌≤◌, ◌==◌, ◌⊎�
 use Rattle.std.specs.Prelude.{Some, length, not}
 use Rattle.std.specs.List.{filter, list_any}
 use Rattle.hall_http.specs.Coming.{Heard}
-use Rattle.hall_http.specs.Limits.{most_connections}
+use Rattle.hall_http.specs.Limits.{most_answered, most_connections}
 use Rattle.hall_http.specs.declared.client.Step.{Step}
 use Rattle.hall_http.specs.declared.client.Step.TheVariants as step
 use Rattle.hall_http.specs.declared.clients.HeldRequest.{HeldRequest}
@@ -36,3 +36,7 @@ HoldsOne now_gives ((place, how), told) clock old later new =
     ((told ≡ None) × (later ≡ clock) × (new ≡ kept_on place how old) × HoldsNoMore place how old)
     ⊎ ((how ≡ step.Holds) × (is_held place old ≡ false) × (moment : Option ℕ) × (told ≡ Some moment)
     × now_gives clock moment later × (new ≡ old ++ record { place = place; moment = moment } ∷ []))
+
+-- so many of those that are held may be taken off at a time: one at least where any are
+abbrev pub IsShare : {X : Type 0} → List X → List X → Type 0
+IsShare front rest = (front ≡ [] → rest ≡ []) × (length front ≤ most_answered)

@@ -21,6 +21,10 @@ most_connections = 500
 abbrev pub most_joined : ℕ
 most_joined = 64
 
+-- the requests that are taken off at a time: three alone, and then these
+abbrev pub most_answered : ℕ
+most_answered = 67
+
 -- the milliseconds between two looks at the clock that count against a patience
 abbrev pub most_counted : ℕ
 most_counted = 1000

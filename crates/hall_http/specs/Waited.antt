@@ -41,11 +41,12 @@ WaitAsHeard heard visits =
     (place : ℕ) (visit : Visit) (wait : Wait) → get_or visits place None ≡ Some visit → wait_in visit ≡ Some wait
     → ∥ WaitsSince heard place wait ∥₁
 
--- whoever was let go had waited so, by what was heard until then
+-- whoever was let go was heard to wait so, at the millisecond from which its patience is reckoned
 abbrev pub HadWaited : HeardAt → LetGo → Type 0
 HadWaited heard one =
     (wait : Wait) × (wait_in one.visit ≡ Some wait)
-    × (front rest : HeardAt) × (heard ≡ front ++ rest) × WaitsSince front one.place wait
+    × (front rest : HeardAt) × (how : Step) × (held : Option (Option ℕ))
+    × (heard ≡ front ++ (((one.place, how), held), wait.since) ∷ rest) × IsWaitOf how wait
 
 -- Whoever was let go was at this millisecond, by what was asked until then; and it had left, or all that befell the
 -- sockets was heard.

@@ -1,6 +1,6 @@
 //! The system's sockets: who comes, whose turn it is, and who has waited too long.
 ghost use Rattle.std.specs.Prelude.{◌≡◌, ◌<◌, ◌++◌, ◌⊎◌, ℕ, [], ◌∷◌, IfNone, IfOk, IfSome, Option, None, Some, false, get_or};
-ghost use Rattle.std.specs.Prelude.{All, nat_lt, true};
+ghost use Rattle.std.specs.Prelude.{All, length, nat_lt, true};
 ghost use Rattle.hall_http.specs.Looks.{IsHeardOut, IsTimeBy, TellsAll, counted, passed_since, read_after};
 ghost use Rattle.hall_http.specs.Looks.{time_by};
 ghost use Rattle.hall_http.specs.declared.client.Step.TheVariants as Step;
@@ -335,6 +335,8 @@ impl<'r, N> Schedule<'r, N> {
     /// is, one who searches is ready too.
     fn begin_round(&mut self)
         ensures places { IsUnheard self.old.places self.new.places }
+        ensures round { self.new.round ≡ length self.new.ready.waiting.items }
+        ensures unheard { self.new.has_heard ≡ false }
         ensures line { ComeBehind self.old.ready self.new.ready }
     {
         if self.holding == 0 || self.answers >= MOST_ANSWERS {
@@ -446,6 +448,8 @@ impl<'r, N> Schedule<'r, N> {
     /// Whose turn it is: of those who are ready, whoever became so first. One that has ended, and whose patience has
     /// too, is let go in its place.
     fn first(&mut self) -> Option<Next<Socket>>
+        requires { self.old.has_heard ≡ false }
+        ensures round { IfSome result (λ _. self.new.round < self.old.round) }
         ensures handed_out { MayHandOut self.old.places result self.new.places }
         ensures line { MayCall self.old.ready result self.new.ready }
     {
@@ -480,6 +484,7 @@ impl<'r, N> Schedule<'r, N> {
     /// Who is let in, or has to go, where all was heard; and else a round begins.
     #[tactic(auto, using(crate::proofs::Fair::behind_then))]
     fn judge_heard(&mut self) -> Option<Next<Socket>>
+        ensures unheard { IfNone result (self.new.has_heard ≡ false) }
         ensures handed_out { MayHandOut self.old.places result self.new.places }
         ensures line { MayCall self.old.ready result self.new.ready }
     {
@@ -767,6 +772,7 @@ impl<'r, N: time::Clock> Schedule<'r, N> {
         ensures goes_on { step ≡ Step.Again → place < most_connections → waits_in self.new.ready place ≡ true }
     {
         self.hears(place, step, held);
+        // By what was heard it can go on, whether or not anybody is known there.
         if step == Step::Again && place < MOST_CLIENTS {
             self.ready.push(place);
             return;

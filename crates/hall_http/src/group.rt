@@ -104,6 +104,7 @@ impl Group {
         ensures gathered { IsGathered H.have_joined clients.now self.new responder.new }
         ensures rests { HasRested H.rests responder.old responder.new }
         ensures order { held.old ≡ requests_of self.new.members.items ++ held.new }
+        ensures few { length self.new.members.items ≤ most_joined }
     {
         for _member in 0..MOST_TOGETHER {
             if !self.take(alloc, routes, clients, held, responder) {
@@ -126,7 +127,7 @@ pub(crate) fn gather<P: Peer + Drop, H: Responder>(
     ensures rests { HasRested H.rests responder.old responder.new }
     ensures gathered { MatchOption result (held.new ≡ held.old)
         (λ group. IsGathered H.have_joined clients.now group responder.new × (group.members.items ≢ [])
-        × (held.old ≡ requests_of group.members.items ++ held.new)) }
+        × (held.old ≡ requests_of group.members.items ++ held.new) × (length group.members.items ≤ most_joined)) }
 {
     let Ok(mut group) = Group::new(alloc, responder) else {
         return None;

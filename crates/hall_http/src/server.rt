@@ -4,6 +4,7 @@ ghost use Rattle.std.specs.Prelude.{All, ℕ, map};
 ghost use Rattle.hall_http.specs.Group.{AreWaiting, IsGathered, exchanges_at, recording, requests_of};
 ghost use Rattle.hall_http.specs.Joining.{told_at_end};
 ghost use Rattle.hall_http.specs.Progress.{TakesTurnAt};
+ghost use Rattle.hall_http.specs.Held.{IsShare};
 ghost use Rattle.hall_http.specs.Limits.{most_connections};
 ghost use Rattle.hall_http.specs.declared.client.Step.TheVariants as Step;
 ghost use Rattle.hall_http.specs.declared.clients.HeldRequest.{HeldRequest};
@@ -231,7 +232,7 @@ fn handle_all<H: Responder, S: Sockets, C: Clock>(
 
 /// The first of the requests that are held are answered, each at its moment: those in front that can be are answered
 /// together, and then no more; and what can't be is answered alone, or is passed over where it may wait. It is one at
-/// least where any are held, and at the places of those that are held still nothing changes. The result is whether the
+/// least where any are held, and at most 67, and at the places of those that are held still nothing changes. The result is whether the
 /// responder goes on; where it doesn't, each whose reply waits is sent once more.
 fn answer_held<H: Responder, S: Sockets>(
     alloc: Global,
@@ -243,7 +244,7 @@ fn answer_held<H: Responder, S: Sockets>(
 ) -> bool
     requires kept { AreSomeKept S.Peer.traffic clients.old }
     requires ready { AreReady clients.old held.old }
-    ensures serves { (front : List HeldRequest) × (held.old ≡ front ++ held.new) × (front ≡ [] → held.new ≡ [])
+    ensures serves { (front : List HeldRequest) × (held.old ≡ front ++ held.new) × IsShare front held.new
         × Serves (service_of H.answers H.joins H.goes_on H.rests H.may_wait) S.Peer.traffic front
         (responder.old, true) clients.old (responder.new, result) clients.new }
     ensures same { result ≡ true → All (λ one. IsSameAt clients.old clients.new one.place) held.new }

@@ -1,5 +1,6 @@
 use Rattle.std.proofs.Common.{◌≡◌, ◌∙◌, ap, arith, refl, subst, sym, append_assoc, List, [], ◌∷◌, ◌++◌, true}
 use Rattle.std.specs.Prelude.{All}
+use Rattle.std.proofs.lemmas.List.{length_push}
 use Rattle.std.proofs.lemmas.List.Elements.{All-nil}
 use Rattle.hall_http.specs.Crowd.{AreReady, IsSameAt}
 use Rattle.hall_http.specs.Group.{requests_of}
@@ -7,13 +8,13 @@ use Rattle.hall_http.specs.declared.clients.HeldRequest.{HeldRequest}
 use Rattle.hall_http.proofs.Crowds.{serves_none}
 use Rattle.hall_http.proofs.Gathered.{serves_on}
 use Rattle.hall_http.proofs.Heard.{serves_kept, serves_more, serves_then}
-use Rattle.hall_http.proofs.Ready.{all_first, last_none, left_ready, same_behind, same_rest, some_last}
+use Rattle.hall_http.proofs.Ready.{all_first, joined_few, last_none, left_ready, same_behind, same_rest, some_last}
 use Rattle.hall_http.proofs.Rested.{rests_still}
 use Rattle.hall_http.proofs.server.answer_held.Goals as goal
 
 pub loop-one-init : goal.loop-one-init
 loop-one-init g c = record {
-  serves = ([], refl, λ less. absurd (omega (arith, less)), serves_none g.S.Peer.Peer.traffic _ _ _);
+  serves = ([], refl, (λ less. absurd (omega (arith, less)), omega arith), serves_none g.S.Peer.Peer.traffic _ _ _);
   same = λ i d inside. refl;
   said = refl;
   fair = λ fair. fair;
@@ -48,7 +49,10 @@ returns-in-Some-clause-serves g c =
       front ++ requests_of members,
       is ∙ ap (λ (rest : List HeldRequest). front ++ rest) c.in-Some.ensures.gathered.2
           ∙ sym (append_assoc front (requests_of members) c.gather.new.held),
-      λ none. absurd (c.in-Some.ensures.gathered.1 (last_none front members none)),
+      (
+        λ none. absurd (c.in-Some.ensures.gathered.1 (last_none front members none)),
+        joined_few front members c.loop-one._one (some.1) c.loop-one-test.true c.in-Some.ensures.gathered.3,
+      ),
       serves_more _ g.S.Peer.Peer.traffic front (requests_of members) _ _ _ s m _
           (all_first (λ one. IsSameAt s m one.place) (requests_of members) c.gather.new.held same)
           (serves_on _ g.S.Peer.Peer.traffic front _ _ _ _ _ serves
@@ -93,7 +97,7 @@ loop-one-preserved g c =
         front ++ one ∷ [],
         is ∙ ap (λ (rest : List HeldRequest). front ++ rest) off
             ∙ sym (append_assoc front (one ∷ []) c.pop.new.self),
-        λ more. some_last front one,
+        (λ more. some_last front one, omega (arith, length_push front one, some.1)),
         serves_more _ g.S.Peer.Peer.traffic front (one ∷ []) _ _ _ s m _
             (all_first (λ one. IsSameAt s m one.place) (one ∷ []) c.pop.new.self same)
             (serves_on _ g.S.Peer.Peer.traffic front _ _ _ _ _ serves
@@ -124,7 +128,7 @@ returns-then-not-answer-clause-serves g c =
       front ++ one ∷ [],
       is ∙ ap (λ (rest : List HeldRequest). front ++ rest) off
           ∙ sym (append_assoc front (one ∷ []) c.pop.new.self),
-      λ none. absurd (some_last front one none),
+      (λ none. absurd (some_last front one none), omega (arith, length_push front one, some.1, c.loop-one-test.true)),
       serves_more _ g.S.Peer.Peer.traffic front (one ∷ []) _ _ _ s m _
           (all_first (λ one. IsSameAt s m one.place) (one ∷ []) c.pop.new.self
           (subst (All (λ one. IsSameAt s m one.place)) off c.loop-one.invariant.same))
@@ -151,7 +155,7 @@ returns-in_default-pop-clause-serves g c =
       front,
       is ∙ ap (λ (rest : List HeldRequest). front ++ rest)
           (sym c.in_default.ensures.gathered ∙ c.in_default-pop.ensures.0 ∙ sym c.in_default-pop.ensures.1),
-      λ none. c.in_default-pop.ensures.1,
+      (λ none. c.in_default-pop.ensures.1, omega (arith, some.1, c.loop-one-test.true)),
       serves_on _ g.S.Peer.Peer.traffic front _ _ _ _ _ serves
           (rests_still g.H.Responder.rests _ _ true c.gather.ensures.rests),
     )
@@ -164,4 +168,4 @@ returns-in_default-pop-clause-same g c = λ on.
 pub returns-clause-serves : goal.returns-clause-serves
 returns-clause-serves g c =
     let (front, is, some, serves) = c.loop-one.invariant.serves in
-    (front, is, λ none. absurd (some (omega arith) none), serves)
+    (front, is, (λ none. absurd (some.0 (omega arith) none), omega (arith, some.1)), serves)

@@ -7,7 +7,7 @@ use Rattle.hall_http.proofs.server.answer_held.Given as goal
 
 abbrev pub invariant-loop-one : goal.invariant-loop-one
 invariant-loop-one g l = record {
-  serves : (front : List HeldRequest) × (l.fn.held ≡ front ++ l.held) × (0 < l._one → front ≢ [])
+  serves : (front : List HeldRequest) × (l.fn.held ≡ front ++ l.held) × ((0 < l._one → front ≢ []) × (length front ≤ l._one))
       × Serves (service_of g.H.Responder.answers g.H.Responder.joins g.H.Responder.goes_on g.H.Responder.rests
       g.H.Responder.may_wait) g.S.Peer.Peer.traffic front
       (l.fn.responder, true) l.fn.clients (l.responder, true) l.clients;
