@@ -1,8 +1,9 @@
 -- The rows of a table that are no record: what is asked for, and what its answer tells of them.
-use Rattle.std.proofs.Common.{◌≡◌, ◌++◌, inl, inr, IsTrue, arith, ℕ, ℤ, List, [], ◌∷◌, codes, map, filter, not, Bool}
+use Rattle.std.proofs.Common.{◌≡◌, ◌≢◌, ◌++◌, inl, inr, IsTrue, arith, ℕ}
+use Rattle.std.proofs.Common.{ℤ, List, [], ◌∷◌, codes, map, filter, not, Bool}
 use Rattle.std.proofs.Common.{true, false, cond, is_some, length, Option, refl, sym, ap, subst, ◌∙◌}
 use Rattle.std.proofs.lemmas.List.{length-map}
-use Rattle.std.proofs.lemmas.List.Sorted.{length_permutation}
+use Rattle.std.proofs.lemmas.List.Sorted.{IsPermutation-sym, length_permutation}
 use Rattle.std.specs.List.{AllByRecursion, AllZip}
 use Rattle.std.specs.List.Sorted.{IsPermutation}
 use Rattle.sqlite_tied.specs.Compute.{everything}
@@ -25,7 +26,7 @@ use Rattle.sqlite.specs.Tree.{Trees}
 use Rattle.hall_sql.specs.AllRead.{AreAllRead, IsRead, is_record}
 use Rattle.hall_sql.specs.Asked.{IsAskedIn}
 use Rattle.hall_sql.specs.BadRows.{AreAllBad, AreBadIn, AreBadRows, AreFoundBad, AreNone, AreToldBad, no_records}
-use Rattle.hall_sql.specs.BadRows.{rowid_in}
+use Rattle.hall_sql.specs.BadRows.{HasRoom, HaveRoom, IsRoomLeft, last_rowid, rowid_in}
 use Rattle.hall_sql.specs.Cause.{IsAnyUnread, IsStoreCause, ReadFails}
 use Rattle.hall_sql.specs.Made.{all_tables, old_tables}
 use Rattle.hall_sql.specs.Rows.{answer_in, person_in, place_in, protest_in, puzzle_row_in, round_in, tester_in}
@@ -176,6 +177,12 @@ int_read (Real x) int = int
 int_read (Text t) int = int
 int_read (Blob b) int = int
 
+-- what is so of each image
+unmapped : {A B : Type 0} (P : B → Type 0) (f : A → B) (xs : List A) → AllByRecursion P (map f xs)
+    → AllByRecursion (λ x. P (f x)) xs
+unmapped P f [] all = tt
+unmapped P f (x ∷ xs) all = (all.0, unmapped P f xs all.1)
+
 -- all of the table's rows are asked for, and its rowid in the column `at`
 module _ {Fits : Schema → Type 0} {text : List ℕ} {tree : ℕ} {project : List Term} {order : List (Term × Key)}
     {names : List (List ℕ)}
@@ -205,7 +212,7 @@ module _ {Fits : Schema → Type 0} {text : List ℕ} {tree : ℕ} {project : Li
 
   module _ {X : Type 0} (read : Row → Option X) (reads : (r : Row) → is_some (read (eval_all project ([] ∷ r ∷ []))) ≡
       is_record tree r)
-      (ids : List ℤ) (it : AreBadIn read at text old new ids) where
+      (table : HallTable) (told : BadRows) (it : AreBadIn read table at text old new told) where
     abbrev sel : IsSelection (plain_query tree [] project order) (old.now.trees tree) [] it.rows
     sel = selection it.rows it.shown
 
@@ -217,12 +224,31 @@ module _ {Fits : Schema → Type 0} {text : List ℕ} {tree : ℕ} {project : Li
         ap (no_records read) sel.shown ∙ filter-map (λ r. not (is_some (read r))) shows sel.found
         ∙ (λ i. map shows (filter (λ r. not (reads r i)) sel.found))
 
-    found_bad : AreBadRows old.now.trees tree ids
+    abbrev Free : Row → Type 0
+    Free r = column r at ≢ Int last_rowid
+
+    abbrev Lower : Row → Type 0
+    Lower r = rowid r ≢ Int last_rowid
+
+    room_left : IsRoomLeft at it.rows → HasRoom old.now.trees tree
+    room_left left =
+        let shown = unmapped Free shows sel.found (subst (AllByRecursion Free) sel.shown left) in
+        let found = all_weaker (λ r. Free (shows r)) Lower (λ r free is. free (ids_at r ∙ is)) sel.found shown in
+        all-permutation Lower sel.found (old.now.trees tree) (IsPermutation-sym _ _ (same it.rows it.shown)) found
+
+    left_room : HasRoom old.now.trees tree → IsRoomLeft at it.rows
+    left_room room =
+        let found = all-permutation Lower (old.now.trees tree) sel.found (same it.rows it.shown) room in
+        let shown = all_weaker Lower (λ r. Free (shows r)) (λ r low is. low (sym (ids_at r) ∙ is)) sel.found found in
+        subst (AllByRecursion Free) (sym sel.shown) (all-map Free shows sel.found shown)
+
+    found_bad : AreBadRows old.now.trees tree told
     found_bad = record {
       rows = bad;
       same = IsPermutation-filter (λ r. not (is_record tree r)) _ _ (same it.rows it.shown);
       are = it.are ∙ ap (map (λ r. column r at)) bad_are ∙ map-map (λ r. column r at) shows bad
           ∙ (λ i. map (λ r. ids_at r i) bad);
+      room = (λ is. room_left (it.room.0 is), λ room. it.room.1 (left_room room));
     }
 
   -- its rowids are integers, so that the answer shows one in each row
@@ -248,61 +274,68 @@ module _ {Fits : Schema → Type 0} {text : List ℕ} {tree : ℕ} {project : Li
       only_store (inl cause) = cause
       only_store (inr it) = absurd (ids_shown it.0 it.1 it.2)
 
-module _ (old new : State) (clean : HasCleanDisk old) (ids : List ℤ) where
-  pub people_bad : IsOver (λ schema. HasTable schema People) old → AreBadIn person_in 3 PEOPLE_ROWS.now old new ids
-      → AreFoundBad People old new ids
+module _ (old new : State) (clean : HasCleanDisk old) (told : BadRows) where
+  pub people_bad : IsOver (λ schema. HasTable schema People) old
+      → AreBadIn person_in People 3 PEOPLE_ROWS.now old new told → AreFoundBad People old new told
   people_bad over it = (
     it.serves,
+    it.which,
     found_bad people_asked (λ db. refl) 3 (λ r. refl) old new over clean person_in
-        (λ r. refl) ids it,
+        (λ r. refl) People told it,
   )
 
-  pub puzzles_bad : IsOver (λ schema. HasTable schema Puzzles) old → AreBadIn puzzle_row_in 5 PUZZLES_ROWS.now old new
-      ids → AreFoundBad Puzzles old new ids
+  pub puzzles_bad : IsOver (λ schema. HasTable schema Puzzles) old
+      → AreBadIn puzzle_row_in Puzzles 5 PUZZLES_ROWS.now old new told → AreFoundBad Puzzles old new told
   puzzles_bad over it = (
     it.serves,
+    it.which,
     found_bad puzzles_asked (λ db. refl) 5 (λ r. refl) old new over clean puzzle_row_in
-        (λ r. refl) ids it,
+        (λ r. refl) Puzzles told it,
   )
 
-  pub rounds_bad : IsOver (λ schema. HasTable schema Rounds) old → AreBadIn round_in 10 ROUNDS_ROWS.now old new ids
-      → AreFoundBad Rounds old new ids
+  pub rounds_bad : IsOver (λ schema. HasTable schema Rounds) old
+      → AreBadIn round_in Rounds 10 ROUNDS_ROWS.now old new told → AreFoundBad Rounds old new told
   rounds_bad over it = (
     it.serves,
+    it.which,
     found_bad rounds_asked (λ db. refl) 10 (λ r. refl) old new over clean round_in
-        (λ r. refl) ids it,
+        (λ r. refl) Rounds told it,
   )
 
-  pub places_bad : IsOver (λ schema. HasTable schema Places) old → AreBadIn place_in 5 PLACES_ROWS.now old new ids
-      → AreFoundBad Places old new ids
+  pub places_bad : IsOver (λ schema. HasTable schema Places) old
+      → AreBadIn place_in Places 5 PLACES_ROWS.now old new told → AreFoundBad Places old new told
   places_bad over it = (
     it.serves,
+    it.which,
     found_bad places_asked (λ db. refl) 5 (λ r. refl) old new over clean place_in
-        (λ r. refl) ids it,
+        (λ r. refl) Places told it,
   )
 
-  pub answers_bad : IsOver (λ schema. HasTable schema Answers) old → AreBadIn answer_in 8 ANSWERS_ROWS.now old new ids
-      → AreFoundBad Answers old new ids
+  pub answers_bad : IsOver (λ schema. HasTable schema Answers) old
+      → AreBadIn answer_in Answers 8 ANSWERS_ROWS.now old new told → AreFoundBad Answers old new told
   answers_bad over it = (
     it.serves,
+    it.which,
     found_bad answers_asked (λ db. refl) 8 (λ r. refl) old new over clean answer_in
-        (λ r. refl) ids it,
+        (λ r. refl) Answers told it,
   )
 
-  pub protests_bad : IsOver (λ schema. HasTable schema Protests) old → AreBadIn protest_in 7 PROTESTS_ROWS.now old new
-      ids → AreFoundBad Protests old new ids
+  pub protests_bad : IsOver (λ schema. HasTable schema Protests) old
+      → AreBadIn protest_in Protests 7 PROTESTS_ROWS.now old new told → AreFoundBad Protests old new told
   protests_bad over it = (
     it.serves,
+    it.which,
     found_bad protests_asked (λ db. refl) 7 (λ r. refl) old new over clean protest_in
-        (λ r. refl) ids it,
+        (λ r. refl) Protests told it,
   )
 
-  pub testers_bad : IsOver (λ schema. HasTable schema Testers) old → AreBadIn tester_in 2 TESTERS_ROWS.now old new ids
-      → AreFoundBad Testers old new ids
+  pub testers_bad : IsOver (λ schema. HasTable schema Testers) old
+      → AreBadIn tester_in Testers 2 TESTERS_ROWS.now old new told → AreFoundBad Testers old new told
   testers_bad over it = (
     it.serves,
+    it.which,
     found_bad testers_asked (λ db. refl) 2 (λ r. refl) old new over clean tester_in
-        (λ r. refl) ids it,
+        (λ r. refl) Testers told it,
   )
 
 -- only the store is a cause
@@ -431,16 +464,14 @@ serves_all (table ∷ tables) s opens = opens
 pub told_next : (tables : List HallTable) (table : HallTable) (schema : Schema) (old mid new : State)
     (bad : List BadRows) (rows : BadRows)
     → HasCleanDisk new → KeptTablesIn schema old mid → KeptTablesIn schema mid new → AreAllBad tables old.now.trees bad
-    → rows.table ≡ table
-    → AreFoundBad table mid new rows.rowids.items → AreToldBad (tables ++ table ∷ []) old new (bad ++ rows ∷ [])
-told_next tables table schema old mid new bad rows clean first second all is found =
+    → AreFoundBad table mid new rows → AreToldBad (tables ++ table ∷ []) old new (bad ++ rows ∷ [])
+told_next tables table schema old mid new bad rows clean first second all found =
     let was : HasCleanDisk mid = omega (arith, second.follows.lasts.clean, clean) in
     let opens = second.follows.opened clean found.0 in
     let same = first.same was opens in (
       serves_all (tables ++ table ∷ []) new found.0,
-      zip_more (λ t (r : BadRows). (r.table ≡ t) × AreBadRows old.now.trees (tree_of t) r.rowids.items) tables bad table
-          rows all
-          (is, subst (λ (d : Database). AreBadRows d.trees (tree_of table) rows.rowids.items) same found.1),
+      zip_more (λ t (r : BadRows). (r.table ≡ t) × AreBadRows old.now.trees (tree_of t) r) tables bad table rows all
+          (found.1, subst (λ (d : Database). AreBadRows d.trees (tree_of table) rows) same found.2),
     )
 
 -- ---- none
@@ -458,8 +489,9 @@ none_bad tree (r ∷ rows) none = go (is_record tree r) refl none (none_bad tree
     go false is none more = absurd cc
 
 -- where none is told, each row of the table is a record
-read_if_none : (trees : Trees) (tree : ℕ) (ids : List ℤ) → AreBadRows trees tree ids → ids ≡ [] → IsRead trees tree
-read_if_none trees tree ids it none =
+read_if_none : (trees : Trees) (tree : ℕ) (told : BadRows) → AreBadRows trees tree told → told.rowids.items ≡ []
+    → IsRead trees tree
+read_if_none trees tree told it none =
     let bad = filter (λ (r : Row). not (is_record tree r)) (trees tree) in
     let rows : length it.rows ≡ 0 = sym (length-map it.rows rowid) ∙ ap length (sym it.are)
     ∙ ap (λ (l : List ℤ). length (map Int l)) none in
@@ -470,7 +502,14 @@ all_if_none : (tables : List HallTable) (trees : Trees) (bad : List BadRows) →
 all_if_none [] trees bad are none = tt
 all_if_none (t ∷ tables) trees [] are none = absurd are
 all_if_none (t ∷ tables) trees (rows ∷ bad) are none =
-    (read_if_none trees (tree_of t) rows.rowids.items are.0.1 none.0, all_if_none tables trees bad are.1 none.1)
+    (read_if_none trees (tree_of t) rows are.0.1 none.0.0, all_if_none tables trees bad are.1 none.1)
+
+pub room_if_none : (tables : List HallTable) (trees : Trees) (told : List BadRows) → AreAllBad tables trees told
+    → AreNone told → HaveRoom tables trees
+room_if_none [] trees told are none = tt
+room_if_none (t ∷ tables) trees [] are none = absurd are
+room_if_none (t ∷ tables) trees (rows ∷ more) are none =
+    (are.0.1.room.0 none.0.1, room_if_none tables trees more are.1 none.1)
 
 pub none_in_hall : (trees : Trees) (bad : List BadRows) → AreAllBad all_tables trees bad → AreNone bad
     → AreAllRead hall_schema trees

@@ -1,5 +1,5 @@
--- The rows of the tables that are no record, by their rowids.
-use Rattle.std.specs.Prelude.{◌≡◌, ◌∷◌, ℕ, ℤ, List, [], map, not, is_some, Option, IsTrue}
+-- The rows of the tables that are no record, by their rowids, and the tables that take no more rows.
+use Rattle.std.specs.Prelude.{◌≡◌, ◌≢◌, ◌∷◌, ◌↔◌, false, ℕ, ℤ, pos, List, [], map, not, is_some, Option, IsTrue}
 use Rattle.std.specs.List.{AllByRecursion, AllZip, filter}
 use Rattle.std.specs.List.Sorted.{IsPermutation}
 use Rattle.sqlite.specs.declared.types.Value.TheVariants.{Int}
@@ -24,38 +24,59 @@ no_records read rows = filter (λ row. not (is_some (read row))) rows
 abbrev pub rowid_in : ℕ → Row → Option ℤ
 rowid_in at row = int_in (column row at)
 
+-- the greatest rowid that there is: where a row has it, none can be added
+abbrev pub last_rowid : ℤ
+last_rowid = pos 9223372036854775807
+
+-- none of the rows of an answer shows it in the column
+abbrev pub IsRoomLeft : ℕ → List Row → Type 0
+IsRoomLeft at rows = AllByRecursion (λ row. column row at ≢ Int last_rowid) rows
+
+-- no row of the table in this tree has it
+abbrev pub HasRoom : Trees → ℕ → Type 0
+HasRoom trees tree = AllByRecursion (λ row. rowid row ≢ Int last_rowid) (trees tree)
+
 -- the query's answer over the tables as they were, in a store that serves, has these numbers in a column of those rows
--- that are no record of this kind
-pub record AreBadIn {X : Type 0} (read : Row → Option X) (at : ℕ) (sql : List ℕ) (old new : State) (ids : List ℤ)
-    : Type 0 where
+-- that are no record of this kind; and the table is told as full where one of its numbers is the greatest rowid
+pub record AreBadIn {X : Type 0} (read : Row → Option X) (table : HallTable) (at : ℕ) (sql : List ℕ) (old new : State)
+    (bad : BadRows) : Type 0 where
   pub serves : IsTrue new.is_open
+  pub which : bad.table ≡ table
   pub rows : List Row
   pub shown : Shown sql [] old new rows
-  pub are : map Int ids ≡ map (λ row. column row at) (no_records read rows)
+  pub are : map Int bad.rowids.items ≡ map (λ row. column row at) (no_records read rows)
+  pub room : (bad.is_full ≡ false) ↔ IsRoomLeft at rows
 
--- these are the rowids of all rows of the table in this tree that are no record, in some order
-pub record AreBadRows (trees : Trees) (tree : ℕ) (ids : List ℤ) : Type 0 where
+-- these are the rowids of all rows of the table in this tree that are no record, in some order; and it is told as full
+-- where one of its rows has the greatest rowid
+pub record AreBadRows (trees : Trees) (tree : ℕ) (bad : BadRows) : Type 0 where
   pub rows : List Row
   pub same : IsPermutation (filter (λ row. not (is_record tree row)) (trees tree)) rows
-  pub are : map Int ids ≡ map rowid rows
+  pub are : map Int bad.rowids.items ≡ map rowid rows
+  pub room : (bad.is_full ≡ false) ↔ HasRoom trees tree
 
 -- so it is of the table as it was, in a store that serves
-abbrev pub AreFoundBad : HallTable → State → State → List ℤ → Type 0
-AreFoundBad table old new ids = IsTrue new.is_open × AreBadRows old.now.trees (tree_of table) ids
+abbrev pub AreFoundBad : HallTable → State → State → BadRows → Type 0
+AreFoundBad table old new bad =
+    IsTrue new.is_open × (bad.table ≡ table) × AreBadRows old.now.trees (tree_of table) bad
 
 -- the schema has each of the tables
 abbrev pub HasTables : List HallTable → Schema → Type 0
 HasTables tables schema = AllByRecursion (HasTable schema) tables
 
--- of each of the tables in turn, the rowids of all its rows that are no record
+-- of each of the tables in turn, the rowids of all its rows that are no record, and whether it is full
 abbrev pub AreAllBad : List HallTable → Trees → List BadRows → Type 0
 AreAllBad tables trees bad =
-    AllZip (λ table rows. (rows.table ≡ table) × AreBadRows trees (tree_of table) rows.rowids.items) tables bad
+    AllZip (λ table rows. (rows.table ≡ table) × AreBadRows trees (tree_of table) rows) tables bad
 
 -- so it is of the tables as they were, in a store that serves where it was asked for any
 abbrev pub AreToldBad : List HallTable → State → State → List BadRows → Type 0
 AreToldBad tables old new bad = Serves tables new × AreAllBad tables old.now.trees bad
 
--- no row is told
+-- no row is told, and no table as full
 abbrev pub AreNone : List BadRows → Type 0
-AreNone bad = AllByRecursion (λ rows. rows.rowids.items ≡ []) bad
+AreNone bad = AllByRecursion (λ rows. (rows.rowids.items ≡ []) × (rows.is_full ≡ false)) bad
+
+-- a row can be added to each of the tables
+abbrev pub HaveRoom : List HallTable → Trees → Type 0
+HaveRoom tables trees = AllByRecursion (λ table. HasRoom trees (tree_of table)) tables

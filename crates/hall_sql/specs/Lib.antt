@@ -40,5 +40,6 @@ pub mod FileCalls
 pub mod Losable
 pub mod ServedFiles
 pub mod Copied
+pub mod Sight
 pub mod BadRows
 pub mod OpenedRead

@@ -16,13 +16,14 @@ use Rattle.hall_store.specs.Maps.{empty_world}
 use Rattle.hall_store.specs.declared.fault.StoreFault.{StoreFault}
 use Rattle.hall_store.specs.declared.fault.StoreFault.TheVariants.{Failed}
 use Rattle.hall_sql.specs.AdoptCause.{AdoptFails, AdoptOldFails}
-use Rattle.hall_sql.specs.Tables.{IsOldSchema}
+use Rattle.hall_sql.specs.Tables.{IsAnalyzed, IsOldSchema}
 use Rattle.hall_sql.specs.Standing.{AddsNoOutcome, HasAdopted, HasAdoptedOld, HasDeclined, MakesAtMost}
 use Rattle.hall_sql.specs.Content.{content_of}
 use Rattle.hall_sql.specs.Stands.{StandsFor}
 use Rattle.hall_sql.specs.Migrate.{StandsForOld}
 use Rattle.hall_sql.specs.declared.open.OpenFault.{OpenFault}
-use Rattle.hall_sql.specs.declared.open.OpenFault.TheVariants.{Missing, Unopened, Old, Refused}
+use Rattle.hall_sql.specs.declared.open.OpenFault.TheVariants.{Missing, Unopened, Old, Analyzed, Refused}
+use Rattle.hall_sql.specs.declared.sight.Sight.{Sight}
 
 -- where the device was honest, the connection stands for what the log and the database file hold; no limit is set on
 -- the steps of its statements, so that no database is refused for one
@@ -94,18 +95,34 @@ WasOld was left = IsOldSchema was.now.schema
 abbrev pub WasNotOld : State → State → Type 0
 WasNotOld was left = ¬ IsOldSchema was.now.schema
 
--- they were others, and the fault has a cause
+-- there was one that ANALYZE makes
+abbrev pub WasAnalyzed : State → State → Type 0
+WasAnalyzed was left = IsAnalyzed was.now.schema
+
+-- neither was so, and the fault has a cause
 abbrev pub IsRefusedBy : StoreFault → State → State → Type 0
-IsRefusedBy fault was left = WasNotOld was left × (fault ≡ Failed → AdoptFails was left)
+IsRefusedBy fault was left =
+    WasNotOld was left × ¬ (WasAnalyzed was left) × (fault ≡ Failed → AdoptFails was left)
+
+-- asked for the database at the path, the files refused by the error, and then told that this is seen there
+abbrev pub RefusesSeen : {F : Type 0} → (F → List ℕ → Error → F → Type 0) → (F → List ℕ → Sight → F → Type 0)
+    → F → List ℕ → Error → Sight → F → Type 0
+RefusesSeen {F} refuses sees old path error sight new =
+    (refused : F) × refuses old path error refused × sees refused path sight new
 
 -- asked for the database at the path alone, the files refused by the error, or handed out one that was refused
 abbrev pub IsCauseAt : {F S : Type 0} → Ghosts S → (List ℕ → Image) → (F → List ℕ → Error → F → Type 0)
-    → (F → List ℕ → Held S → F → Type 0) → (F → Held S → F → Type 0) → F → List ℕ → F → OpenFault → Type 0
-IsCauseAt g image_at refuses opens closes old path new Missing = ⊥
-IsCauseAt g image_at refuses opens closes old path new (Unopened error) = refuses old path error new
-IsCauseAt g image_at refuses opens closes old path new Old =
+    → (F → List ℕ → Sight → F → Type 0) → (F → List ℕ → Held S → F → Type 0) → (F → Held S → F → Type 0) → F → List ℕ
+    → F → OpenFault → Type 0
+IsCauseAt g image_at refuses sees opens closes old path new Missing = ⊥
+IsCauseAt g image_at refuses sees opens closes old path new (Unopened error sight) =
+    RefusesSeen refuses sees old path error sight new
+IsCauseAt g image_at refuses sees opens closes old path new Old =
     IsHandedBack MakesAtMost WasOld g image_at opens closes old path new
-IsCauseAt g image_at refuses opens closes old path new (Refused fault) =
+IsCauseAt g image_at refuses sees opens closes old path new Analyzed =
+    IsHandedBack MakesAtMost (λ was left. WasNotOld was left × WasAnalyzed was left) g image_at opens closes old path
+    new
+IsCauseAt g image_at refuses sees opens closes old path new (Refused fault) =
     IsHandedBack MakesAtMost (IsRefusedBy fault) g image_at opens closes old path new
 
 -- the files told that there is a file at the path, and then handed out the database, of which this became
@@ -117,30 +134,30 @@ OpensThere {F} g image_at tells opens old path held new =
 -- the files told that there is no file at the path, and were asked nothing more; or that there is one, and the cause is
 -- that of its database
 abbrev pub IsCauseThere : {F S : Type 0} → Ghosts S → (List ℕ → Image) → (F → List ℕ → Bool → F → Type 0)
-    → (F → List ℕ → Error → F → Type 0) → (F → List ℕ → Held S → F → Type 0) → (F → Held S → F → Type 0)
-    → F → List ℕ → F → OpenFault → Type 0
-IsCauseThere g image_at tells refuses opens closes old path new Missing = tells old path true new
-IsCauseThere {F} g image_at tells refuses opens closes old path new cause =
-    (there : F) × tells old path false there × IsCauseAt g image_at refuses opens closes there path new cause
+    → (F → List ℕ → Error → F → Type 0) → (F → List ℕ → Sight → F → Type 0) → (F → List ℕ → Held S → F → Type 0)
+    → (F → Held S → F → Type 0) → F → List ℕ → F → OpenFault → Type 0
+IsCauseThere g image_at tells refuses sees opens closes old path new Missing = tells old path true new
+IsCauseThere {F} g image_at tells refuses sees opens closes old path new cause =
+    (there : F) × tells old path false there × IsCauseAt g image_at refuses sees opens closes there path new cause
 
 -- What came of asking for a database of the first version, which is there: the files told first whether there is one.
 -- Where there is none, or its tables are others, nothing was taken over, and no more was asked.
 abbrev pub IsOldAsked : {F S : Type 0} → Ghosts S → (List ℕ → Image) → (F → List ℕ → Bool → F → Type 0)
-    → (F → List ℕ → Error → F → Type 0) → (F → List ℕ → Held S → F → Type 0) → (F → Held S → F → Type 0)
-    → F → List ℕ → Result (Option (Held S)) OpenFault → F → Type 0
-IsOldAsked {F} g image_at tells refuses opens closes old path (Ok (Some held)) new =
+    → (F → List ℕ → Error → F → Type 0) → (F → List ℕ → Sight → F → Type 0) → (F → List ℕ → Held S → F → Type 0)
+    → (F → Held S → F → Type 0) → F → List ℕ → Result (Option (Held S)) OpenFault → F → Type 0
+IsOldAsked {F} g image_at tells refuses sees opens closes old path (Ok (Some held)) new =
     (there : F) × tells old path false there × OpensAs HasAdoptedOld g image_at opens there path held new
-IsOldAsked {F} g image_at tells refuses opens closes old path (Ok None) new =
+IsOldAsked {F} g image_at tells refuses sees opens closes old path (Ok None) new =
     tells old path true new
     ⊎ ((there : F) × tells old path false there
     × IsHandedBack AddsNoOutcome WasNotOld g image_at opens closes there path new)
-IsOldAsked {F} g image_at tells refuses opens closes old path (Err (Unopened error)) new =
-    (there : F) × tells old path false there × refuses there path error new
-IsOldAsked {F} g image_at tells refuses opens closes old path (Err (Refused fault)) new =
+IsOldAsked {F} g image_at tells refuses sees opens closes old path (Err (Unopened error sight)) new =
+    (there : F) × tells old path false there × RefusesSeen refuses sees there path error sight new
+IsOldAsked {F} g image_at tells refuses sees opens closes old path (Err (Refused fault)) new =
     (there : F) × tells old path false there
     × IsHandedBack AddsNoOutcome (λ was left. fault ≡ Failed → AdoptOldFails was left) g image_at opens closes there
     path new
-IsOldAsked g image_at tells refuses opens closes old path (Err other) new = ⊥
+IsOldAsked g image_at tells refuses sees opens closes old path (Err other) new = ⊥
 
 -- ---- what the definitions give
 

@@ -9,14 +9,15 @@ use Rattle.hall_store.specs.declared.fault.StoreFault.{StoreFault}
 use Rattle.hall_store.specs.declared.fault.StoreFault.TheVariants.{Failed}
 use Rattle.hall_sql.specs.AdoptCause.{AdoptFails, AdoptOldFails}
 use Rattle.hall_sql.specs.Migrate.{old_content_of}
-use Rattle.hall_sql.specs.Opened.{IsHandedBack, OpensAs, Starts, StartsOld}
+use Rattle.hall_sql.specs.Opened.{IsHandedBack, OpensAs, RefusesSeen, Starts, StartsOld, WasAnalyzed}
 use Rattle.hall_sql.specs.Standing.{AddsNoOutcome, HasAdopted, HasAdoptedOld}
 use Rattle.hall_sql.specs.Content.{content_of}
 use Rattle.hall_sql.specs.Tables.{IsHallSchema, IsOldSchema, no_schema}
 use Rattle.hall_sql.specs.declared.open.OpenFault.{OpenFault}
-use Rattle.hall_sql.specs.declared.open.OpenFault.TheVariants.{Missing, Unopened, Old as WasOld, Refused}
+use Rattle.hall_sql.specs.declared.open.OpenFault.TheVariants.{Missing, Unopened, Old as WasOld, Analyzed, Refused}
 use Rattle.hall_sql.specs.declared.open_read.FoundHall.{FoundHall}
 use Rattle.hall_sql.specs.declared.open_read.FoundHall.TheVariants.{Present, Old}
+use Rattle.hall_sql.specs.declared.sight.Sight.{Sight}
 
 -- the hall's tables stood in the connection, which was taken over
 abbrev pub HasFoundHall : State → State → Type 0
@@ -52,13 +53,16 @@ StartsToRead g image (Old held) = StartsOld image (old_content_of (state g held)
 -- the files told that there is no file at the path, and were asked nothing more; or that there is one, and refused by
 -- the error, or handed out a database that was refused for this cause, and took it back as it was left
 abbrev pub IsCauseToRead : {F S : Type 0} → Ghosts S → (List ℕ → Image) → (F → List ℕ → Bool → F → Type 0)
-    → (F → List ℕ → Error → F → Type 0) → (F → List ℕ → Held S → F → Type 0) → (F → Held S → F → Type 0)
-    → F → List ℕ → F → OpenFault → Type 0
-IsCauseToRead g image_at tells refuses opens closes old path new Missing = tells old path true new
-IsCauseToRead {F} g image_at tells refuses opens closes old path new (Unopened error) =
-    (there : F) × tells old path false there × refuses there path error new
-IsCauseToRead {F} g image_at tells refuses opens closes old path new (Refused fault) =
+    → (F → List ℕ → Error → F → Type 0) → (F → List ℕ → Sight → F → Type 0) → (F → List ℕ → Held S → F → Type 0)
+    → (F → Held S → F → Type 0) → F → List ℕ → F → OpenFault → Type 0
+IsCauseToRead g image_at tells refuses sees opens closes old path new Missing = tells old path true new
+IsCauseToRead {F} g image_at tells refuses sees opens closes old path new (Unopened error sight) =
+    (there : F) × tells old path false there × RefusesSeen refuses sees there path error sight new
+IsCauseToRead {F} g image_at tells refuses sees opens closes old path new Analyzed =
     (there : F) × tells old path false there
-    × IsHandedBack AddsNoOutcome (λ was left. fault ≡ Failed → RefusesToRead was left)
+    × IsHandedBack AddsNoOutcome WasAnalyzed g image_at opens closes there path new
+IsCauseToRead {F} g image_at tells refuses sees opens closes old path new (Refused fault) =
+    (there : F) × tells old path false there
+    × IsHandedBack AddsNoOutcome (λ was left. ¬ (WasAnalyzed was left) × (fault ≡ Failed → RefusesToRead was left))
     g image_at opens closes there path new
-IsCauseToRead g image_at tells refuses opens closes old path new WasOld = ⊥
+IsCauseToRead g image_at tells refuses sees opens closes old path new WasOld = ⊥

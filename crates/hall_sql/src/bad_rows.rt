@@ -1,12 +1,14 @@
-//! The rows of the tables that are no record, by their rowids.
-ghost use Rattle.std.specs.Prelude.{◌≡◌, ◌↔◌, ◌++◌, IsTrue, IfOk, IfSome, OnOk, [], ◌∷◌, true, None, is_some, map};
+//! The rows of the tables that are no record, by their rowids, and the tables that take no more rows.
+ghost use Rattle.std.specs.Prelude.{◌≡◌, ◌↔◌, ◌++◌, IsTrue, IfOk, IfSome, OnOk, [], ◌∷◌, true, false, None};
+ghost use Rattle.std.specs.Prelude.{is_some, map};
 ghost use Rattle.sqlite.specs.declared.types.Value.TheVariants.{Int};
 ghost use Rattle.sqlite.specs.Held.{state};
 ghost use Rattle.sqlite.specs.State.{HasCleanDisk};
 ghost use Rattle.sqlite_value.specs.Order.{column};
 ghost use Rattle.hall_store.specs.Store.{Fails};
 ghost use Rattle.hall_sql.specs.Asked.{IsAskedIn};
-ghost use Rattle.hall_sql.specs.BadRows.{AreBadIn, AreFoundBad, AreNone, AreToldBad, HasTables, no_records, rowid_in};
+ghost use Rattle.hall_sql.specs.BadRows.{AreBadIn, AreFoundBad, AreNone, AreToldBad, HasTables, IsRoomLeft, last_rowid};
+ghost use Rattle.hall_sql.specs.BadRows.{no_records, rowid_in};
 ghost use Rattle.hall_sql.specs.Cause.{IsAnyUnread, IsStoreCause, ReadFails};
 ghost use Rattle.hall_sql.specs.Standing.{IsOver, KeptAnyTables};
 ghost use Rattle.hall_sql.specs.Versions.{HasTable};
@@ -21,11 +23,13 @@ use hall_store::StoreFault;
 use sqlite::{Alter, Connection, Row};
 use std::alloc::Global;
 
-/// The rowids of those rows of a table that are no record.
+/// The rowids of those rows of a table that are no record, and whether a row has the greatest rowid that there is, so
+/// that none can be added.
 #[derive(Drop)]
 pub struct BadRows {
     pub table: HallTable,
     pub rowids: Vec<i64>,
+    pub is_full: bool,
 }
 
 const PEOPLE_ROWS: &str = "SELECT name, pass, roles, rowid FROM people ORDER BY rowid";
@@ -95,118 +99,149 @@ fn bad_among<T: Record + Drop>(
     Ok(ids)
 }
 
-/// The rowids of those rows of the query that are no record of this kind.
+/// Whether the rowid in the column is the greatest that there is.
+fn is_last(row: &Row, at: usize) -> Result<bool, StoreFault>
+    ensures last { IfOk result (λ last. IsTrue last ↔ (column row.now at ≡ Int last_rowid)) }
+    ensures unread { Fails (rowid_in at row.now ≡ None) result }
+{
+    match row.get::<i64>(at) {
+        Ok(id) => Ok(id == i64::MAX),
+        Err(error) => Err(fault_of(&error)),
+    }
+}
+
+/// Whether one of the rows has that rowid in the column.
+fn is_full(rows: &[Row], at: usize) -> Result<bool, StoreFault>
+    ensures full { IfOk result (λ full. (full ≡ false) ↔ IsRoomLeft at rows.now) }
+    ensures unread { Fails (IsAnyUnread (rowid_in at) rows.now) result }
+{
+    for row in rows {
+        if is_last(row, at)? {
+            return Ok(true);
+        }
+    }
+    Ok(false)
+}
+
+/// What is told of those rows of the query that are no record of this kind, and of its rowids.
 fn bad_in<S: Alter, T: Record + Drop>(
     conn: &mut Connection<S>,
     alloc: Global,
+    table: HallTable,
     sql: &str,
     at: usize,
-) -> Result<Vec<i64>, StoreFault>
+) -> Result<BadRows, StoreFault>
     requires asks { IsOver (IsAskedIn sql.now []) (state S.Store conn.old) }
     ensures rested { KeptAnyTables (state S.Store conn.old) (state S.Store conn.new) }
-    ensures bad { HasCleanDisk (state S.Store conn.new) → IfOk result (λ ids.
-        AreBadIn T.Record.read at sql.now (state S.Store conn.old) (state S.Store conn.new) ids.items) }
+    ensures bad { HasCleanDisk (state S.Store conn.new) → IfOk result (λ bad.
+        AreBadIn T.Record.read table at sql.now (state S.Store conn.old) (state S.Store conn.new) bad) }
     ensures cause { HasCleanDisk (state S.Store conn.new) → Fails
         (ReadFails (rowid_in at) sql.now [] (state S.Store conn.old) (state S.Store conn.new)) result }
 {
     let rows = ask(conn, sql, &[])?;
-    bad_among::<T>(alloc, &rows, at)
+    let is_full = is_full(&rows, at)?;
+    let rowids = bad_among::<T>(alloc, &rows, at)?;
+    Ok(BadRows {
+        table,
+        rowids,
+        is_full,
+    })
 }
 
-/// The rowids of those rows of the table of people that are no record.
-fn bad_people<S: Alter>(conn: &mut Connection<S>, alloc: Global) -> Result<Vec<i64>, StoreFault>
+/// What is told of the table of people.
+fn bad_people<S: Alter>(conn: &mut Connection<S>, alloc: Global) -> Result<BadRows, StoreFault>
     requires has { IsOver (λ schema. HasTable schema People) (state S.Store conn.old) }
     ensures rested { KeptAnyTables (state S.Store conn.old) (state S.Store conn.new) }
-    ensures bad { HasCleanDisk (state S.Store conn.new) → IfOk result (λ ids.
-        AreFoundBad People (state S.Store conn.old) (state S.Store conn.new) ids.items) }
+    ensures bad { HasCleanDisk (state S.Store conn.new) → IfOk result (λ bad.
+        AreFoundBad People (state S.Store conn.old) (state S.Store conn.new) bad) }
     ensures cause { HasCleanDisk (state S.Store conn.new)
         → Fails (IsStoreCause (state S.Store conn.old) (state S.Store conn.new)) result }
 {
-    bad_in::<S, Person>(conn, alloc, PEOPLE_ROWS, 3)
+    bad_in::<S, Person>(conn, alloc, HallTable::People, PEOPLE_ROWS, 3)
 }
 
-/// The rowids of those rows of the table of puzzles that are no record.
-fn bad_puzzles<S: Alter>(conn: &mut Connection<S>, alloc: Global) -> Result<Vec<i64>, StoreFault>
+/// What is told of the table of puzzles.
+fn bad_puzzles<S: Alter>(conn: &mut Connection<S>, alloc: Global) -> Result<BadRows, StoreFault>
     requires has { IsOver (λ schema. HasTable schema Puzzles) (state S.Store conn.old) }
     ensures rested { KeptAnyTables (state S.Store conn.old) (state S.Store conn.new) }
-    ensures bad { HasCleanDisk (state S.Store conn.new) → IfOk result (λ ids.
-        AreFoundBad Puzzles (state S.Store conn.old) (state S.Store conn.new) ids.items) }
+    ensures bad { HasCleanDisk (state S.Store conn.new) → IfOk result (λ bad.
+        AreFoundBad Puzzles (state S.Store conn.old) (state S.Store conn.new) bad) }
     ensures cause { HasCleanDisk (state S.Store conn.new)
         → Fails (IsStoreCause (state S.Store conn.old) (state S.Store conn.new)) result }
 {
-    bad_in::<S, PuzzleRow>(conn, alloc, PUZZLES_ROWS, 5)
+    bad_in::<S, PuzzleRow>(conn, alloc, HallTable::Puzzles, PUZZLES_ROWS, 5)
 }
 
-/// The rowids of those rows of the table of rounds that are no record.
-fn bad_rounds<S: Alter>(conn: &mut Connection<S>, alloc: Global) -> Result<Vec<i64>, StoreFault>
+/// What is told of the table of rounds.
+fn bad_rounds<S: Alter>(conn: &mut Connection<S>, alloc: Global) -> Result<BadRows, StoreFault>
     requires has { IsOver (λ schema. HasTable schema Rounds) (state S.Store conn.old) }
     ensures rested { KeptAnyTables (state S.Store conn.old) (state S.Store conn.new) }
-    ensures bad { HasCleanDisk (state S.Store conn.new) → IfOk result (λ ids.
-        AreFoundBad Rounds (state S.Store conn.old) (state S.Store conn.new) ids.items) }
+    ensures bad { HasCleanDisk (state S.Store conn.new) → IfOk result (λ bad.
+        AreFoundBad Rounds (state S.Store conn.old) (state S.Store conn.new) bad) }
     ensures cause { HasCleanDisk (state S.Store conn.new)
         → Fails (IsStoreCause (state S.Store conn.old) (state S.Store conn.new)) result }
 {
-    bad_in::<S, Round>(conn, alloc, ROUNDS_ROWS, 10)
+    bad_in::<S, Round>(conn, alloc, HallTable::Rounds, ROUNDS_ROWS, 10)
 }
 
-/// The rowids of those rows of the table of places of rounds that are no record.
-fn bad_places<S: Alter>(conn: &mut Connection<S>, alloc: Global) -> Result<Vec<i64>, StoreFault>
+/// What is told of the table of places of rounds.
+fn bad_places<S: Alter>(conn: &mut Connection<S>, alloc: Global) -> Result<BadRows, StoreFault>
     requires has { IsOver (λ schema. HasTable schema Places) (state S.Store conn.old) }
     ensures rested { KeptAnyTables (state S.Store conn.old) (state S.Store conn.new) }
-    ensures bad { HasCleanDisk (state S.Store conn.new) → IfOk result (λ ids.
-        AreFoundBad Places (state S.Store conn.old) (state S.Store conn.new) ids.items) }
+    ensures bad { HasCleanDisk (state S.Store conn.new) → IfOk result (λ bad.
+        AreFoundBad Places (state S.Store conn.old) (state S.Store conn.new) bad) }
     ensures cause { HasCleanDisk (state S.Store conn.new)
         → Fails (IsStoreCause (state S.Store conn.old) (state S.Store conn.new)) result }
 {
-    bad_in::<S, Place>(conn, alloc, PLACES_ROWS, 5)
+    bad_in::<S, Place>(conn, alloc, HallTable::Places, PLACES_ROWS, 5)
 }
 
-/// The rowids of those rows of the table of answers that are no record.
-fn bad_answers<S: Alter>(conn: &mut Connection<S>, alloc: Global) -> Result<Vec<i64>, StoreFault>
+/// What is told of the table of answers.
+fn bad_answers<S: Alter>(conn: &mut Connection<S>, alloc: Global) -> Result<BadRows, StoreFault>
     requires has { IsOver (λ schema. HasTable schema Answers) (state S.Store conn.old) }
     ensures rested { KeptAnyTables (state S.Store conn.old) (state S.Store conn.new) }
-    ensures bad { HasCleanDisk (state S.Store conn.new) → IfOk result (λ ids.
-        AreFoundBad Answers (state S.Store conn.old) (state S.Store conn.new) ids.items) }
+    ensures bad { HasCleanDisk (state S.Store conn.new) → IfOk result (λ bad.
+        AreFoundBad Answers (state S.Store conn.old) (state S.Store conn.new) bad) }
     ensures cause { HasCleanDisk (state S.Store conn.new)
         → Fails (IsStoreCause (state S.Store conn.old) (state S.Store conn.new)) result }
 {
-    bad_in::<S, AnswerRow>(conn, alloc, ANSWERS_ROWS, 8)
+    bad_in::<S, AnswerRow>(conn, alloc, HallTable::Answers, ANSWERS_ROWS, 8)
 }
 
-/// The rowids of those rows of the table of protests that are no record.
-fn bad_protests<S: Alter>(conn: &mut Connection<S>, alloc: Global) -> Result<Vec<i64>, StoreFault>
+/// What is told of the table of protests.
+fn bad_protests<S: Alter>(conn: &mut Connection<S>, alloc: Global) -> Result<BadRows, StoreFault>
     requires has { IsOver (λ schema. HasTable schema Protests) (state S.Store conn.old) }
     ensures rested { KeptAnyTables (state S.Store conn.old) (state S.Store conn.new) }
-    ensures bad { HasCleanDisk (state S.Store conn.new) → IfOk result (λ ids.
-        AreFoundBad Protests (state S.Store conn.old) (state S.Store conn.new) ids.items) }
+    ensures bad { HasCleanDisk (state S.Store conn.new) → IfOk result (λ bad.
+        AreFoundBad Protests (state S.Store conn.old) (state S.Store conn.new) bad) }
     ensures cause { HasCleanDisk (state S.Store conn.new)
         → Fails (IsStoreCause (state S.Store conn.old) (state S.Store conn.new)) result }
 {
-    bad_in::<S, ProtestRow>(conn, alloc, PROTESTS_ROWS, 7)
+    bad_in::<S, ProtestRow>(conn, alloc, HallTable::Protests, PROTESTS_ROWS, 7)
 }
 
-/// The rowids of those rows of the table of testers that are no record.
-fn bad_testers<S: Alter>(conn: &mut Connection<S>, alloc: Global) -> Result<Vec<i64>, StoreFault>
+/// What is told of the table of testers.
+fn bad_testers<S: Alter>(conn: &mut Connection<S>, alloc: Global) -> Result<BadRows, StoreFault>
     requires has { IsOver (λ schema. HasTable schema Testers) (state S.Store conn.old) }
     ensures rested { KeptAnyTables (state S.Store conn.old) (state S.Store conn.new) }
-    ensures bad { HasCleanDisk (state S.Store conn.new) → IfOk result (λ ids.
-        AreFoundBad Testers (state S.Store conn.old) (state S.Store conn.new) ids.items) }
+    ensures bad { HasCleanDisk (state S.Store conn.new) → IfOk result (λ bad.
+        AreFoundBad Testers (state S.Store conn.old) (state S.Store conn.new) bad) }
     ensures cause { HasCleanDisk (state S.Store conn.new)
         → Fails (IsStoreCause (state S.Store conn.old) (state S.Store conn.new)) result }
 {
-    bad_in::<S, Tester>(conn, alloc, TESTERS_ROWS, 2)
+    bad_in::<S, Tester>(conn, alloc, HallTable::Testers, TESTERS_ROWS, 2)
 }
 
-/// The rowids of those rows of the table that are no record.
+/// What is told of the table.
 fn bad_rows_of<S: Alter>(
     conn: &mut Connection<S>,
     alloc: Global,
     table: HallTable,
-) -> Result<Vec<i64>, StoreFault>
+) -> Result<BadRows, StoreFault>
     requires has { IsOver (λ schema. HasTable schema table) (state S.Store conn.old) }
     ensures rested { KeptAnyTables (state S.Store conn.old) (state S.Store conn.new) }
-    ensures bad { HasCleanDisk (state S.Store conn.new) → IfOk result (λ ids.
-        AreFoundBad table (state S.Store conn.old) (state S.Store conn.new) ids.items) }
+    ensures bad { HasCleanDisk (state S.Store conn.new) → IfOk result (λ bad.
+        AreFoundBad table (state S.Store conn.old) (state S.Store conn.new) bad) }
     ensures cause { HasCleanDisk (state S.Store conn.new)
         → Fails (IsStoreCause (state S.Store conn.old) (state S.Store conn.new)) result }
 {
@@ -232,7 +267,7 @@ fn add(bad: &mut Vec<BadRows>, rows: BadRows) -> Result<(), StoreFault>
     Ok(())
 }
 
-/// The rowids of those rows of each of the tables that are no record.
+/// What is told of each of the tables.
 pub(crate) fn bad_rows<S: Alter>(
     conn: &mut Connection<S>,
     alloc: Global,
@@ -247,24 +282,18 @@ pub(crate) fn bad_rows<S: Alter>(
 {
     let mut bad = Vec::new(alloc);
     for table in tables {
-        let rowids = bad_rows_of(conn, alloc, *table)?;
-        add(
-            &mut bad,
-            BadRows {
-                table: *table,
-                rowids,
-            },
-        )?;
+        let rows = bad_rows_of(conn, alloc, *table)?;
+        add(&mut bad, rows)?;
     }
     Ok(bad)
 }
 
-/// Whether no row is told.
+/// Whether no row is told, and no table as full.
 pub fn is_whole(bad: &[BadRows]) -> bool
     ensures { IsTrue result ↔ AreNone bad.now }
 {
     for rows in bad {
-        if !rows.rowids.is_empty() {
+        if rows.is_full || !rows.rowids.is_empty() {
             return false;
         }
     }

@@ -10,6 +10,7 @@ use crate::copied::Copied;
 use crate::given_back::GivenBack;
 use crate::open::PathFiles;
 use crate::path_calls::PathCalls;
+use crate::sight::{Sight, is_journal, needs_file};
 use os::RangeLock;
 use sqlite::{Connection, Error, ErrorCode, FileStore, Files, Leftover, Options, Start};
 use std::fs::{File, OpenOptions};
@@ -76,6 +77,7 @@ fn had<T, B: Start>(found: io::Result<T>) -> Result<T, Unopened<B>>
 /// The file at the path, to be read, and the lock that it may have: one that keeps all others away needs a file that
 /// may be written.
 fn opened(rt: &HostRuntime, path: &str) -> io::Result<(File, RangeLock)> {
+    needs_file(rt, path)?;
     match OpenOptions::new().read(true).write(true).open(rt, path) {
         Ok(file) => Ok((beside_streams(file)?, RangeLock::Exclusive)),
         Err(_) => Ok((File::open(rt, path)?, RangeLock::Shared)),
@@ -113,9 +115,10 @@ fn bytes_of(rt: &HostRuntime, mut file: &File) -> io::Result<Vec<u8>> {
 /// The bytes of the file at the path, with this ending: none where there is no file.
 fn bytes_beside(rt: &HostRuntime, path: &str, ending: &str) -> io::Result<Vec<u8>> {
     let beside = format!(in rt.alloc(); "{path}{ending}")?;
-    match fs::read(rt, beside.as_str()) {
+    match needs_file(rt, beside.as_str()) {
+        Ok(()) => fs::read(rt, beside.as_str()),
         Err(error) if error.kind() == ErrorKind::NotFound => Ok(Vec::new(rt.alloc())),
-        read => read,
+        Err(error) => Err(error),
     }
 }
 
@@ -123,9 +126,7 @@ fn bytes_beside(rt: &HostRuntime, path: &str, ending: &str) -> io::Result<Vec<u8
 fn copies<B: Start>(rt: &HostRuntime, path: &str, file: &File) -> io::Result<Files<Copied<B>>>
     ensures { IfOk result AreCopies }
 {
-    let journal = bytes_beside(rt, path, "-journal")?;
-    if journal.first().is_some_and(|byte| *byte != 0) {
-        // SQLite alone can play it back.
+    if is_journal(rt, format!(in rt.alloc(); "{path}-journal")?.as_str())? {
         return Err(ErrorKind::Unsupported.into());
     }
     let log = bytes_beside(rt, path, "-wal")?;
@@ -200,6 +201,9 @@ impl<B: Start> PathFiles<FileStore<Copied<B>>> for CopiedFiles<'_, B> {
     ghost refuses = { λ old path error new. ((old.start ≡ None) × (new.calls ≡ old.calls) × (error ≡ cannot_open))
         ⊎ WasCalled (PathCall.Open (Err error)) old.calls path new.calls };
 
+    ghost sees = { λ old path sight new. (new.start ≡ old.start)
+        × WasCalled (PathCall.Look sight) old.calls path new.calls };
+
     ghost closes = { λ old conn new. WasCalled PathCall.Close old.calls [] new.calls };
 
     fn is_missing(&mut self, path: &str) -> bool {
@@ -217,6 +221,10 @@ impl<B: Start> PathFiles<FileStore<Copied<B>>> for CopiedFiles<'_, B> {
         let (file, conn) = self.calls.open_copies(path)?;
         self.lock = Some(file);
         Ok(conn)
+    }
+
+    fn look(&mut self, path: &str) -> Sight {
+        self.calls.look(path)
     }
 
     fn close(&mut self, left: &mut Option<GivenBack<CopiedConnection<B>>>) {

@@ -31,6 +31,7 @@ mod same;
 mod scan;
 mod schema;
 mod served_files;
+mod sight;
 mod sql_store;
 mod system_files;
 mod tables;
@@ -53,6 +54,7 @@ pub use open::{
 pub use open_read::{FoundHall, open_to_read};
 pub use path_calls::{PathCall, PathCalls};
 pub use served_files::ServedFile;
+pub use sight::Sight;
 pub use sql_store::{Declined, SqlStore};
 pub use system_files::SystemFiles;
 pub use tables::HallTable;

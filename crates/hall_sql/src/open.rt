@@ -15,10 +15,12 @@ ghost use Rattle.sqlite_store.specs.FileStore.{view};
 ghost use Rattle.sqlite_trees.specs.View.{IsClean};
 ghost use Rattle.hall_sql.specs.Opened.{IsCauseAt, IsCauseThere, IsOldAsked, OpensAt, OpensThere, Starts, StartsOld};
 ghost use Rattle.hall_sql.specs.Opened.{MemoryServes, OneWorldIsFound};
+ghost use Rattle.hall_sql.specs.declared.open.OpenFault.TheVariants.{Unopened};
 
 use crate::given_back::GivenBack;
 use crate::old_store::{OldStore, Taken};
-use crate::schema::is_old_schema;
+use crate::schema::{is_analyzed, is_old_schema};
+use crate::sight::Sight;
 use crate::sql_store::{Declined, SqlStore};
 use hall_store::StoreFault;
 use sqlite::{Alter, Connection, Error, FileStore, MemStore};
@@ -31,10 +33,12 @@ use std::io;
 pub enum OpenFault {
     /// There is no file.
     Missing,
-    /// The files can't be opened, or hold no database.
-    Unopened(Error),
+    /// The files can't be opened, or hold no database; and what is seen of them then.
+    Unopened(Error, Sight),
     /// The database has the tables of the first version.
     Old,
+    /// The database has the tables that SQLite's `ANALYZE` makes.
+    Analyzed,
     /// The database has other tables than the hall's, or they can't be made.
     Refused(StoreFault),
 }
@@ -49,6 +53,7 @@ pub trait PathFiles<S: Alter> {
     ghost use Rattle.sqlite.specs.Held.{Held, state};
     ghost use Rattle.sqlite.specs.declared.error.Error.{Error};
     ghost use Rattle.hall_sql.specs.Opened.{IsImageFound};
+    ghost use Rattle.hall_sql.specs.declared.sight.Sight.{Sight};
 
     /// The log and the database file at a path.
     ghost image_at: { List ℕ → Image };
@@ -68,6 +73,9 @@ pub trait PathFiles<S: Alter> {
     /// Asked for the database at the path, they refuse by this error.
     ghost refuses: { Self → List ℕ → Error → Self → Type 0 };
 
+    /// Asked what is seen of the file at the path, they tell this.
+    ghost sees: { Self → List ℕ → Sight → Self → Type 0 };
+
     /// Given this database back, they let go of it.
     ghost closes: { Self → Held S → Self → Type 0 };
 
@@ -86,6 +94,10 @@ pub trait PathFiles<S: Alter> {
         ensures found { IfOk result (λ conn. IsImageFound (image_at path.now) (state S.Store conn)) }
         ensures refused { IfErr result (λ error. refuses self.old path.now error self.new) };
 
+    /// What is seen of the file at the path, and beside it.
+    fn look(&mut self, path: &str) -> Sight
+        ensures { sees self.old path.now result self.new };
+
     /// Takes a database back, as it was left, and leaves nothing in its place. No body can reach what it is given.
     fn close(&mut self, left: &mut Option<GivenBack<Connection<S>>>)
         ensures closed { IfSome left.old (λ back. closes self.old back.conn self.new) }
@@ -99,6 +111,18 @@ pub fn give_back<S: Alter + Drop, F: PathFiles<S>>(files: &mut F, conn: Connecti
     files.close(&mut Some(GivenBack::new(conn)));
 }
 
+/// Why there is no database at the path, by the error and by what is seen there.
+pub(crate) fn unopened<S: Alter, F: PathFiles<S>>(
+    files: &mut F,
+    path: &str,
+    error: Error,
+) -> OpenFault
+    ensures { (sight : Sight) × F.sees files.old path.now sight files.new × (result ≡ Unopened error sight) }
+{
+    let sight = files.look(path);
+    OpenFault::Unopened(error, sight)
+}
+
 /// The hall's tables in the files at the path, made there where there is none.
 pub fn open_at<S: Alter + Drop, F: PathFiles<S>>(
     files: &mut F,
@@ -108,19 +132,23 @@ pub fn open_at<S: Alter + Drop, F: PathFiles<S>>(
         OpensAt S.Store F.image_at F.opens files.old path.now store files.new) }
     ensures starts { IfOk result (λ store. Starts (F.image_at path.now) (content_of (state S.Store store))) }
     ensures cause { IfErr result
-        (IsCauseAt S.Store F.image_at F.refuses F.opens F.closes files.old path.now files.new) }
+        (IsCauseAt S.Store F.image_at F.refuses F.sees F.opens F.closes files.old path.now files.new) }
 {
     let conn = match files.open(path) {
         Ok(conn) => conn,
-        Err(error) => return Err(OpenFault::Unopened(error)),
+        Err(error) => return Err(unopened(files, path, error)),
     };
     let is_old = is_old_schema(conn.schema());
+    let is_analyzed = is_analyzed(conn.schema());
     match SqlStore::over(conn) {
         Ok(store) => Ok(store),
         Err(Declined { conn, fault }) => {
             give_back(files, conn);
             if is_old {
                 return Err(OpenFault::Old);
+            }
+            if is_analyzed {
+                return Err(OpenFault::Analyzed);
             }
             Err(OpenFault::Refused(fault))
         }
@@ -136,7 +164,7 @@ pub fn open_there<S: Alter + Drop, F: PathFiles<S>>(
         OpensThere S.Store F.image_at F.tells F.opens files.old path.now store files.new) }
     ensures starts { IfOk result (λ store. Starts (F.image_at path.now) (content_of (state S.Store store))) }
     ensures cause { IfErr result
-        (IsCauseThere S.Store F.image_at F.tells F.refuses F.opens F.closes files.old path.now files.new) }
+        (IsCauseThere S.Store F.image_at F.tells F.refuses F.sees F.opens F.closes files.old path.now files.new) }
 {
     if files.is_missing(path) {
         return Err(OpenFault::Missing);
@@ -149,7 +177,7 @@ pub fn open_old<S: Alter + Drop, F: PathFiles<S>>(
     files: &mut F,
     path: &str,
 ) -> Result<Option<OldStore<S>>, OpenFault>
-    ensures asked { IsOldAsked S.Store F.image_at F.tells F.refuses F.opens F.closes
+    ensures asked { IsOldAsked S.Store F.image_at F.tells F.refuses F.sees F.opens F.closes
         files.old path.now result files.new }
     ensures starts { IfOk result (λ found. IfSome found (λ store.
         StartsOld (F.image_at path.now) (old_content_of (state S.Store store)))) }
@@ -169,7 +197,7 @@ pub fn open_old<S: Alter + Drop, F: PathFiles<S>>(
                 Err(OpenFault::Refused(fault))
             }
         },
-        Err(error) => Err(OpenFault::Unopened(error)),
+        Err(error) => Err(unopened(files, path, error)),
     }
 }
 

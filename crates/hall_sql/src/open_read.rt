@@ -9,8 +9,8 @@ ghost use Rattle.hall_sql.specs.Tables.{IsOldSchema};
 
 use crate::adoption::has_nothing;
 use crate::old_store::{OldStore, Taken};
-use crate::open::{OpenFault, PathFiles, give_back};
-use crate::schema::is_old_schema;
+use crate::open::{OpenFault, PathFiles, give_back, unopened};
+use crate::schema::{is_analyzed, is_old_schema};
 use crate::sql_store::{Declined, SqlStore};
 use hall_store::StoreFault;
 use sqlite::{Alter, Connection};
@@ -77,19 +77,24 @@ pub fn open_to_read<S: Alter + Drop, F: PathFiles<S>>(
         OpensToRead S.Store F.image_at F.tells F.opens files.old path.now found files.new) }
     ensures starts { IfOk result (StartsToRead S.Store (F.image_at path.now)) }
     ensures cause { IfErr result
-        (IsCauseToRead S.Store F.image_at F.tells F.refuses F.opens F.closes files.old path.now files.new) }
+        (IsCauseToRead S.Store F.image_at F.tells F.refuses F.sees F.opens F.closes files.old path.now files.new) }
 {
     if files.is_missing(path) {
         return Err(OpenFault::Missing);
     }
-    match files.open(path) {
-        Ok(conn) => match take(conn) {
-            Ok(found) => Ok(found),
-            Err(Declined { conn, fault }) => {
-                give_back(files, conn);
-                Err(OpenFault::Refused(fault))
+    let conn = match files.open(path) {
+        Ok(conn) => conn,
+        Err(error) => return Err(unopened(files, path, error)),
+    };
+    let is_analyzed = is_analyzed(conn.schema());
+    match take(conn) {
+        Ok(found) => Ok(found),
+        Err(Declined { conn, fault }) => {
+            give_back(files, conn);
+            if is_analyzed {
+                return Err(OpenFault::Analyzed);
             }
-        },
-        Err(error) => Err(OpenFault::Unopened(error)),
+            Err(OpenFault::Refused(fault))
+        }
     }
 }

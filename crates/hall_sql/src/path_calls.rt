@@ -11,6 +11,7 @@ use crate::copied_files::{CopiedConnection, read_database};
 use crate::file_calls::{Noted, note};
 use crate::given_back::GivenBack;
 use crate::served_files::{ServedConnection, open_served};
+use crate::sight::{Sight, look_at};
 use http_server::Log;
 use sqlite::{Error, Start};
 use std::fs::File;
@@ -26,6 +27,8 @@ pub enum PathCall {
     Read(io::Result<Vec<u8>>),
     /// A database: it was handed out, or refused.
     Open(Result<(), Error>),
+    /// What is seen of a file that gave none.
+    Look(Sight),
     /// One was given back. It stands beside no path.
     Close,
 }
@@ -59,8 +62,9 @@ impl<'r> PathCalls<'r> {
     pub(crate) fn is_missing(&mut self, path: &str) -> bool
         ensures { WasCalled (PathCall.IsMissing result) self.old path.now self.new }
     {
-        let missing =
-            matches!(fs::open(self.rt, path), Err(error) if error.kind() == ErrorKind::NotFound);
+        // It isn't opened: a pipe would wait for its other end.
+        let found = fs::metadata(self.rt, path);
+        let missing = matches!(found, Err(error) if error.kind() == ErrorKind::NotFound);
         self.add(path, &PathCall::IsMissing(missing));
         missing
     }
@@ -120,6 +124,15 @@ impl<'r> PathCalls<'r> {
                 Err(error)
             }
         }
+    }
+
+    /// Asks the system what is seen of the file at the path, and beside it.
+    pub(crate) fn look(&mut self, path: &str) -> Sight
+        ensures { WasCalled (PathCall.Look result) self.old path.now self.new }
+    {
+        let sight = look_at(self.rt, path).unwrap_or(Sight::Nothing);
+        self.add(path, &PathCall::Look(sight));
+        sight
     }
 
     /// Takes a database back. Nobody can reach what it is given.

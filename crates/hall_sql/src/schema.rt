@@ -4,7 +4,7 @@ ghost use Rattle.std.specs.List.{AllByRecursion, AllZip};
 ghost use Rattle.sqlite_value.specs.Keys.{plain};
 ghost use Rattle.hall_sql.specs.Tables.{column_of, lent_reference, lent_table, lent_index, table_at};
 ghost use Rattle.hall_sql.specs.Tables.{AreLikeReferences, IsFoundIn, IsHallSchema, IsLikeReference, IsLikeTable};
-ghost use Rattle.hall_sql.specs.Tables.{IsOldSchema, IsWanted};
+ghost use Rattle.hall_sql.specs.Tables.{IsAnalyzed, IsNamedAmong, IsOldSchema, IsWanted};
 
 use crate::tables::{ALL, HallTable, INDEXES, IndexForm, OLD, ReferenceForm, TableForm, form_of};
 use sqlite_items::Items;
@@ -253,6 +253,25 @@ fn are_indexes(indexes: &[Index], forms: &[IndexForm]) -> bool
         return false;
     };
     is_index(index, form) && are_indexes(rest, others)
+}
+
+/// One of the tables has this name.
+fn is_named_among(tables: &[Table], name: &str) -> bool
+    ensures is { IsTrue result → IsNamedAmong tables.now name.now }
+    ensures only { IsNamedAmong tables.now name.now → IsTrue result }
+{
+    let [table, rest @ ..] = tables else {
+        return false;
+    };
+    is_name(&table.name, name) || is_named_among(rest, name)
+}
+
+/// The database has the table in which SQLite's `ANALYZE` keeps what it counted.
+pub(crate) fn is_analyzed(schema: &Schema) -> bool
+    ensures is { IsTrue result → IsAnalyzed schema.now }
+    ensures only { IsAnalyzed schema.now → IsTrue result }
+{
+    is_named_among(schema.tables.as_slice(), "sqlite_stat1")
 }
 
 /// The database has tables like the hall's six of the version before, without testers, and their indexes, and nothing

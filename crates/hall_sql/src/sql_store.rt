@@ -8,7 +8,7 @@ ghost use Rattle.hall_store.specs.Store.{Fails};
 ghost use Rattle.hall_store.specs.declared.fault.StoreFault.TheVariants.{Failed};
 ghost use Rattle.hall_sql.specs.AdoptCause.{AdoptFails};
 ghost use Rattle.hall_sql.specs.AllRead.{AreAllRead};
-ghost use Rattle.hall_sql.specs.BadRows.{AreNone, AreToldBad};
+ghost use Rattle.hall_sql.specs.BadRows.{AreNone, AreToldBad, HaveRoom};
 ghost use Rattle.hall_sql.specs.CanFail.{StoreCanFail};
 ghost use Rattle.hall_sql.specs.Cause.{IsStoreCause};
 ghost use Rattle.hall_sql.specs.FillCause.{TakeFails};
@@ -107,13 +107,15 @@ impl<S: Alter + Drop> SqlStore<S> {
         let _conn = &self.conn;
     }
 
-    /// The rows of the tables that are no record, table by table.
+    /// The rows of the tables that are no record, table by table, and whether one can be added to each.
     pub fn bad_rows(&mut self, alloc: Global) -> Result<Vec<BadRows>, StoreFault>
         ensures rested { KeptTables (state S.Store self.old) (state S.Store self.new) }
         ensures bad { HasCleanDisk (state S.Store self.new) → IfOk result (λ bad.
             AreToldBad all_tables (state S.Store self.old) (state S.Store self.new) bad.items) }
         ensures whole { HasCleanDisk (state S.Store self.new) → IfOk result (λ bad.
             AreNone bad.items → AreAllRead hall_schema (state S.Store self.old).now.trees) }
+        ensures room { HasCleanDisk (state S.Store self.new) → IfOk result (λ bad.
+            AreNone bad.items → HaveRoom all_tables (state S.Store self.old).now.trees) }
         ensures fault { Fails (StoreCanFail (state S.Store self.new)) result }
         ensures cause { HasCleanDisk (state S.Store self.new)
             → Fails (IsStoreCause (state S.Store self.old) (state S.Store self.new)) result }

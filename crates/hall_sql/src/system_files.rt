@@ -6,6 +6,7 @@ use crate::given_back::GivenBack;
 use crate::open::PathFiles;
 use crate::path_calls::PathCalls;
 use crate::served_files::{ServedConnection, ServedFile};
+use crate::sight::Sight;
 use sqlite::{Error, ErrorCode, FileStore, Start};
 use std::io;
 
@@ -56,6 +57,9 @@ impl<B: Start> PathFiles<FileStore<ServedFile<B>>> for SystemFiles<'_, B> {
     ghost refuses = { λ old path error new. ((old.start ≡ None) × (new.calls ≡ old.calls) × (error ≡ cannot_open))
         ⊎ WasCalled (PathCall.Open (Err error)) old.calls path new.calls };
 
+    ghost sees = { λ old path sight new. (new.start ≡ old.start)
+        × WasCalled (PathCall.Look sight) old.calls path new.calls };
+
     ghost closes = { λ old conn new. WasCalled PathCall.Close old.calls [] new.calls };
 
     fn is_missing(&mut self, path: &str) -> bool {
@@ -71,6 +75,10 @@ impl<B: Start> PathFiles<FileStore<ServedFile<B>>> for SystemFiles<'_, B> {
             Some(start) => self.calls.open(path, start),
             None => Err(Error::SqliteFailure(ErrorCode::CannotOpen)),
         }
+    }
+
+    fn look(&mut self, path: &str) -> Sight {
+        self.calls.look(path)
     }
 
     fn close(&mut self, left: &mut Option<GivenBack<ServedConnection<B>>>) {

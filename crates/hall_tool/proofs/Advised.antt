@@ -12,15 +12,18 @@ use Rattle.sqlite.specs.declared.error.ErrorCode.{ErrorCode}
 use Rattle.sqlite.specs.declared.error.ErrorCode.TheVariants as code
 use Rattle.hall_sql.specs.declared.open.OpenFault.{OpenFault}
 use Rattle.hall_sql.specs.declared.open.OpenFault.TheVariants as database
+use Rattle.hall_sql.specs.declared.sight.Sight.{Sight}
+use Rattle.hall_sql.specs.declared.sight.Sight.TheVariants as sight
 use Rattle.hall_store.specs.declared.fault.StoreFault.TheVariants as store
 use Rattle.hall_tool.specs.Advice.{AreFaultsTold, IsErrorText, IsFaultText, code_lines, database_lines, fault_lines}
-use Rattle.hall_tool.specs.Advice.{list_lines, open_lines}
+use Rattle.hall_tool.specs.Advice.{form_lines, list_lines, open_lines, place_lines}
 use Rattle.hall_tool.specs.declared.fault.CommandFault.{CommandFault}
 use Rattle.hall_tool.specs.declared.fault.CommandFault.TheVariants as command
 use Rattle.hall_tool.specs.declared.fault.ToolFault.TheVariants as tool
 use Rattle.hall_tool.specs.declared.advice.TheConstants.{NO_MEMORY, NO_DEVICE, NO_STORE, NO_LIST, NO_FILE, IN_USE}
 use Rattle.hall_tool.specs.declared.advice.TheConstants.{NO_DATABASE, OLD, OTHER_TABLES, FULL, UNREADABLE, NO_PORT}
 use Rattle.hall_tool.specs.declared.advice.TheConstants.{NO_CLIENT}
+use Rattle.hall_tool.specs.declared.advice.TheConstants.{NO_REGULAR, JOURNAL, UTF_16, VACUUMED, ANALYZED, NO_RULE}
 use Rattle.hall_tool.specs.declared.program.TheConstants.{NO_TEXT}
 
 -- the text after its first line, less the byte at its end
@@ -70,22 +73,35 @@ list_told : (kind : ErrorKind) → IsFaultText (list_lines kind)
 list_told OutOfMemory = no_memory_told
 list_told any = no_list_told
 
-code_told : (failure : ErrorCode) → IsFaultText (code_lines failure)
-code_told code.DatabaseBusy = is_told IN_USE.now refl refl refl
-code_told code.DatabaseCorrupt = no_database_told
-code_told code.NotADatabase = no_database_told
-code_told code.DiskFull = is_told FULL.now refl refl refl
-code_told code.OutOfMemory = no_memory_told
-code_told other = unreadable_told
+place_told : (seen : Sight) → IsFaultText (place_lines seen)
+place_told sight.NoFile = is_told NO_REGULAR.now refl refl refl
+place_told sight.Journal = is_told JOURNAL.now refl refl refl
+place_told any = unreadable_told
 
-open_told : (error : Error) → IsFaultText (open_lines error)
-open_told (SqliteFailure failure) = code_told failure
-open_told other = unreadable_told
+form_told : (seen : Sight) (other : List ℕ) → IsFaultText other → IsFaultText (form_lines seen other)
+form_told sight.Other other told = no_database_told
+form_told sight.Utf16 other told = is_told UTF_16.now refl refl refl
+form_told sight.Vacuumed other told = is_told VACUUMED.now refl refl refl
+form_told any other told = told
+
+code_told : (failure : ErrorCode) (seen : Sight) → IsFaultText (code_lines failure seen)
+code_told code.DatabaseBusy seen = is_told IN_USE.now refl refl refl
+code_told code.CannotOpen seen = place_told seen
+code_told code.DatabaseCorrupt seen = form_told seen NO_DATABASE.now no_database_told
+code_told code.NotADatabase seen = form_told seen NO_RULE.now (is_told NO_RULE.now refl refl refl)
+code_told code.DiskFull seen = is_told FULL.now refl refl refl
+code_told code.OutOfMemory seen = no_memory_told
+code_told other seen = unreadable_told
+
+open_told : (error : Error) (seen : Sight) → IsFaultText (open_lines error seen)
+open_told (SqliteFailure failure) seen = code_told failure seen
+open_told other seen = unreadable_told
 
 database_told : (fault : OpenFault) → IsFaultText (database_lines fault)
 database_told database.Missing = is_told NO_FILE.now refl refl refl
-database_told (database.Unopened error) = open_told error
+database_told (database.Unopened error seen) = open_told error seen
 database_told database.Old = is_told OLD.now refl refl refl
+database_told database.Analyzed = is_told ANALYZED.now refl refl refl
 database_told (database.Refused store.Memory) = no_memory_told
 database_told (database.Refused store.Failed) = is_told OTHER_TABLES.now refl refl refl
 
@@ -116,6 +132,12 @@ are_faults_told = record {
   file = has_words 15 NO_FILE.now (codes "no such database file") refl;
   in_use = has_words 6 IN_USE.now (codes "another program") refl;
   database = has_words 18 NO_DATABASE.now (codes "no whole SQLite database") refl;
+  no_regular = has_words 24 NO_REGULAR.now (codes "no regular file") refl;
+  journal = has_words 6 JOURNAL.now (codes "a journal") refl;
+  utf_16 = has_words 27 UTF_16.now (codes "UTF-16") refl;
+  vacuumed = has_words 19 VACUUMED.now (codes "auto_vacuum") refl;
+  analyzed = has_words 35 ANALYZED.now (codes "`ANALYZE`") refl;
+  no_rule = has_words 6 NO_RULE.now (codes "a row or table breaks") refl;
   old = has_words 25 OLD.now (codes "the first version: `hall migrate`") refl;
   tables = has_words 25 OTHER_TABLES.now (codes "other tables") refl;
   full = has_words 6 FULL.now (codes "the disk is full") refl;

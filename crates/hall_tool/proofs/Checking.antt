@@ -15,10 +15,12 @@ use Rattle.hall_store.specs.declared.fault.StoreFault.{StoreFault}
 use Rattle.hall_store.specs.declared.fault.StoreFault.TheVariants as store
 use Rattle.hall_store.proofs.Knowing.{kept_then}
 use Rattle.hall_sql.specs.AllRead.{AreAllRead}
+use Rattle.hall_sql.specs.BadRows.{HaveRoom}
 use Rattle.hall_sql.specs.CanFail.{CanFail, StoreCanFail}
 use Rattle.hall_sql.specs.Cause.{IsStoreCause}
 use Rattle.hall_sql.specs.CopyCause.{CannotCopy}
 use Rattle.hall_sql.specs.FillCause.{TablesFail}
+use Rattle.hall_sql.specs.Made.{all_tables}
 use Rattle.hall_sql.specs.Migrate.{MigrateFails, Migrates, old_content_of}
 use Rattle.hall_sql.specs.Standing.{IsBareDatabase, IsBareLike, KeptTables, KeptTablesIn}
 use Rattle.hall_sql.specs.Content.{content_of}
@@ -34,7 +36,7 @@ use Rattle.hall_sql.proofs.Wordings.{like_itself}
 use Rattle.hall_sql.proofs.WriteCauseLemmas.{cause_over}
 use Rattle.hall_desk.specs.Checked.{IsChecked}
 use Rattle.hall_desk.specs.declared.sanity.Checked.{Checked}
-use Rattle.hall_tool.specs.CheckRun.{CopyFails, CopyText, IsFoundWritten, OldFails, OldText, PresentText}
+use Rattle.hall_tool.specs.CheckRun.{CopyFails, CopyText, IsFoundWritten, OldFails, OldFound, PresentText}
 use Rattle.hall_tool.specs.Shown.{IsShownBy}
 use Rattle.hall_tool.specs.WorldText.{WorldText}
 use Rattle.hall_tool.specs.declared.ending.Ending.{Ending}
@@ -74,10 +76,11 @@ world_checked budget old new checked kept told honest =
 -- of the present version, after its rows were found to be records
 pub present_text : (budget : Option ℕ) (old mid new : State) (text : List ℕ) (status : ℕ)
     → KeptTables old mid → Kept (content_of mid) (content_of new) → (HasCleanDisk mid → IsTrue mid.is_open)
-    → (HasCleanDisk mid → AreAllRead hall_schema old.now.trees) → (HasCleanDisk new → IsTrue new.is_open)
+    → (HasCleanDisk mid → AreAllRead hall_schema old.now.trees) → (HasCleanDisk mid → HaveRoom all_tables old.now.trees)
+    → (HasCleanDisk new → IsTrue new.is_open)
     → WorldText budget (HasCleanDisk new) (content_of mid).world text status → PresentText budget old new text status
-present_text budget old mid new text status rested kept serves whole opens (checked, told, line, ends) = inr (
-  λ clean. (opens clean, whole (kept.honest clean)),
+present_text budget old mid new text status rested kept serves whole room opens (checked, told, line, ends) = inr (
+  λ clean. (opens clean, whole (kept.honest clean), room (kept.honest clean)),
   (
     checked,
     λ clean. (let was = kept.honest clean in
@@ -98,7 +101,7 @@ present_kept old mid new rested kept =
 pub old_text : (budget : Option ℕ) (old mid new : State) (text : List ℕ) (status : ℕ)
     → KeptTablesIn old_schema old mid → KeptTablesIn old_schema mid new → (HasCleanDisk mid → IsTrue mid.is_open)
     → (HasCleanDisk mid → AreAllRead old_schema old.now.trees)
-    → CopyText budget mid new text status → OldText budget old new text status
+    → CopyText budget mid new text status → OldFound budget old new text status
 old_text budget old mid new text status first second serves whole (checked, told, line, ends) =
     let before : HasCleanDisk new → HasCleanDisk mid = λ (clean : HasCleanDisk new). let was : HasCleanDisk mid = omega
     (arith, second.follows.lasts.clean, clean) in was in

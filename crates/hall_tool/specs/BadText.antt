@@ -1,5 +1,5 @@
--- What is told of rows that are no record.
-use Rattle.std.specs.Prelude.{ℕ, zero, suc, ℤ, ◌-◌, List, [], ◌++◌, length, take, codes, decimal}
+-- What is told of rows that are no record, and of tables that take no more rows.
+use Rattle.std.specs.Prelude.{ℕ, zero, suc, ℤ, ◌-◌, Bool, true, false, List, [], ◌++◌, length, take, codes, decimal}
 use Rattle.std.specs.Fmt.{signed_decimal}
 use Rattle.std.specs.List.{flat_map}
 use Rattle.hall_sql.specs.declared.bad_rows.BadRows.{BadRows}
@@ -28,10 +28,21 @@ rest_line table zero = []
 rest_line table (suc n) =
     codes "broken: and " ++ (decimal (suc n) ++ (codes " more rows are no record: " ++ on_own_line (table_name table)))
 
+-- the row that has the greatest rowid that there is, so that none can be added, on a line, if there is one
+abbrev pub full_line : HallTable → Bool → List ℕ
+full_line table false = []
+full_line table true =
+    codes "broken: no row can be added after this one: " ++ table_name table
+    ++ codes " rowid=9223372036854775807\n"
+
 -- the first 20 rows of the table that are no record, and how many more there are
-abbrev pub bad_table : BadRows → List ℕ
-bad_table bad =
+abbrev pub bad_lines : BadRows → List ℕ
+bad_lines bad =
     flat_map (row_line bad.table) (take 20 bad.rowids.items) ++ rest_line bad.table (length bad.rowids.items - 20)
+
+-- these, and the row after which none can be added
+abbrev pub bad_table : BadRows → List ℕ
+bad_table bad = bad_lines bad ++ full_line bad.table bad.is_full
 
 -- so of each table
 abbrev pub bad_text : List BadRows → List ℕ

@@ -1,12 +1,12 @@
 -- What is written of a database that is checked, how it is found, and how the command ends.
-use Rattle.std.specs.Prelude.{◌≡◌, ◌⊎◌, ℕ, List, Option, Result, Err, IsTrue}
+use Rattle.std.specs.Prelude.{◌≡◌, ◌⊎◌, ◌++◌, ℕ, List, Option, Result, Err, IsTrue}
 use Rattle.sqlite_trees.specs.declared.store.Store.{Ghosts}
 use Rattle.sqlite.specs.Held.{Held, state}
 use Rattle.sqlite.specs.State.{State, HasCleanDisk}
 use Rattle.hall_grid.specs.Device.{Tally}
 use Rattle.hall_store.specs.Store.{Kept}
 use Rattle.hall_sql.specs.AllRead.{AreAllRead}
-use Rattle.hall_sql.specs.BadRows.{AreNone, AreToldBad}
+use Rattle.hall_sql.specs.BadRows.{AreNone, AreToldBad, HaveRoom}
 use Rattle.hall_sql.specs.CanFail.{StoreCanFail}
 use Rattle.hall_sql.specs.Cause.{IsStoreCause}
 use Rattle.hall_sql.specs.CopyCause.{CannotCopy}
@@ -27,34 +27,41 @@ use Rattle.hall_tool.specs.Machine.{Files}
 use Rattle.hall_tool.specs.Shown.{IsShownBy}
 use Rattle.hall_tool.specs.Tasks.{command_end}
 use Rattle.hall_tool.specs.WorldText.{WorldText}
+use Rattle.hall_tool.specs.declared.check.TheConstants.{FIRST_VERSION}
 use Rattle.hall_tool.specs.declared.fault.CommandFault.{CommandFault}
 use Rattle.hall_tool.specs.declared.fault.CommandFault.TheVariants.{Database}
 use Rattle.hall_tool.specs.declared.fault.ToolFault.{ToolFault}
 use Rattle.hall_tool.specs.declared.fault.ToolFault.TheVariants.{Memory, Store}
 
--- some rows of the tables are no record, which are told, and 1
+-- some rows of the tables are no record, or some of the tables are full, which is told, and 1
 abbrev pub IsBadTold : List HallTable → State → State → List ℕ → ℕ → Type 0
 IsBadTold tables old new text status =
     (bad : List BadRows) × (¬ AreNone bad) × (HasCleanDisk new → AreToldBad tables old new bad)
     × (text ≡ bad_text bad) × (status ≡ 1)
 
--- what is written of tables of the present version: some rows are no record; or each is one, and their world, as it
--- was found, was checked
+-- what is written of tables of the present version: some rows are no record, or some tables are full; or each row is
+-- one, each table takes more, and their world, as it was found, was checked
 abbrev pub PresentText : Option ℕ → State → State → List ℕ → ℕ → Type 0
 PresentText budget old new text status =
     IsBadTold all_tables old new text status
-    ⊎ ((HasCleanDisk new → IsTrue new.is_open × AreAllRead hall_schema old.now.trees)
+    ⊎ ((HasCleanDisk new → IsTrue new.is_open × AreAllRead hall_schema old.now.trees
+    × HaveRoom all_tables old.now.trees)
     × WorldText budget (HasCleanDisk new) (content_of old).world text status)
 
 -- what is written of the world of tables of the version before, as they were found, which was checked in a copy
 abbrev pub CopyText : Option ℕ → State → State → List ℕ → ℕ → Type 0
 CopyText budget old new = WorldText budget (HasCleanDisk new) (old_content_of old).world
 
--- so of tables of the version before
-abbrev pub OldText : Option ℕ → State → State → List ℕ → ℕ → Type 0
-OldText budget old new text status =
+-- what is found in tables of the version before
+abbrev pub OldFound : Option ℕ → State → State → List ℕ → ℕ → Type 0
+OldFound budget old new text status =
     IsBadTold old_tables old new text status
     ⊎ ((HasCleanDisk new → AreAllRead old_schema old.now.trees) × CopyText budget old new text status)
+
+-- so it is written, after a line that tells the version
+abbrev pub OldText : Option ℕ → State → State → List ℕ → ℕ → Type 0
+OldText budget old new text status =
+    (found : List ℕ) × (text ≡ FIRST_VERSION.now ++ found) × OldFound budget old new found status
 
 -- what is written of a hall that was found, which was left so
 abbrev pub FoundText : {S : Type 0} → Ghosts S → Option ℕ → FoundHall S → Held S → List ℕ → ℕ → Type 0
@@ -108,6 +115,6 @@ IsCheckAt {G} {S} files contents db budget old new writer written result =
     written ended
     × (result ≡ command_end ended))
     ⊎ ((cause : OpenFault)
-    × IsCauseToRead files.store files.paths.image_at files.paths.tells files.paths.refuses files.paths.opens
-    files.paths.closes old db new cause
+    × IsCauseToRead files.store files.paths.image_at files.paths.tells files.paths.refuses files.paths.sees
+    files.paths.opens files.paths.closes old db new cause
     × (written ≡ writer) × (result ≡ Err (Database cause)))

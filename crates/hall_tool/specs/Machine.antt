@@ -123,16 +123,18 @@ HandsOutThere files = OpensThere files.store files.paths.image_at files.paths.te
 
 -- asked for the database at the path, they refused it, or it was refused, for this cause
 abbrev pub Refuses : {F S : Type 0} → Files F S → F → List ℕ → F → OpenFault → Type 0
-Refuses files = IsCauseAt files.store files.paths.image_at files.paths.refuses files.paths.opens files.paths.closes
+Refuses files =
+    IsCauseAt files.store files.paths.image_at files.paths.refuses files.paths.sees files.paths.opens
+    files.paths.closes
 
 -- so it was, or there is no file, as they told before
 abbrev pub RefusesThere : {F S : Type 0} → Files F S → F → List ℕ → F → OpenFault → Type 0
 RefusesThere files =
-    IsCauseThere files.store files.paths.image_at files.paths.tells files.paths.refuses files.paths.opens
-    files.paths.closes
+    IsCauseThere files.store files.paths.image_at files.paths.tells files.paths.refuses files.paths.sees
+    files.paths.opens files.paths.closes
 
 -- this came of asking for a database of the first version, which is there
 abbrev pub AskedForOld : {F S : Type 0} → Files F S → F → List ℕ → Result (Option (Held S)) OpenFault → F → Type 0
 AskedForOld files =
-    IsOldAsked files.store files.paths.image_at files.paths.tells files.paths.refuses files.paths.opens
-    files.paths.closes
+    IsOldAsked files.store files.paths.image_at files.paths.tells files.paths.refuses files.paths.sees
+    files.paths.opens files.paths.closes

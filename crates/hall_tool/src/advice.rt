@@ -1,9 +1,10 @@
 //! What is told of a fault.
 ghost use Rattle.std.specs.Prelude.{◌≡◌};
-ghost use Rattle.hall_tool.specs.Advice.{database_lines, fault_lines, list_lines, open_lines};
+ghost use Rattle.hall_tool.specs.Advice.{code_lines, database_lines, fault_lines, form_lines, list_lines, open_lines};
+ghost use Rattle.hall_tool.specs.Advice.{place_lines};
 
 use crate::fault::{CommandFault, ToolFault};
-use hall_sql::OpenFault;
+use hall_sql::{OpenFault, Sight};
 use hall_store::StoreFault;
 use sqlite::{Error, ErrorCode};
 use std::io::ErrorKind;
@@ -37,6 +38,30 @@ const OLD: &str = told!(
 
 const NO_DATABASE: &str = told!(
     "the file is no whole SQLite database: name another, or put back a copy"
+);
+
+const NO_REGULAR: &str = told!(
+    "the path leads to no regular file, but to a pipe, a folder or a device: name a database file"
+);
+
+const JOURNAL: &str = told!(
+    "a journal that SQLite left lies beside the file: read it once with sqlite3, and try again"
+);
+
+const UTF_16: &str = told!(
+    "the file's texts are UTF-16, which no hall reads: `.dump` it with sqlite3 into a new file"
+);
+
+const VACUUMED: &str = told!(
+    "the file has auto_vacuum, which no hall reads: `PRAGMA auto_vacuum = 0; VACUUM` ends it"
+);
+
+const ANALYZED: &str = told!(
+    "the database has tables that `ANALYZE` made: drop them (sqlite_stat1) with sqlite3"
+);
+
+const NO_RULE: &str = told!(
+    "a row or table breaks the file's own rules, as a lost reference: ask `PRAGMA foreign_key_check`"
 );
 
 const OTHER_TABLES: &str = told!(
@@ -86,21 +111,57 @@ fn database_lines(fault: &OpenFault) -> &'static str
 {
     match fault {
         OpenFault::Missing => NO_FILE,
-        OpenFault::Unopened(error) => open_lines(error),
+        OpenFault::Unopened(error, sight) => open_lines(error, *sight),
         OpenFault::Old => OLD,
+        OpenFault::Analyzed => ANALYZED,
         OpenFault::Refused(StoreFault::Memory) => NO_MEMORY,
         OpenFault::Refused(StoreFault::Failed) => OTHER_TABLES,
     }
 }
 
-fn open_lines(error: &Error) -> &'static str
-    ensures { result.now ≡ open_lines error.now }
+/// Of a database that can't be opened, by the error and by what is seen of its file.
+fn open_lines(error: &Error, sight: Sight) -> &'static str
+    ensures { result.now ≡ open_lines error.now sight }
 {
     match error {
-        Error::SqliteFailure(ErrorCode::DatabaseBusy) => IN_USE,
-        Error::SqliteFailure(ErrorCode::DatabaseCorrupt | ErrorCode::NotADatabase) => NO_DATABASE,
-        Error::SqliteFailure(ErrorCode::DiskFull) => FULL,
-        Error::SqliteFailure(ErrorCode::OutOfMemory) => NO_MEMORY,
+        Error::SqliteFailure(code) => code_lines(*code, sight),
         _ => UNREADABLE,
+    }
+}
+
+fn code_lines(code: ErrorCode, sight: Sight) -> &'static str
+    ensures { result.now ≡ code_lines code sight }
+{
+    match code {
+        ErrorCode::DatabaseBusy => IN_USE,
+        ErrorCode::CannotOpen => place_lines(sight),
+        ErrorCode::DatabaseCorrupt => form_lines(sight, NO_DATABASE),
+        ErrorCode::NotADatabase => form_lines(sight, NO_RULE),
+        ErrorCode::DiskFull => FULL,
+        ErrorCode::OutOfMemory => NO_MEMORY,
+        _ => UNREADABLE,
+    }
+}
+
+/// Of files that aren't opened, by what lies there.
+fn place_lines(sight: Sight) -> &'static str
+    ensures { result.now ≡ place_lines sight }
+{
+    match sight {
+        Sight::NoFile => NO_REGULAR,
+        Sight::Journal => JOURNAL,
+        _ => UNREADABLE,
+    }
+}
+
+/// Of files that hold no database, by what the header says; where it says nothing, as else.
+fn form_lines(sight: Sight, other: &'static str) -> &'static str
+    ensures { result.now ≡ form_lines sight other.now }
+{
+    match sight {
+        Sight::Other => NO_DATABASE,
+        Sight::Utf16 => UTF_16,
+        Sight::Vacuumed => VACUUMED,
+        _ => other,
     }
 }

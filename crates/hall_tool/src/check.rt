@@ -1,12 +1,13 @@
 //! The command `check`: whether a database file is a hall's, whole, and sane.
-ghost use Rattle.std.specs.Prelude.{◌≡◌, Err, IfOk, IfErr, IsErrOf, string_bytes};
+ghost use Rattle.std.specs.Prelude.{◌≡◌, ◌++◌, Err, IfOk, IfErr, IsErrOf, string_bytes};
 ghost use Rattle.sqlite.specs.Held.{state};
 ghost use Rattle.hall_store.specs.Store.{Kept};
 ghost use Rattle.hall_sql.specs.CanFail.{StoreCanFail};
 ghost use Rattle.hall_sql.specs.Content.{content_of};
 ghost use Rattle.hall_sql.specs.Standing.{KeptTablesIn};
 ghost use Rattle.hall_sql.specs.Tables.{old_schema};
-ghost use Rattle.hall_tool.specs.CheckRun.{CopyFails, CopyText, IsCheckAt, OldFails, OldText, PresentText};
+ghost use Rattle.hall_tool.specs.CheckRun.{CopyFails, CopyText, IsCheckAt, OldFails, OldFound, OldText, PresentText};
+ghost use Rattle.hall_tool.specs.declared.check.TheConstants.{FIRST_VERSION};
 ghost use Rattle.hall_tool.specs.Machine.{files_of};
 ghost use Rattle.hall_tool.specs.Shown.{IsShownBy};
 ghost use Rattle.hall_tool.specs.Status.{IsOfMemoryOrStore};
@@ -26,8 +27,12 @@ use hall_sql::{
 };
 use hall_store::WholeStore;
 use sqlite::Alter;
-use std::alloc::Global;
+use std::alloc::{AllocError, Global};
 use std::io::Write;
+
+/// What is told of a file of the version before, ahead of all else.
+const FIRST_VERSION: &str =
+    "a file of the first version: `hall migrate` copies its rows into one that can be served\n";
 
 /// What is written of the world that the store keeps, which stays.
 fn world_ending<S: WholeStore>(
@@ -98,14 +103,14 @@ fn copied_ending<S: Alter + Drop>(
     }
 }
 
-/// What is written of the tables of the version before.
-fn old_ending<S: Alter + Drop>(
+/// What is found in the tables of the version before.
+fn old_found<S: Alter + Drop>(
     alloc: Global,
     store: &mut OldStore<S>,
     budget: Option<u64>,
 ) -> Result<Ending, ToolFault>
     ensures rested { KeptTablesIn old_schema (state S.Store store.old) (state S.Store store.new) }
-    ensures text { IfOk result (λ ending. OldText budget (state S.Store store.old) (state S.Store store.new)
+    ensures text { IfOk result (λ ending. OldFound budget (state S.Store store.old) (state S.Store store.new)
         (string_bytes ending.line) ending.status) }
     ensures fault { IsErrOf result ToolFault.Store → OldFails (state S.Store store.old) (state S.Store store.new) }
     ensures cause { IfErr result IsOfMemoryOrStore }
@@ -121,6 +126,37 @@ fn old_ending<S: Alter + Drop>(
         line: bad_text(alloc, &bad)?,
         status: BROKEN,
     })
+}
+
+/// The same, after a line that tells the version.
+fn versioned(alloc: Global, found: &Ending) -> Result<Ending, AllocError>
+    ensures line { IfOk result (λ ending. string_bytes ending.line
+        ≡ FIRST_VERSION.now ++ string_bytes found.now.line) }
+    ensures status { IfOk result (λ ending. ending.status ≡ found.now.status) }
+{
+    let line = format!(in alloc; "{FIRST_VERSION}{}", found.line.as_str())?;
+    Ok(Ending {
+        line,
+        status: found.status,
+    })
+}
+
+/// What is written of the tables of the version before.
+fn old_ending<S: Alter + Drop>(
+    alloc: Global,
+    store: &mut OldStore<S>,
+    budget: Option<u64>,
+) -> Result<Ending, ToolFault>
+    ensures rested { KeptTablesIn old_schema (state S.Store store.old) (state S.Store store.new) }
+    ensures text { IfOk result (λ ending. OldText budget (state S.Store store.old) (state S.Store store.new)
+        (string_bytes ending.line) ending.status) }
+    ensures fault { IsErrOf result ToolFault.Store → OldFails (state S.Store store.old) (state S.Store store.new) }
+    ensures cause { IfErr result IsOfMemoryOrStore }
+{
+    match old_found(alloc, store, budget) {
+        Ok(found) => Ok(versioned(alloc, &found)?),
+        Err(fault) => Err(fault),
+    }
 }
 
 /// Writes what was found.

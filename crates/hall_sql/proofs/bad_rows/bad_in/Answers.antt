@@ -1,5 +1,4 @@
 use Rattle.std.proofs.Common.{inl, inr, [], arith}
-use Rattle.std.proofs.lemmas.Result.{IfErr-weaker}
 use Rattle.sqlite.specs.Held.{state}
 use Rattle.sqlite.specs.State.{HasCleanDisk}
 use Rattle.hall_sql.proofs.AskedLemmas.{asked_cause}
@@ -34,8 +33,20 @@ returns-in_err-rows-clause-cause g c clean =
     inl (asked_cause c.args.sql.now [] old (state g.S.Store c.ask.new.conn) it.0 over.fits
     over.tabled was it.1 it.2))
 
-pub returns-clause-cause : goal.returns-clause-cause
-returns-clause-cause g c clean =
-    IfErr-weaker c.bad_among.result _ _ (λ fault unread failed.
-    inr (c.in_ok-rows.rows.items, c.in_ok-rows.ensures.shown clean, rw c.deref.ensures.value at (unread failed)))
-    c.bad_among.ensures.unread
+pub returns-in_err-is_full-clause-cause : goal.returns-in_err-is_full-clause-cause
+returns-in_err-is_full-clause-cause g c clean =
+    fails_as c.from_residual-in_err-is_full.result _ _ c.from_residual-in_err-is_full.ensures.1 (λ failed.
+    inr (
+      c.in_ok-rows.rows.items,
+      c.in_ok-rows.ensures.shown clean,
+      rw c.deref.ensures.value at (c.in_err-is_full.ensures.unread failed),
+    ))
+
+pub returns-in_err-rowids-clause-cause : goal.returns-in_err-rowids-clause-cause
+returns-in_err-rowids-clause-cause g c clean =
+    fails_as c.from_residual-in_err-rowids.result _ _ c.from_residual-in_err-rowids.ensures.1 (λ failed.
+    inr (
+      c.in_ok-rows.rows.items,
+      c.in_ok-rows.ensures.shown clean,
+      rw c.deref-2.ensures.value at (c.in_err-rowids.ensures.unread failed),
+    ))

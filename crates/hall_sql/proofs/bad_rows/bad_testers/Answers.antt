@@ -17,7 +17,7 @@ returns-clause-bad g c clean =
       (c.bad_in.ensures.rested has.schema has.tabled).follows.lasts.clean,
       clean,
     ) in
-    IfOk-weaker c.bad_in.result _ _ (λ ids it. testers_bad old (state g.S.Store c.bad_in.new.conn) was ids.items has it)
+    IfOk-weaker c.bad_in.result _ _ (λ bad it. testers_bad old (state g.S.Store c.bad_in.new.conn) was bad has it)
     (c.bad_in.ensures.bad clean)
 
 pub returns-clause-cause : goal.returns-clause-cause

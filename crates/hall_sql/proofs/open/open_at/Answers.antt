@@ -21,8 +21,8 @@ returns-then-is_old-clause-cause g c = record {
   closed = search rules;
 }
 
-pub returns-else-is_old-clause-cause : goal.returns-else-is_old-clause-cause
-returns-else-is_old-clause-cause g c = record {
+pub returns-then-is_analyzed-clause-cause : goal.returns-then-is_analyzed-clause-cause
+returns-then-is_analyzed-clause-cause g c = record {
   was = c.in-Ok.conn;
   left = c.in-Err-over.field-0.conn;
   between = c.open.new.self;
@@ -30,6 +30,19 @@ returns-else-is_old-clause-cause g c = record {
   found = c.in-Ok.ensures.found;
   declined = c.in-Err-over.ensures.declined;
   stops = c.in-Err-over.ensures.stops;
-  cause = λ clean. (search rules, c.in-Err-over.ensures.cause clean);
+  cause = λ clean. (search rules, search rules);
+  closed = search rules;
+}
+
+pub returns-else-is_analyzed-clause-cause : goal.returns-else-is_analyzed-clause-cause
+returns-else-is_analyzed-clause-cause g c = record {
+  was = c.in-Ok.conn;
+  left = c.in-Err-over.field-0.conn;
+  between = c.open.new.self;
+  opened = c.in-Ok.ensures.opened;
+  found = c.in-Ok.ensures.found;
+  declined = c.in-Err-over.ensures.declined;
+  stops = c.in-Err-over.ensures.stops;
+  cause = λ clean. (search rules, search rules, c.in-Err-over.ensures.cause clean);
   closed = search rules;
 }

@@ -25,7 +25,7 @@ returns-then-is_whole-clause-text g c =
     IfOk-weaker c.world_ending.result _ _ (λ ending (serves, told). present_text c.args.budget old mid new
     (string_bytes ending.line) ending.status c.in-Ok.ensures.rested c.world_ending.ensures.kept
     (λ clean. (c.in-Ok.ensures.bad clean).0) (λ clean. c.in-Ok.ensures.whole clean (none.0 refl))
-    serves told) c.world_ending.ensures.text
+    (λ clean. c.in-Ok.ensures.room clean (none.0 refl)) serves told) c.world_ending.ensures.text
 
 pub returns-in-Err-clause-fault : goal.returns-in-Err-clause-fault
 returns-in-Err-clause-fault g c is = c.in-Err.ensures.fault (store_failed c.in-Err.fault c.told.result c.told.ensures

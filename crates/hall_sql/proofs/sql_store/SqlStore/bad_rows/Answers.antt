@@ -4,12 +4,12 @@ use Rattle.hall_store.specs.Store.{Fails}
 use Rattle.sqlite.specs.Held.{state}
 use Rattle.sqlite.specs.State.{HasCleanDisk}
 use Rattle.hall_sql.specs.AllRead.{AreAllRead}
-use Rattle.hall_sql.specs.BadRows.{AreNone, AreToldBad}
+use Rattle.hall_sql.specs.BadRows.{AreNone, AreToldBad, HaveRoom}
 use Rattle.hall_sql.specs.Cause.{IsStoreCause}
 use Rattle.hall_sql.specs.Made.{all_tables}
 use Rattle.hall_sql.specs.Tables.{hall_schema}
 use Rattle.hall_sql.proofs.StoreLemmas.{rested_hall}
-use Rattle.hall_sql.proofs.BadRowLemmas.{none_in_hall}
+use Rattle.hall_sql.proofs.BadRowLemmas.{none_in_hall, room_if_none}
 use Rattle.hall_sql.proofs.FailLemmas.{store_fault}
 use Rattle.hall_sql.proofs.sql_store.SqlStore.bad_rows.Goals as goal
 
@@ -32,6 +32,14 @@ returns-clause-whole g c =
     subst (λ s. HasCleanDisk new → IfOk c.bad_rows.result (λ bad. AreNone bad.items
     → AreAllRead hall_schema (state g.S.Store s).now.trees)) c.self.view_is
     (λ clean. IfOk-weaker c.bad_rows.result _ _ (λ bad told none. none_in_hall _ bad.items told.1 none)
+    (c.bad_rows.ensures.bad clean))
+
+pub returns-clause-room : goal.returns-clause-room
+returns-clause-room g c =
+    let new = state g.S.Store c.bad_rows.new.conn in
+    subst (λ s. HasCleanDisk new → IfOk c.bad_rows.result (λ bad. AreNone bad.items
+    → HaveRoom all_tables (state g.S.Store s).now.trees)) c.self.view_is
+    (λ clean. IfOk-weaker c.bad_rows.result _ _ (λ bad told none. room_if_none all_tables _ bad.items told.1 none)
     (c.bad_rows.ensures.bad clean))
 
 pub returns-clause-fault : goal.returns-clause-fault
