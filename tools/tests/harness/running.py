@@ -27,12 +27,23 @@ BEFORE_ITS_START, ROUNDS = ("a draft is released", "a round before its start"), 
 ENDINGS = ("", "-wal")
 
 
+def asked(*words):
+    """(standard output, exit status, the lines of standard error)"""
+    hall_asked = [os.environ.get("HALL_COMMAND", f"{ROOT}/hall"), *words]
+    ran = subprocess.run(hall_asked, stdin=subprocess.DEVNULL, capture_output=True, timeout=120, check=False)
+    return ran.stdout, ran.returncode, ran.stderr.decode().splitlines()
+
+
 def hall(*words):
     """(standard output, exit status, whether a line after `fault` says what to do)"""
-    asked = [os.environ.get("HALL_COMMAND", f"{ROOT}/hall"), *words]
-    ran = subprocess.run(asked, stdin=subprocess.DEVNULL, capture_output=True, timeout=120, check=False)
-    told = ran.stderr.decode().splitlines()
-    return ran.stdout, ran.returncode, len(told) == 2 and told[0] == "fault" and len(told[1]) > 20
+    output, status, told = asked(*words)
+    return output, status, len(told) == 2 and told[0] == "fault" and len(told[1]) > 20
+
+
+def advised(*words):
+    """(exit status, what to do about the fault that is told)"""
+    _, status, told = asked(*words)
+    return status, told[1] if len(told) == 2 and told[0] == "fault" else told
 
 
 def played_round(program, *words):
