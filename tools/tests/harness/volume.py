@@ -42,8 +42,10 @@ class Volume:
         self.switch.__exit__(*of)
 
     def make(self):
-        for it in OWN:
+        for it in (*OWN, f"{self.switch.room}/bin"):
             os.makedirs(it, exist_ok=True)
+        # systemd isn't there: `Machine.begin_unit` does what a unit says.
+        os.symlink("/bin/true", f"{self.switch.room}/bin/systemctl")
         for name in ("one", "two", "three"):
             self.begin_glusterd(self.switch.add(name, OWN))
         one = self["one"]
@@ -83,7 +85,8 @@ class Volume:
 
     def is_whole(self):
         """Whether no copy lacks anything, as `hall-status` says."""
-        ran = self["two"].run(f"{ROOT}/examples/running/pair/hall-status", env={**os.environ, "HALL_PAIR": "/none"})
+        env = {**os.environ, "HALL_PAIR": "/none", "PATH": f"{self.switch.room}/bin:{os.environ['PATH']}"}
+        ran = self["two"].run(f"{ROOT}/examples/running/pair/hall-status", env=env)
         return ran.returncode == 0
 
     def healed(self):
