@@ -3,9 +3,9 @@
 Where the programs are, each file passes their own checks. Of two machines that lose each other a witness lets one go
 on. A proxy before two halls sends all to the one that answers, and goes on with it. Copies that are made each second of
 a hall that serves are whole, and lack no more than the last seconds. On a volume of GlusterFS one machine dies, and one
-is cut off: nothing that entrants were told is lost; with loose locks something is. Of a hall that is cut off again and
-again none is left that answers. What starts daemons of the system, or goes by seconds, is run with --all alone, on a
-machine that has its processors for it.
+is cut off, with a crowd or idle: nothing that entrants were told is lost; with loose locks something is. Of a hall that
+is cut off again and again none is left that answers. What starts daemons of the system, or goes by seconds, is run with
+--all alone, on a machine that has its processors for it. Two disks by DRBD are tried by test_second_disks.py.
 """
 import contextlib
 import os
@@ -27,11 +27,17 @@ from harness.pair import PAIR, Served, after, need_parts, text_of, written
 from harness.volume import Volume, waited
 
 SCRIPTS = ("fence.sh", "unfence.sh", "takeover.sh", "gluster.sh", "ship.sh", "hall-status")
+UNITS = ("hall-pair.service", "hall-disk.service", "hall-volume.service", "hall-ship.service")
 DRBDADM = "/usr/lib/drbd/drbdadm-84"
 # So many seconds a copy may lack, on a machine that has its processors for it; and so often its maker is killed.
 WINDOW, KILLS = 5, 4
 # So often the machine that serves is cut off, for so many seconds; a hall that is silent after is asked so often.
 CUTS, CUT_OFF, STILL = 20, 12, 10
+# So often two halls begin at once.
+TURNS = 3
+# Asks for a list, and writes the status.
+READ = ("curl", "-s", "-o", "/dev/null", "-m", "4", "-H", "Hall-Key: eve-key-eve", "-w", "%{http_code}",
+        "http://127.0.0.1:8080/rounds")
 
 
 def ran(*words, **how):
@@ -48,20 +54,22 @@ def test_scripts_are_sound(name):
 
 def test_units_are_sound(room):
     need("systemd-analyze")
-    places = {"hall-takeover": f"{PAIR}/takeover.sh", "hall-ship": f"{PAIR}/ship.sh"}
-    for name in ("hall-pair.service", "hall-disk.service", "hall-volume.service", "hall-ship.service"):
-        text = text_of(name).replace("glusterd.service", "hall-disk.service").replace("/usr/sbin/glusterfs", "/bin/true")
+    # The units of DRBD and GlusterFS may not be there, nor are they asked of.
+    places = {"/usr/local/sbin/hall-takeover": f"{PAIR}/takeover.sh", "/usr/local/sbin/hall-ship": f"{PAIR}/ship.sh",
+              "/usr/sbin/glusterfs": "/bin/true", "drbd.service network": "hall-disk.service network",
+              "Requires=drbd.service": "Requires=hall-disk.service", "glusterd.service": "hall-disk.service"}
+    for name in UNITS:
+        text = text_of(name)
         for installed, source in places.items():
-            text = text.replace(f"/usr/local/sbin/{installed}", source)
-        # DRBD's own unit and GlusterFS's may not be there, nor are they asked of.
-        written(f"{room}/{name}", text.replace("drbd.service", "hall-disk.service") if "pair" in name else text)
+            text = text.replace(installed, source)
+        written(f"{room}/{name}", text)
     with open(f"{running.ROOT}/examples/running/hall.service", encoding="ascii") as file:
         written(f"{room}/hall.service", file.read().replace("/usr/local/bin/hall", "/bin/true"))
     env = {**os.environ, "SYSTEMD_UNIT_PATH": f"{room}:/lib/systemd/system"}
     for conf in ("hall-pair.conf", "hall-gluster.conf"):
         os.makedirs(f"{room}/hall.service.d", exist_ok=True)
         shutil.copy(f"{PAIR}/{conf}", f"{room}/hall.service.d/pair.conf")
-        for unit in ("hall.service", "hall-pair.service", "hall-disk.service", "hall-volume.service", "hall-ship.service"):
+        for unit in ("hall.service", *UNITS):
             said = ran("systemd-analyze", "verify", "--man=no", f"{room}/{unit}", env=env)
             check(f"what systemd says of {unit} with {conf}", said, (0, ""))
 
@@ -387,12 +395,26 @@ def parts(quiet, program):
     need_parts()
 
 
+def test_locks_hold_over_two_mounts(parts, db, program, room):
+    """Who isn't the one that serves is refused, on either machine; of two that begin at once one serves."""
+    with Volume(room) as volume:
+        served = Served(volume, program, db)
+        for name in ("one", "two"):
+            for words in (("serve", "--port", "8081"), ("check",)):
+                it = volume[name].run(program, words[0], "--db", served.path(name), *words[1:])
+                check(f"{words[0]} on {name}", (it.returncode, "open: end it" in it.stderr), (3, True))
+        for _ in range(TURNS):
+            served.end()
+            for name in ("one", "two"):
+                served.begin_hall(name)
+            waited("one of both serves", lambda: served.answers("one") or served.answers("two"))
+            time.sleep(2)
+            check("how many serve", sum(served.answers(name) for name in ("one", "two")), 1)
+
+
 def test_a_machine_with_a_volume_dies(parts, db, program, room):
     with Volume(room) as volume:
         served = Served(volume, program, db)
-        for words in (("serve", "--port", "8081"), ("check",)):
-            ran_there = volume["two"].run(program, words[0], "--db", served.path("two"), *words[1:])
-            check(f"{words[0]} on the other machine", (ran_there.returncode, "open" in ran_there.stderr), (3, True))
         crowd = served.outer(30)
         time.sleep(random.uniform(3, 6))
         volume["one"].die()
@@ -448,13 +470,11 @@ def cut_off(served, name, first):
     time.sleep(CUT_OFF)
     machine.mend()
     crowd.wait(120)
-    asked = ("curl", "-s", "-o", "/dev/null", "-m", "4", "-H", "Hall-Key: eve-key-eve", "-w", "%{http_code}",
-             "http://127.0.0.1:8080/rounds")
     # Its last call of the system may take a while, in which it answers nobody.
     for _ in range(STILL):
         if pid in ended(machine):
             return ended(machine)[pid]
-        said = machine.run(*asked).stdout
+        said = machine.run(*READ).stdout
         if said != "000" and pid not in ended(machine):
             break
         time.sleep(1)
@@ -480,18 +500,51 @@ def test_a_hall_that_is_cut_off_ends(parts, db, program, room):
         check("how its hall ended", ways, {3: CUTS})
 
 
+def test_an_idle_hall_is_cut_off(parts, db, program, room):
+    """Nobody asks it to write before it is back: then it takes nothing, and ends."""
+    with Volume(room) as volume:
+        served = Served(volume, program, db)
+        first = int(volume["one"].run("cat", f"{volume['one'].folder}/pid").stdout)
+        served.crowd(volume["one"], 3, 500, "127.0.0.1:8080").wait(120)
+        volume["one"].cut()
+        outer = served.outer(30)
+        time.sleep(CUT_OFF)
+        while_cut = volume["one"].run(*READ).stdout
+        volume["one"].mend()
+        waited("its mount speaks to all copies", lambda: volume.is_linked("one"))
+        mended = volume["one"].run(*READ).stdout
+        tell(f"an idle hall that is cut off: who reads is told {while_cut}, and {mended} once it is back")
+        served.crowd(volume["one"], 4, 800, "127.0.0.1:8080").wait(120)
+        outer.wait(120)
+        check("what is told on the machine that was cut off", served.told(served.journals[2]), [])
+        check("how its hall ended", ended(volume["one"]).get(first), 3)
+        lost, told = served.lost()
+        check("answers that were lost", lost, 0)
+        tell(f"an idle hall is cut off: {told} answers told, {lost} lost")
+
+
 def test_with_loose_locks_answers_are_lost(parts, db, program, room):
-    """So that it is seen that these tests see a loss. The hall that is cut off has nothing to do meanwhile."""
+    """So that it is seen that these tests see a loss. The hall that is cut off has nothing to do meanwhile, and writes
+    again once its mount speaks to all copies."""
     with Volume(room, ("client.strict-locks", "off")) as volume:
         served = Served(volume, program, db)
         served.crowd(volume["one"], 3, 500, "127.0.0.1:8080").wait(120)
         volume["one"].cut()
         outer = served.outer(25)
-        time.sleep(14)
+        time.sleep(CUT_OFF)
         volume["one"].mend()
-        time.sleep(2)
+        waited("its mount speaks to all copies", lambda: volume.is_linked("one"))
+        time.sleep(1)
         served.crowd(volume["one"], 4, 800, "127.0.0.1:8080").wait(120)
         outer.wait(120)
-        lost, told = served.lost()
-        check("whether answers were lost", lost > 0, True)
-        tell(f"a volume with loose locks: {told} answers told, {lost} lost")
+        served.end()
+        told, lost = served.all_told(), {}
+        for name in ("one", "two"):
+            try:
+                lost[name], how = len(told - set(served.stands(name))), ""
+            except sqlite3.DatabaseError as error:
+                lost[name], how = len(told), f" ({error})"
+            said = (served.checked(name).stdout.splitlines() or ["no whole database"])[-1]
+            tell(f"a volume with loose locks, as {name} sees it: {len(told)} answers told, {lost[name]} lost{how}; "
+                 f"hall check: {said}")
+        check("whether answers were lost", min(lost.values()) > 0, True)

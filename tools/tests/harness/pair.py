@@ -98,20 +98,36 @@ class Served:
         with open(journal, encoding="ascii") as file:
             return [(who, place, token, n, moment) for who, place, token, moment, n in map(json.loads, file)]
 
-    def lost(self):
-        """How many answers were told and don't stand, once both halls are ended; it sees too that none stands twice."""
+    def end(self):
+        """Ends both halls, and waits until nobody has the file."""
         for name in self.places:
             if self.volume[name].first.poll() is None:
                 self.volume[name].end_unit()
-        room, two = self.volume.switch.room, self.volume["two"]
-        waited("nobody has the file", lambda: two.run(self.program, "check", "--db", self.path("two")).returncode != 3)
-        check("hall check", two.run(self.program, "check", "--db", self.path("two")).returncode, 0)
-        two.run("sh", "-c", f"cp {self.path('two')}* {room}", check=True)
+        waited("nobody has the file", lambda: "open: end it" not in self.checked("two").stderr)
+
+    def checked(self, name):
+        """`hall check` of the file, as this machine sees it."""
+        return self.volume[name].run(self.program, "check", "--db", self.path(name))
+
+    def stands(self, name):
+        """The answers that stand in the file, as this machine sees it: whose, place, token, `n`."""
+        room = self.volume.switch.room
+        self.volume[name].run("sh", "-c", f"rm -f {room}/hall.db*; cp {self.path(name)}* {room}", check=True)
         with contextlib.closing(sqlite3.connect(f"{room}/hall.db")) as conn:
-            rows = conn.execute("SELECT entrant, number, token, n FROM answers WHERE round = 'now'").fetchall()
-        must_be("answers that stand twice", len(rows) - len({it[:3] for it in rows}), 0)
+            return conn.execute("SELECT entrant, number, token, n FROM answers WHERE round = 'now'").fetchall()
+
+    def all_told(self):
+        """All that entrants were told, without the moments."""
         told = {it[:4] for journal in self.journals for it in self.told(journal)}
         must_be("whether entrants were told anything", bool(told), True)
+        return told
+
+    def lost(self):
+        """How many answers were told and don't stand, once both halls are ended; it sees too that none stands twice."""
+        self.end()
+        check("hall check", self.checked("two").returncode, 0)
+        rows, told = self.stands("two"), self.all_told()
+        must_be("answers that stand twice", len(rows) - len({it[:3] for it in rows}), 0)
         return len(told - set(rows)), len(told)
 
 
