@@ -22,6 +22,7 @@ import urllib.request
 import pytest
 from harness import filled, proxies, running
 from harness.checks import check, holds, must_be, need, tell
+from harness.disks import begin_witness
 from harness.handed_in import Entrant, faults
 from harness.pair import PAIR, Served, after, need_parts, text_of, written
 from harness.volume import Volume, waited
@@ -36,8 +37,8 @@ CUTS, CUT_OFF, STILL = 20, 12, 10
 # So often two halls begin at once.
 TURNS = 3
 # Asks for a list, and writes the status.
-READ = ("curl", "-s", "-o", "/dev/null", "-m", "4", "-H", "Hall-Key: eve-key-eve", "-w", "%{http_code}",
-        "http://127.0.0.1:8080/rounds")
+HALL = "http://127.0.0.1:8080/rounds"
+READ = ("curl", "-s", "-o", "/dev/null", "-m", "4", "-H", "Hall-Key: eve-key-eve", "-w", "%{http_code}", HALL)
 
 
 def ran(*words, **how):
@@ -102,11 +103,7 @@ class Witness:
 
     def begin(self):
         """Begins the witness, which has no port before."""
-        peer = f"http://127.0.0.1:{running.free_port()}"
-        words = ["etcd", "--data-dir", f"{self.room}/etcd", "--listen-client-urls", self.url, "--advertise-client-urls",
-                 self.url, "--listen-peer-urls", peer, "--initial-advertise-peer-urls", peer,
-                 "--initial-cluster", f"default={peer}"]
-        self.etcd = subprocess.Popen(words, stdout=subprocess.DEVNULL, stderr=subprocess.DEVNULL)
+        self.etcd = begin_witness(self.room, "127.0.0.1", self.port)
         for _ in range(600):
             if self.asked("endpoint", "health")[0] == 0:
                 return
@@ -509,11 +506,17 @@ def test_an_idle_hall_is_cut_off(parts, db, program, room):
         volume["one"].cut()
         outer = served.outer(30)
         time.sleep(CUT_OFF)
-        while_cut = volume["one"].run(*READ).stdout
-        volume["one"].mend()
-        waited("its mount speaks to all copies", lambda: volume.is_linked("one"))
-        mended = volume["one"].run(*READ).stdout
-        tell(f"an idle hall that is cut off: who reads is told {while_cut}, and {mended} once it is back")
+        for when in ("while it is cut off", "once it is back"):
+            # Who reads is told what this hall told, and nothing of the other one's.
+            asked = ("curl", "-s", "-m", "4", "-H", "Hall-Key: s0-key-s0", f"{HALL}/now/answers")
+            listed = volume["one"].run(*asked).stdout
+            for journal, stands in zip(served.journals, (True, False)):
+                tokens = [token for who, _, token, _, _ in served.told(journal) if who == "s0"]
+                must_be(f"whether s0 was told anything, {when}", bool(tokens), True)
+                check(f"what s0 is told, {when}", {f'"{it}"' in listed for it in tokens}, {stands})
+            if when == "while it is cut off":
+                volume["one"].mend()
+                waited("its mount speaks to all copies", lambda: volume.is_linked("one"))
         served.crowd(volume["one"], 4, 800, "127.0.0.1:8080").wait(120)
         outer.wait(120)
         check("what is told on the machine that was cut off", served.told(served.journals[2]), [])
