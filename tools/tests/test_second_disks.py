@@ -98,8 +98,23 @@ def test_two_disks_and_a_witness(parts, db, program, room):
         waited("one of both serves", lambda: pair.answers(one) or pair.answers(two), 180)
         lost, told = pair.lost(one if pair.answers(one) else two)
         check("answers that were lost", lost, 0)
-        tell(f"DRBD, the machine with the older disk stands still until the other is back: {told} told, {lost} lost; "
-             f"all took {time.monotonic() - begun:.0f} s")
+        tell(f"DRBD, the machine with the older disk stands still until the other is back: {told} told, {lost} lost")
+
+        waited("both are whole", lambda: one.run("hall-status")[0] == 0, 300)
+        crowd = pair.outer(15, 1000)
+        time.sleep(random.uniform(6, 9))
+        for it in (one, two):
+            it.die()
+        crowd.wait(120)
+        for it in (one, two):
+            pair.boot(it)
+            it.run("drbdadm up hall")
+            pair.begin(it)
+        waited("one of both serves", lambda: pair.answers(one) or pair.answers(two), 180)
+        lost, told = pair.lost(one if pair.answers(one) else two)
+        check("both die: answers that were lost", lost, 0)
+        tell(f"DRBD, both lose power at once: {told} answers told so far, {lost} lost; all took "
+             f"{time.monotonic() - begun:.0f} s")
 
 
 def test_without_a_fence_answers_are_lost(parts, db, program, room):
