@@ -4,6 +4,7 @@ A machine dies all at once: its cable is pulled first, so that no connection is 
 """
 import os
 import shlex
+import shutil
 import signal
 import subprocess
 import time
@@ -79,6 +80,8 @@ class Machine:
         ip("-n", self.net, "addr", "add", f"{self.address}/24", "dev", "eth0")
         for it in ("eth0", "lo"):
             ip("-n", self.net, "link", "set", it, "up")
+        # What is in memory is gone: a number of a process that stands there may be another's by now.
+        shutil.rmtree(f"{self.folder}/run", ignore_errors=True)
         binds = [f"mkdir -p {self.folder}{it} && mount --bind {self.folder}{it} {it}" for it in self.own]
         script = " && ".join([f"hostname {self.name}", *binds, "echo up", "exec sleep infinity"])
         words = ["ip", "netns", "exec", self.net, "unshare", "--mount", "--uts", "--pid", "--fork", "--kill-child",
