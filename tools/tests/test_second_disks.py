@@ -1,9 +1,7 @@
 """A second machine with two disks and a witness: DRBD in two virtual machines with Debian's kernel, without KVM, which
 die, are cut off, and come back. It takes minutes, so it is run by --all alone."""
-import contextlib
 import os
 import random
-import sqlite3
 import time
 
 import pytest
@@ -30,13 +28,7 @@ def parts(program):
 @pytest.fixture
 def db(room):
     """A round that runs, in a sane file."""
-    path = f"{room}/hall.db"
-    filled.fill(path, 2_000)
-    with contextlib.closing(sqlite3.connect(path)) as conn:
-        for table, column in (("answers", "round"), ("round_puzzles", "round"), ("rounds", "id")):
-            conn.execute(f"DELETE FROM {table} WHERE {column} = 'then'")
-        conn.commit()
-    return path
+    return filled.fill_sane(f"{room}/hall.db", 2_000)
 
 
 def goes_on(pair, what, crowd, serving, moment):
@@ -50,6 +42,7 @@ def goes_on(pair, what, crowd, serving, moment):
 
 
 def test_two_disks_and_a_witness(parts, db, program, room):
+    """One after another, with the same disks: one that died is whole again before the next thing befalls them."""
     with disks.Pair(room, program, db) as pair:
         one, two = pair["one"], pair["two"]
         begun = time.monotonic()

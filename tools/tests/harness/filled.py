@@ -31,6 +31,17 @@ def fill(path, answers, tables=TABLES, others=20):
     conn.close()
 
 
+def fill_sane(path, answers):
+    """The same, without the published round: it has the puzzles of the other one, so that no check finds it sane."""
+    fill(path, answers)
+    conn = sqlite3.connect(path)
+    for table, column in (("answers", "round"), ("round_puzzles", "round"), ("rounds", "id")):
+        conn.execute(f"DELETE FROM {table} WHERE {column} = 'then'")
+    conn.commit()
+    conn.close()
+    return path
+
+
 def handed_in(round, count, entrants, moment):
     """The rows of so many wrong answers, by the entrants in turn and to each puzzle in turn."""
     for k in range(count):
