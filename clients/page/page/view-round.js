@@ -9,6 +9,8 @@ import { readPuzzle } from "./texts.js";
 import { closeOf, countdown, dayAndTime, endOf, fromTo, lengthOf, stage, time, zone } from "./times.js";
 import { refusal } from "./words.js";
 
+const TURN = 16; // milliseconds of drawing boards, until a click has its turn
+
 // What happened, and what to do.
 export const note = (look, [what, then], ...more) =>
   html("div", { class: look, role: "alert" }, html("strong", {}, what), " ", then, " ", more);
@@ -44,7 +46,8 @@ function clockLine(round, sheet, now, tab, signal, again) {
   return phrase(now === "closed" ? "tableComes" : "isPublished");
 }
 
-function header(round, sheet, tab, line) {
+// `sum` is where the points are told, beside the time that is left.
+function header(round, sheet, tab, sum, line) {
   const { id } = round, terms = [`${fromTo(round)} (${zone})`, phrase(round.mode),
     round.mode === "instant" && sheet?.penalty && phrase("wrongCosts", { n: sheet.penalty }),
     sheet?.bonus && phrase("bonusEach", { n: sheet.bonus }), !clock.known && phrase("ownClock")];
@@ -52,12 +55,12 @@ function header(round, sheet, tab, line) {
     html("a", { href: `#/r/${id}${name && `/${name}`}`, "aria-current": tab === name && "page" }, label);
   return [html("header", { class: "head" },
     html("div", {}, html("h1", {}, round.title), html("p", { class: "small" }, terms.filter(Boolean).join(" · "))),
-    html("p", { class: "big" }, line)),
+    html("p", { class: "big" }, sum, line)),
   html("nav", { class: "tabs", "aria-label": phrase("round") }, link("", phrase("puzzles")),
     link("answers", phrase("myAnswers")), link("protests", phrase("protestsTab")), link("table", phrase("table")))];
 }
 
-// The frame of a round's pages. `fill(box, {round, sheet, now, signal, again})` is called anew whenever the round
+// The frame of a round's pages. `fill(box, {round, sheet, now, sum, signal, again})` is called anew whenever the round
 // comes to another stage; its `signal` ends what the stage before began, and `again()` asks where the round stands.
 export function frame(app, left, id, tab, fill) {
   const element = html("section", { class: "page" }, html("p", { class: "lead" }, phrase("asking")));
@@ -66,7 +69,7 @@ export function frame(app, left, id, tab, fill) {
   const again = async () => {
     drawn.abort();
     drawn = new AbortController();
-    const { signal } = drawn, box = html("div"), round = await app.round(id);
+    const { signal } = drawn, box = html("div"), sum = html("span", { class: "sums" }), round = await app.round(id);
     if (signal.aborted) return;
     if (!round && tab === "table") { // a table is for anyone, also without a key
       element.replaceChildren(html("h1", {}, phrase("roundNamed", { id })), box);
@@ -78,9 +81,10 @@ export function frame(app, left, id, tab, fill) {
     if (signal.aborted) return;
     const sheet = reply?.ok ? reply.value : null, now = sheet ? stage(round, sheet, true) : stage(round);
     document.title = round.title;
-    element.replaceChildren(...header(round, sheet, tab, clockLine(round, sheet, now, tab, signal, again)), box);
+    const line = clockLine(round, sheet, now, tab, signal, again);
+    element.replaceChildren(...header(round, sheet, tab, sum, line), box);
     if (reply && !reply.ok && tab !== "table") box.append(failed(reply));
-    else fill(box, { round, sheet, now, signal, again });
+    else fill(box, { round, sheet, now, sum, signal, again });
     app.addEventListener("rounds", () => app.isSame(round) || again(), { signal });
   };
   again();
@@ -89,18 +93,31 @@ export function frame(app, left, id, tab, fill) {
 
 // --- the puzzles
 
-// A card, with the place for how its puzzle stands; the board on it is drawn once.
-function card(app, round, entry, chip) {
+// A card, with the places for its board and for how its puzzle stands.
+function card(round, entry, thumb, chip) {
   let puzzle;
   try {
     puzzle = readPuzzle(entry.text);
   } catch {
     return html("div", { class: "card" }, phrase("cantDraw", entry));
   }
-  return html("a", { class: "card", href: `#/r/${round.id}/${entry.number}` },
-    html("div", { class: "thumb" }, picture(puzzle, drawingOf(app, round, entry).value?.marks)),
+  return html("a", { class: "card", href: `#/r/${round.id}/${entry.number}` }, thumb,
     html("h3", {}, `${entry.number}. ${kindOf(puzzle).name}`),
     html("p", {}, `${puzzle.cols} × ${puzzle.rows} · ${pointsWords(entry.points)} `, chip));
+}
+
+// Draws each board in its place, once, and lets others have their turn between two that take long.
+async function drawBoards(app, round, sheet, thumbs, signal) {
+  let begun = performance.now();
+  for (const [i, entry] of sheet.puzzles.entries()) {
+    if (performance.now() - begun > TURN) {
+      await new Promise((done) => setTimeout(done));
+      begun = performance.now();
+    }
+    if (signal.aborted) return;
+    if (!thumbs[i].parentNode) continue; // this page can't draw it
+    thumbs[i].append(picture(readPuzzle(entry.text), drawingOf(app, round, entry).value?.marks));
+  }
 }
 
 // All that the hall tells of a round before its start.
@@ -116,12 +133,12 @@ export function wait(round, signal, again) {
 }
 
 export function roundView(app, left, id) {
-  return frame(app, left, id, "", async (box, { round, sheet, now, signal, again }) => {
+  return frame(app, left, id, "", async (box, { round, sheet, now, sum, signal, again }) => {
     if (now === "before") { box.append(wait(round, signal, again)); return; }
     const chips = sheet.puzzles.map(() => html("span")), said = html("div", { "aria-live": "polite" });
-    const sum = html("p", { class: "big sums" });
+    const thumbs = sheet.puzzles.map(() => html("div", { class: "thumb" }));
     const cards = html("div", { class: "cards puzzles" },
-      sheet.puzzles.map((entry, i) => card(app, round, entry, chips[i])));
+      sheet.puzzles.map((entry, i) => card(round, entry, thumbs[i], chips[i])));
     const tell = (answers) => {
       sheet.puzzles.forEach((entry, i) => fillChip(chips[i], standing(app, round, entry, answers)));
       sum.textContent = sums(round, sheet, answers);
@@ -131,8 +148,9 @@ export function roundView(app, left, id) {
       const answers = await app.answers(id, signal);
       if (answers) tell(answers);
     };
-    box.append(said, sum, cards, printers(app, id, now));
+    box.append(said, cards, printers(app, id, now));
     tell([]);
+    drawBoards(app, round, sheet, thumbs, signal);
     app.letters.addEventListener("change", renew, { signal });
     await renew();
   });
