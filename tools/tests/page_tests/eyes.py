@@ -6,6 +6,7 @@ from selenium.webdriver.common.keys import Keys
 
 from harness.checks import holds
 from page_tests.chromium import UNDO, Browser
+from page_tests.contrasts import told_apart
 from page_tests.place import Place, none, solved, until
 
 FILES = {"sl": "slither.txt", "nu": "nurikabe.txt", "u25": "real/sudoku25.txt", "s50": "real/slither50.txt"}
@@ -43,6 +44,7 @@ def trial(program, pictures):
             walls(browser)
             notes(browser)
             contrasts(browser)
+            views(browser)
             none("the page's code had no fault", browser.faults())
         with Browser(place, pictures, phone=True) as browser:
             browser.enter("fay")
@@ -114,6 +116,27 @@ def contrasts(browser):
                 holds(f"{look}, {css} on {under[0]}: {LEAST} : 1", found >= LEAST, round(found, 2))
             browser.picture(f"eye-{look}-{number}")
         lines_of_colour(browser, look)
+
+
+def views(browser):
+    """Texts, controls and boards of each view."""
+    browser.open("k", 1, NAMES[0])
+    browser.keys("t")
+    told_apart(browser, "a puzzle with a try")
+    browser.hand_in()
+    until(lambda: browser.count("dialog[open]"))
+    told_apart(browser, "a question")
+    browser.choose(2)
+    browser.shows("Wrong.", ".said")
+    told_apart(browser, "a wrong answer")
+    for address, css in (("#/", "a.card"), ("#/r/k", ".card svg.sheet"), ("#/r/k/answers", "figure svg"),
+                         ("#/r/k/protests", ".tabs"), ("#/r/k/table", ".note"), ("#/about", "h2"),
+                         ("#/rules", "figure svg")):
+        browser.go(address)
+        until(lambda: browser.count(css))
+        told_apart(browser, address)
+    browser.leave()
+    told_apart(browser, "the door")
 
 
 def lines_of_colour(browser, look):

@@ -5,6 +5,7 @@ import sqlite3
 import time
 
 from page_tests.chromium import Browser
+from page_tests.contrasts import told_apart
 from page_tests.place import until
 
 CONTROLS = ("button", "link", "checkbox", "textbox", "combobox", "searchbox", "Date", "InputTime")
@@ -50,7 +51,8 @@ class Staff(Browser):
         return [role for role, name in named if role in CONTROLS and not name.strip()]
 
     def looks(self, name):
-        """Pictures in the light and in the dark, where somebody wants to look at them."""
+        """All can be told apart; and pictures in the light and in the dark, where somebody wants to look at them."""
+        told_apart(self, name)
         for look in ("light", "dark"):
             self.media(prefers_color_scheme=look)
             time.sleep(0.2)

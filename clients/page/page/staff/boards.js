@@ -22,6 +22,13 @@ function sideMark(puzzle, place) {
   return svg("path", { d: Number.isInteger(y / UNIT) ? `M${x - half} ${y}h${UNIT}` : `M${x} ${y - half}v${UNIT}` });
 }
 
+// A box round a side.
+function sideBox(puzzle, place) {
+  const [x, y] = middleOf(puzzle, place).map((n) => n * UNIT), isAcross = Number.isInteger(y / UNIT);
+  const [width, height] = isAcross ? [UNIT - 8, 16] : [16, UNIT - 8];
+  return svg("rect", { x: x - width / 2, y: y - height / 2, width, height, rx: 4 });
+}
+
 const dotMark = ([x, y]) => svg("circle", { cx: x * UNIT, cy: y * UNIT, r: 10 });
 
 // An outline, on a ground of its own, so that it is seen on a wall as on white.
@@ -34,7 +41,7 @@ function outlined(mark, rule) {
 // A picture with marks on it: the places that differ, and the broken rules.
 function marked(puzzle, marks, words, places, broken = []) {
   const drawn = toldPicture(puzzle, marks, words);
-  const tints = places.map((place) => (isSides(puzzle) ? sideMark(puzzle, place) : cellMark(puzzle, place, 0)));
+  const tints = places.map((place) => (isSides(puzzle) ? sideBox(puzzle, place) : cellMark(puzzle, place, 1.5)));
   const outlines = broken.flatMap(({ rule, cells, sides, dots }) => [
     ...cells.map((cell) => cellMark(puzzle, cell, 3)), ...sides.map((place) => sideMark(puzzle, place)),
     ...dots.map(dotMark)].map((mark) => outlined(mark, rule)));

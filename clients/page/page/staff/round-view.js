@@ -62,7 +62,8 @@ class RoundView {
 
   tellProtests(reply) {
     const count = this.protests?.length ?? 0, open = this.open();
-    refill(this.ruled, reply.ok ? html("p", {}, count ? `${count} protests, of these ${open} open. ` : "No protest. ",
+    refill(this.ruled, reply.ok ? html("p", {},
+      count ? `${count} ${count === 1 ? "protest" : "protests"}, of these ${open} open. ` : "No protest. ",
       count > 0 && html("a", { href: `#/referee/${this.round.id}` }, "See them")) : refused(reply));
     this.publish.disabled = !this.protests || open > 0;
     this.publish.title = open ? "A referee rules on the open protests first." : "";
