@@ -89,11 +89,11 @@ access_log off;
 
 def our_nginx(front, back, room, tls=False, change=str):
     """nginx with nginx.conf, from the one port to the other."""
-    tail = " ssl;" if tls else ";"
+    tail = " ssl http2;" if tls else ";"
     write(f"{room}/fragment.conf", change(placed("nginx.conf", [
         ("/usr/share/hall/page", PAGE),
-        ("listen 443 ssl;", f"listen 127.0.0.1:{front}{tail}"),
-        ("listen [::]:443 ssl;", f"listen [::1]:{front}{tail}"),
+        ("listen 443 ssl http2;", f"listen 127.0.0.1:{front}{tail}"),
+        ("listen [::]:443 ssl http2;", f"listen [::1]:{front}{tail}"),
         ("    ssl_certificate /etc/nginx/hall.pem;\n", f"    ssl_certificate {room}/hall.crt;\n" if tls else ""),
         ("    ssl_certificate_key /etc/nginx/hall.key;\n",
          f"    ssl_certificate_key {room}/hall.key;\n" if tls else ""),
