@@ -37,7 +37,9 @@ export class Board {
     this.move(0, 0);
     listen(this);
     this.svg.addEventListener("keydown", (event) => this.onKey(event));
-    new ResizeObserver(() => { if (this.fitted !== false) this.fit(); }).observe(this.element);
+    // In a frame of its own, since scroll bars may come or go by it.
+    const refit = () => requestAnimationFrame(() => { if (this.fitted !== false) this.fit(); });
+    new ResizeObserver(refit).observe(this.element);
   }
 
   // --- what is drawn
