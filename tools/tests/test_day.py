@@ -1,5 +1,5 @@
-"""A whole day by the pages alone, in each of three engines: page_tests/day.py tells it. It takes one to four minutes
-for each, so it is run by --all alone."""
+"""A whole day by the pages alone, in each of three engines: page_tests/day.py tells it. It takes some 40 seconds for
+each, and on a busy machine up to four minutes: each step waits for what is to be seen, and for no time of its own."""
 import os
 
 import pytest
@@ -9,7 +9,6 @@ from harness.checks import tell
 ENGINES = ("Chromium", "Firefox", "WebKit")
 
 
-@pytest.mark.long
 @pytest.mark.parametrize("name", ENGINES)
 def test_a_day_by_pages_alone(name, program, pytestconfig, room):
     pytest.importorskip("selenium", reason="python3-selenium isn't there")

@@ -19,7 +19,7 @@ from page_tests.place import MINUTES, Place, none, solved, until
 from page_tests.staff_hands import FILL, IS_OFF, PRESS, earlier, kill
 from page_tests.windows import windows
 
-FILES = {"sl": "slither.txt", "nu": "nurikabe.txt", "su": "real/sudoku9.txt"}
+FILES = {"sl": "real/slither15.txt", "nu": "real/nurikabe10.txt", "su": "real/sudoku9.txt"}
 NAMES = {1: "Slitherlink", 2: "Nurikabe", 3: "Sudoku"}
 PLAYERS = ("eve", "fay", "gus", "dan")
 TEXT = "An address of puzz.link, a puzzle's text, or the signs of a Sudoku"
