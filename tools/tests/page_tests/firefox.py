@@ -12,6 +12,14 @@ from page_tests.place import Place, none, solved, until
 from page_tests.staff_hands import FILL, PRESS
 
 LINES, WALLS = ".board .line", ".board .wall"
+TAPS = 20
+# How often a finger went down, and a button heard a click of it.
+CLICKS = """window.heard = {};
+for (const name of ['pointerdown', 'click']) document.addEventListener(name, (event) => {
+  if (event.pointerType === 'touch') window.heard[name] = (window.heard[name] ?? 0) + 1;
+}, true);"""
+MIDDLE = """const { left, top, width, height } = document.querySelector(arguments[0]).getBoundingClientRect();
+return [left + width / 2, top + height / 2]"""
 SHIFT, RIGHT, DOWN, LEFT, ENTER = "\ue008", "\ue014", "\ue015", "\ue012", "\ue007"
 # What the page tells of its own faults.
 HEAR = """window.faults = [];
@@ -24,6 +32,27 @@ def trial(program, pictures):
         pytest.skip("not installed: firefox-esr")
     with Place(program) as place, Firefox(pictures) as browser:
         play(program, place, browser)
+        fingers(place, browser)
+
+
+def fingers(place, browser):
+    """Of Firefox's own touch: a tap on a button right after a finger's fast drag is a click, each time."""
+    browser.js("sessionStorage.clear()")
+    browser.load(place.url)
+    browser.js(HEAR)
+    until(lambda: browser.js("return document.activeElement.id") == "key")
+    browser.keys(*"fay-key-1", ENTER)
+    until(lambda: browser.count("body.in"))
+    open_puzzle(browser, 1, "Slitherlink")
+    browser.js(CLICKS)
+    path, button = spots(browser, [(0, y / 2) for y in range(8)]), browser.js(MIDDLE, UNDO)
+    for _ in range(TAPS):
+        browser.drags([path, [button]], "touch")
+    all_heard = until(lambda: browser.js("return window.heard") == {"pointerdown": 2 * TAPS, "click": TAPS})
+    holds(f"{browser.name}: each of {TAPS} taps right after a drag is a click", all_heard,
+          browser.js("return window.heard"))
+    holds(f"{browser.name}: and takes the drag back", until(lambda: browser.count(LINES) == 0), browser.count(LINES))
+    none(f"{browser.name}: nor by touch", browser.js("return window.faults"))
 
 
 def play(program, place, browser):

@@ -14,7 +14,8 @@ PREFERENCES = {"marionette.port": None, "browser.shell.checkDefaultBrowser": Fal
                "datareporting.policy.dataSubmissionEnabled": False, "browser.startup.page": 0,
                "network.captive-portal-service.enabled": False, "network.connectivity-service.enabled": False,
                "toolkit.telemetry.enabled": False, "browser.safebrowsing.update.enabled": False,
-               "extensions.update.enabled": False, "services.settings.server": "http://127.0.0.1:9"}
+               "extensions.update.enabled": False, "dom.w3c_touch_events.enabled": 1,
+               "services.settings.server": "http://127.0.0.1:9"}
 
 
 class Firefox:
@@ -101,10 +102,10 @@ class Firefox:
     def drag(self, spots):
         self.drags([spots])
 
-    def drags(self, drags):
+    def drags(self, drags, pointer="mouse"):
         """One drag after another; one of a single spot is a click."""
         actions = []
         for spots in drags:
             moves = [{"type": "pointerMove", "x": round(x), "y": round(y), "origin": "viewport"} for x, y in spots]
             actions += [moves[0], {"type": "pointerDown", "button": 0}, *moves[1:], {"type": "pointerUp", "button": 0}]
-        self.perform("pointer", actions, parameters={"pointerType": "mouse"})
+        self.perform("pointer", actions, id=pointer, parameters={"pointerType": pointer})
