@@ -32,7 +32,8 @@ const compare = (e, what, colour, under, least) => {
 };
 const hasText = (e) => [...e.childNodes].some((it) => it.nodeType === 3 && it.textContent.trim());
 for (const e of document.body.querySelectorAll('*:not(svg *, svg, script, option)')) {
-  if (seen(e) && hasText(e)) compare(e, 'text', look(e).color, ground(e), ofText);
+  const least = e.matches('.spent') ? ofOther : ofText; // a number that is used up is dimmed
+  if (seen(e) && hasText(e)) compare(e, 'text', look(e).color, ground(e), least);
 }
 for (const e of document.querySelectorAll('input, select, textarea, button, .chip, .note, [aria-current]')) {
   const { borderLeftStyle, borderLeftWidth, borderLeftColor } = look(e);

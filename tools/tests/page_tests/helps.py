@@ -7,6 +7,7 @@ from selenium.webdriver.common.keys import Keys
 from harness.checks import holds
 from page_tests import drawn
 from page_tests.chromium import NEXT, REDO, UNDO, Browser
+from page_tests.contrasts import told_apart
 from page_tests.place import Place, none, solved, until
 
 FILES = {"su": "real/sudoku9.txt", "sl": "real/slither15.txt", "nu": "nurikabe.txt", "s50": "real/slither50.txt"}
@@ -146,6 +147,7 @@ def clashes(browser, puzzle):
             browser.click(*middle(cell))
             browser.keys(answer[9 * y + x])
     holds("a number that stands nine times is told", browser.count(".pad .spent") == spent + 1)
+    told_apart(browser, "a Sudoku with clashes marked")
     holds("and nothing clashes", browser.count(CLASHES) == 0, browser.count(CLASHES))
 
 
