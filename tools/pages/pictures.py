@@ -156,6 +156,7 @@ def referee(place, staff):
              "of.dispatchEvent(new Event('change', { bubbles: true }))")
     until(lambda: staff.count(".boards [data-rule]"))
     taken(staff, "referee", 660, ".protest-view")
+    place.ask("PUT", f"/rounds/{ROUND}/rulings/eve/walls", "rex", {"points": 0, "upheld": False})
 
 
 def published(place, browser):
