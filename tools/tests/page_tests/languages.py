@@ -9,6 +9,7 @@ import time
 
 from harness.checks import holds
 from page_tests.chromium import Browser
+from page_tests.contrasts import told_apart
 from page_tests.files import PAGE, as_modules
 from page_tests.place import MINUTES, ROOT, Place, none, solved, until
 
@@ -105,6 +106,7 @@ def booklet(place, browser):
     browser.go("#/r/b")
     holds("before the start times and mode are told", browser.shows("30 minutes.", ".booklet")
           and "Verdicts are told after the end" in browser.text(".booklet"), browser.text())
+    told_apart(browser, "before the start")
     browser.picture("booklet")
     browser.push(".booklet a")
     holds("and the rules are a click away", browser.shows("one single loop"))

@@ -48,6 +48,10 @@ def trial(program, pictures):
 def strangers(browser):
     browser.enter_staff("eve", "author")
     holds("an entrant is told that the roles don't allow it", browser.shows("Your roles don't allow this"))
+    browser.looks("author-refused")
+    browser.go("#/")
+    holds("what there is to do is offered to all", browser.shows("What do you want to do?"))
+    browser.looks("staff-home")
     browser.leave()
     holds("who left is asked for a key", browser.shows("Your key"))
 

@@ -293,7 +293,7 @@ def published(place, browser):
     lines = [" ".join(line.split()) for line in place.ask("GET", "/rounds/morning/table", "eve").splitlines()]
     check("what was reckoned is what the hall publishes", reckoned, lines)
     check("and that is shown", until(lambda: browser.js(LINES)[:4]), lines)
-    browser.picture("director-published")
+    browser.looks("director-published")
 
 
 def sealed(place, browser, solutions):
