@@ -93,7 +93,7 @@ export function puzzleOf(text) {
 }
 
 // What a puzzle is, in a few words.
-export const sizeOf = (puzzle) => `${kindOf(puzzle).name} ${puzzle.cols} × ${puzzle.rows}`;
+export const sizeOf = (puzzle) => `${kindOf(puzzle).name} ${puzzle.cols}\u00a0×\u00a0${puzzle.rows}`;
 
 // A place for a puzzle's picture, which is asked for once it comes into view; `said` gets what the puzzle is.
 export function thumb(puzzles, entry, said) {
