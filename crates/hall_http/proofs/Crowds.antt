@@ -754,6 +754,6 @@ module _ {P : Type 0} (traffic : P → Traffic) where
   serves_none service at s = (
     still_same traffic s,
     λ few many turns kept.
-        handled_none service at (AreServedSo service traffic [] at s at s (few, many) turns)
+        handled_none service at (AreServedSo service traffic [] (at, s) (at, s) (few, many) turns)
         (refl, subst (λ (all : List Turn). AreKept traffic few many all s) (sym (append-nil turns)) kept),
   )

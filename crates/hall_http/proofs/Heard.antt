@@ -168,11 +168,10 @@ module _ {H : Type 0} (service : Service H) where
 
   module _ {P : Type 0} (traffic : P → Traffic) where
     -- so those that are held were served
-    abbrev pub AreServedSo : List HeldRequest → H → Clients P → H → Clients P → ℕ × ℕ → List Turn → List Turn
-        → Type 0
-    AreServedSo held before s after u count turns more =
+    abbrev pub AreServedSo : List HeldRequest → H × Clients P → H × Clients P → ℕ × ℕ → List Turn → List Turn → Type 0
+    AreServedSo held (before, s) (after, u) (few, many) turns more =
         AreAnsweredOf (IsHeldAt traffic s) (WaitsAt (MayWaitAfter service before after more) traffic s turns) [] held
-        more × AreKept traffic count.0 count.1 (turns ++ more) u
+        more × AreKept traffic few many (turns ++ more) u
 
     -- some requests were answered, and then none
     pub serves_then : (held : List HeldRequest) (before after : H) (s m u : Clients P)
@@ -181,8 +180,8 @@ module _ {H : Type 0} (service : Service H) where
     serves_then held before after s m u serves keeps = (
       still_then traffic s m u serves.0 keeps.0,
       λ few many turns kept.
-          handled_same before after (AreServedSo held before s after m (few, many) turns)
-          (AreServedSo held before s after u (few, many) turns)
+          handled_same before after (AreServedSo held (before, s) (after, m) (few, many) turns)
+          (AreServedSo held (before, s) (after, u) (few, many) turns)
           (serves.1 few many turns kept) (λ more holds. (holds.0, keeps.1 few many (turns ++ more) holds.1)),
     )
 
@@ -237,9 +236,9 @@ module _ {H : Type 0} (service : Service H) where
           let sooner = first.1 few many turns kept in
           let later = second.1 few many (turns ++ sooner.turns) sooner.holds.1 in
           let all = sooner.turns ++ later.turns in
-          handled_then before at after (AreServedSo held before s at m (few, many) turns)
-          (AreServedSo others at m after u (few, many) (turns ++ sooner.turns))
-          (AreServedSo (held ++ others) before s after u (few, many) turns) sooner later (
+          handled_then before at after (AreServedSo held (before, s) (at, m) (few, many) turns)
+          (AreServedSo others (at, m) (after, u) (few, many) (turns ++ sooner.turns))
+          (AreServedSo (held ++ others) (before, s) (after, u) (few, many) turns) sooner later (
             answered_then (IsHeldAt traffic s) (WaitsAt (MayWaitAfter service before after all) traffic s turns) []
                 held others sooner.turns later.turns
                 (waits_by (MayWaitAfter service before at sooner.turns) (MayWaitAfter service before after all) s
@@ -432,7 +431,7 @@ module _ {H : Type 0} (service : Service H) where
           (became_on traffic old.count now.count now.count handled.turns all s u handled.holds.0.0 later.holds.1
           (omega arith) passes) old now handled.turns handled.holds.0.1 in
           handled_then before at after (λ turns. StandAfter old now before at s turns × Q turns)
-          (AreServedSo held at s after u (old.count, now.count) handled.turns)
+          (AreServedSo held (at, s) (after, u) (old.count, now.count) handled.turns)
           (λ turns. StandAfter old then before after u turns × R turns) handled later (
             (
               subst (λ (n : ℕ). AreKept traffic old.count n all u) (sym same) later.holds.1,

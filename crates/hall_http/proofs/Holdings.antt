@@ -6,7 +6,7 @@ use Rattle.std.proofs.lemmas.Option.{same_Some}
 use Rattle.std.proofs.lemmas.List.{append-nil, length-map, map-append}
 use Rattle.std.proofs.lemmas.List.Elements.{All-head, All-tail}
 use Rattle.hall_http.specs.Coming.{Heard, Nexts, Said, since}
-use Rattle.hall_http.specs.Connection.{Exchange, AreReadings}
+use Rattle.hall_http.specs.Connection.{AreReadings}
 use Rattle.hall_http.specs.Crowd.{AreAllThere, AreAnsweredOf, AreAsSaid, AreAtMoments, AreAtTurns, AreReady, AreStill}
 use Rattle.hall_http.specs.Crowd.{HasAt, Holding, IsAt, IsFor, IsFree, IsHeldAt, IsHeldFor, IsHereOrGone, IsNoTurn}
 use Rattle.hall_http.specs.Crowd.{NextMayWait, WaitsAt, held_after, held_on, requests_in, without_holding}

@@ -1,12 +1,11 @@
 -- Those that are held stand ready to be answered, each at its place.
-use Rattle.std.proofs.Common.{◌≡◌, ◌≢◌, ◌∙◌, sym, ap, subst, refl, arith, inl, inr, ℕ, ◌==◌, List, [], ◌∷◌, ◌++◌}
-use Rattle.std.proofs.Common.{◌<◌, ◌≤◌, length, length-append, get_or, Option, None, Some, suc, true, false}
+use Rattle.std.proofs.Common.{◌≡◌, ◌≢◌, ◌∙◌, sym, subst, refl, arith, inl, inr, ℕ, ◌==◌, List, [], ◌∷◌, ◌++◌}
+use Rattle.std.proofs.Common.{◌<◌, ◌≤◌, length, length-append, get_or, Option, None, Some, true, false}
 use Rattle.std.specs.Prelude.{◌||◌, ◌⊎◌, All, Bool, cond, not}
 use Rattle.std.proofs.lemmas.Bool.{eqb-true, eqb-false}
 use Rattle.std.proofs.lemmas.Option.{same_Some}
 use Rattle.std.proofs.lemmas.List.{length-map}
 use Rattle.std.proofs.lemmas.List.Elements.{All-cons, All-head, All-nil, All-push, All-tail}
-use Rattle.hall_http.specs.Coming.{Heard}
 use Rattle.hall_http.specs.Crowd.{AreAllThere, AreOthersSame, AreReady, IsAt, IsFree, IsSameAt, StandsWhole}
 use Rattle.hall_http.specs.Group.{requests_of}
 use Rattle.hall_http.specs.Held.{HoldsOne, is_held, kept_on, without}

@@ -1,6 +1,6 @@
 -- What was served so far.
 use Rattle.std.proofs.Common.{◌≡◌, ◌∙◌, sym, ap, subst, refl, arith, inl, inr, ℕ, List, [], ◌∷◌, ◌++◌, ◌⊎◌, ◌≢◌}
-use Rattle.std.proofs.Common.{◌==◌, append_assoc, get_or, length, ◌≤◌, Option, true, false}
+use Rattle.std.proofs.Common.{◌==◌, append_assoc, get_or, length, ◌≤◌, true, false}
 use Rattle.std.specs.Prelude.{All, Bool}
 use Rattle.std.proofs.lemmas.Bool.{eqb-true, eqb-false}
 use Rattle.std.proofs.lemmas.List.{append-nil}
