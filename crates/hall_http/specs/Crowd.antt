@@ -205,8 +205,8 @@ AreAnsweredOf There MayPass turns (one ∷ held) more =
 abbrev pub IsHeldAt : {P : Type 0} → (P → Traffic) → Clients P → HeldRequest → ℕ → Option ℕ → Type 0
 IsHeldAt traffic s one number moment = HasAt traffic s one.place number × (moment ≡ one.moment)
 
--- After these requests and some more, the next one of whoever is at the place of one that is held is whole, and may be
--- kept waiting.
+-- after these requests and some more, whoever is at the place of one that is held has a whole request next, by what
+-- came of it, and that may be kept waiting
 abbrev pub WaitsAt : {P : Type 0} → (List Turn → List ℕ → Type 0) → (P → Traffic) → Clients P → List Turn → List Turn
     → HeldRequest → Type 0
 WaitsAt {P} may_wait traffic s turns some one =
@@ -374,7 +374,8 @@ requests_in held = map (λ one. one.1) held
 -- first of those that are held are taken off, one at least where any are held, and at most 67: in their order, each at its moment, and
 -- of its connection, which is the one of its place still. One that is taken off is passed over, and isn't answered,
 -- only where the next request of its connection may wait after those that were answered until then. And what is held at
--- a place isn't held any more once its connection is let go, or is over after a turn.
+-- a place isn't held any more once its connection is let go, or is over after a turn. Of which number the connection of
+-- a place is by some steps (`IsOf`), and of which the next request may wait after some requests (`MayWait`), is given.
 pub data AreAtTurns {P : Type 0} (IsOf : Nexts P → ℕ → ℕ → Type 0) (MayWait : List Turn → ℕ → Type 0)
     : Nexts P → List Heard → List Turn → List Holding → List (Option ℕ) → Type 0 where
   at_first : AreAtTurns IsOf MayWait [] [] [] [] []
