@@ -441,7 +441,7 @@ module _ {P : Type 0} (traffic : P → Traffic) where
                       AreAtTurns (IsFor traffic u.gone.items) (NextMayWait might (IsHereOrGone traffic u)) steps
                       so.heard turns held so.moments) all grown) (
                         λ nothing. none_in b (last ∙ least.0 (sym one ∙ ap requests_in nothing)),
-                        omega (arith, least.1, ap length one, length-map (λ holding. holding.1) a),
+                        omega (arith, least.1, ap length one, length-map a (λ holding. holding.1)),
                       )
                       (subst
                       (λ (all : List Turn).

@@ -246,5 +246,5 @@ joined_few front members one alone less together =
       less,
       together,
       length-append front (requests_of members),
-      length-map (λ (member : Member). member.request) members,
+      length-map members (λ (member : Member). member.request),
     )

@@ -1,4 +1,4 @@
-use Rattle.std.proofs.Common.{◌≡◌, ◌≢◌, ◌<◌, ◌++◌, length, List, [], true}
+use Rattle.std.proofs.Common.{◌≡◌, ◌≢◌, ◌<◌, ◌≤◌, ◌++◌, length, List, [], true}
 use Rattle.std.specs.Prelude.{All}
 use Rattle.hall_http.specs.Crowd.{IsSameAt, Serves}
 use Rattle.hall_http.specs.Turns.{service_of}
