@@ -294,6 +294,7 @@ impl<'r, N> Schedule<'r, N> {
         ensures gone { result ≡ Some (Next.Gone place) }
         ensures handed_out { MayHandOut self.old.places result self.new.places }
         ensures ready { self.new.ready ≡ self.old.ready }
+        ensures round { self.new.round ≡ self.old.round }
     {
         self.places.let_go(place);
         self.try_again();
@@ -304,6 +305,7 @@ impl<'r, N> Schedule<'r, N> {
     fn try_again(&mut self)
         ensures places { self.new.places ≡ self.old.places }
         ensures ready { self.new.ready ≡ self.old.ready }
+        ensures round { self.new.round ≡ self.old.round }
         ensures asked { (self.new.looks ≡ self.old.looks) × (self.new.has_heard ≡ self.old.has_heard) }
     {
         if self.backlog == Backlog::Later {
