@@ -345,8 +345,8 @@ def test_copies_each_second(quiet, served, db, program, room):
 
 @pytest.fixture
 def db(room):
-    """A round that runs, in a sane file."""
-    return filled.fill_sane(f"{room}/hall.db", 2_000)
+    """A round that runs, in a sane file, with ten solvers for each cut."""
+    return filled.fill_sane(f"{room}/hall.db", 2_000, 10 * CUTS)
 
 
 def test_what_the_status_says(room):
@@ -450,12 +450,13 @@ def ended(machine):
     return {}
 
 
-def cut_off(served, name, first):
+def cut_off(served, name, number):
     """A machine that serves is cut off while its own entrants hand in, and is back later: the status with which its
-    hall ended meanwhile, or how the one that lives on answers who reads."""
+    hall ended meanwhile, or how the one that lives on answers who reads. At each cut others hand in, since what was
+    handed in already is written no more."""
     machine = served.volume[name]
     pid = int(machine.run("cat", f"{machine.folder}/pid").stdout)
-    crowd = served.crowd(machine, CUT_OFF + 4, first, "127.0.0.1:8080")
+    crowd = served.crowd(machine, CUT_OFF + 4, number, "127.0.0.1:8080", whom=10 * number)
     time.sleep(random.uniform(2, 4))
     machine.cut()
     time.sleep(CUT_OFF)
@@ -480,7 +481,7 @@ def test_a_hall_that_is_cut_off_ends(parts, db, program, room):
         for number in range(CUTS):
             name = ("one", "two")[number % 2]
             waited(f"{name} serves", lambda: served.answers(name))
-            way = cut_off(served, name, 60 * number)
+            way = cut_off(served, name, number)
             ways[way] = ways.get(way, 0) + 1
             waited("its mount speaks to all copies", lambda: volume.is_linked(name))
             volume.healed()

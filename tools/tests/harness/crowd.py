@@ -1,9 +1,10 @@
 """Entrants who hand in all the time, each answer until it is taken, and write down what they are told.
 
-    crowd.py SECONDS FIRST JOURNAL ADDRESS ..
+    crowd.py SECONDS FROM FIRST JOURNAL ADDRESS ..
 
-s0 to s9 of filled.py hand in to the round `now`, with tokens from the number FIRST on. Where an address doesn't answer,
-the next one is asked. JOURNAL gets a line for each answer that was taken: whose, place, token, the moment, and its `n`.
+Ten of filled.py, from the FROMth on, hand in to the round `now`, with tokens from the number FIRST on. Where an address
+doesn't answer, the next one is asked. JOURNAL gets a line for each answer that was taken: whose, place, token, the
+moment, and its `n`.
 """
 import http.client
 import json
@@ -51,10 +52,11 @@ class Entrant(threading.Thread):
 
 
 def main():
-    seconds, first, path, *addresses = sys.argv[1:]
+    seconds, whom, first, path, *addresses = sys.argv[1:]
     with open(path, "a", encoding="ascii", buffering=1) as journal:
         until = time.time() + float(seconds)
-        for it in [Entrant(f"s{k}", until, int(first), journal, addresses) for k in range(ENTRANTS)]:
+        names = [f"s{int(whom) + k}" for k in range(ENTRANTS)]
+        for it in [Entrant(name, until, int(first), journal, addresses) for name in names]:
             it.join()
 
 

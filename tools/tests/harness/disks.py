@@ -132,13 +132,13 @@ class Pair:
     def outer(self, seconds, first):
         """Entrants on this system, who ask whoever answers."""
         self.journals.append(f"{self.room}/journal{first}")
-        words = [sys.executable, f"{running.HERE}/crowd.py", str(seconds), str(first), self.journals[-1]]
+        words = [sys.executable, f"{running.HERE}/crowd.py", str(seconds), "0", str(first), self.journals[-1]]
         return subprocess.Popen([*words, *(it.address for it in self.vms.values())])
 
     def inner(self, vm, seconds, first):
         """Entrants on a machine."""
         self.journals.append(f"{vm.folder}/journal{first}")
-        vm.begin(f"/usr/bin/python3 {running.HERE}/crowd.py {seconds} {first} {self.journals[-1]} 127.0.0.1:8080",
+        vm.begin(f"/usr/bin/python3 {running.HERE}/crowd.py {seconds} 0 {first} {self.journals[-1]} 127.0.0.1:8080",
                  "crowd.log")
         return self.journals[-1]
 

@@ -8,11 +8,12 @@ from .database import RIGHT, SUDOKU, TABLES, WRONG
 PUZZLES = 25
 
 
-def fill(path, answers, tables=TABLES, others=20):
+def fill(path, answers, tables=TABLES, others=20, solvers=40):
     """A round that runs now (`now`) and a published one (`then`), each with 25 puzzles; `answers` answers of others in
-    the first, 10 of eve's and 50 of ivy's, and 1,000 of others in the second. There are at least so many others."""
+    the first, 10 of eve's and 50 of ivy's, and 1,000 of others in the second. There are at least so many others, and so
+    many solvers, who have handed in nothing."""
     now, entrants = int(time.time()), [f"e{k}" for k in range(max(others, answers // 1000))]
-    names = ["eve", "ivy", *(f"s{k}" for k in range(40)), *entrants]
+    names = ["eve", "ivy", *(f"s{k}" for k in range(solvers)), *entrants]
     places = [(round, k + 1, f"p{k}") for round in ("now", "then") for k in range(PUZZLES)]
     rounds = [("now", "Now", now - 600, 1440, 60, 0), ("then", "Then", now - 100_000, 60, 0, 1)]
     conn = sqlite3.connect(path)
@@ -31,9 +32,9 @@ def fill(path, answers, tables=TABLES, others=20):
     conn.close()
 
 
-def fill_sane(path, answers):
+def fill_sane(path, answers, solvers=40):
     """The same, without the published round: it has the puzzles of the other one, so that no check finds it sane."""
-    fill(path, answers)
+    fill(path, answers, solvers=solvers)
     conn = sqlite3.connect(path)
     for table, column in (("answers", "round"), ("round_puzzles", "round"), ("rounds", "id")):
         conn.execute(f"DELETE FROM {table} WHERE {column} = 'then'")

@@ -83,11 +83,11 @@ class Served:
         asked = ("curl", "-s", "-o", "/dev/null", "-m", "5", "http://127.0.0.1:8080/rounds")
         return self.volume[name].run(*asked).returncode == 0
 
-    def crowd(self, machine, seconds, first, *addresses):
-        """Entrants on a machine, who write down what they are told."""
+    def crowd(self, machine, seconds, first, *addresses, whom=0):
+        """Ten entrants on a machine, from this one on, who write down what they are told."""
         self.journals.append(f"{machine.folder}/journal{first}")
-        words = [sys.executable, f"{running.HERE}/crowd.py", str(seconds), str(first), self.journals[-1], *addresses]
-        return machine.begin("crowd.log", *words)
+        words = [sys.executable, f"{running.HERE}/crowd.py", str(seconds), str(whom), str(first), self.journals[-1]]
+        return machine.begin("crowd.log", *words, *addresses)
 
     def outer(self, seconds):
         """Entrants outside, who ask whoever answers."""
