@@ -29,7 +29,7 @@ const NO_LIST: &str = told!("the entry list can't be read: see that the file is 
 const NO_FILE: &str = told!("there is no such database file: `hall init` makes one");
 
 const IN_USE: &str = told!(
-    "another program has the database open: end it, or wait for it, and try again"
+    "another program holds the lock of the database file: end it, or wait for it, and try again"
 );
 
 const OLD: &str = told!(
