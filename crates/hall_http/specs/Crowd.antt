@@ -371,11 +371,12 @@ requests_in held = map (λ one. one.1) held
 -- heard with that turn. The request, of a place of which none is held, is held for it then, behind all others: of the
 -- connection that is the one of the place by what was done before. So it is of each such turn, unless one of the place
 -- is held already, or as many as may be; and with any other no moment is heard. Requests are answered only where the
--- first of those that are held are taken off, one at least where any are held, and at most 67: in their order, each at its moment, and
--- of its connection, which is the one of its place still. One that is taken off is passed over, and isn't answered,
--- only where the next request of its connection may wait after those that were answered until then. And what is held at
--- a place isn't held any more once its connection is let go, or is over after a turn. Of which number the connection of
--- a place is by some steps (`IsOf`), and of which the next request may wait after some requests (`MayWait`), is given.
+-- first of those that are held are taken off, one at least where any are held, and at most 67: in their order, each at
+-- its moment, and of its connection, which is the one of its place still. One that is taken off is passed over, and
+-- isn't answered, only where the next request of its connection may wait after those that were answered until then. And
+-- what is held at a place isn't held any more once its connection is let go, or is over after a turn. Of which number
+-- the connection of a place is by some steps (`IsOf`), and of which the next request may wait after some requests
+-- (`MayWait`), is given.
 pub data AreAtTurns {P : Type 0} (IsOf : Nexts P → ℕ → ℕ → Type 0) (MayWait : List Turn → ℕ → Type 0)
     : Nexts P → List Heard → List Turn → List Holding → List (Option ℕ) → Type 0 where
   at_first : AreAtTurns IsOf MayWait [] [] [] [] []

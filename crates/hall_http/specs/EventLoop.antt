@@ -71,8 +71,8 @@ pub record IsFreshLoop {N E : Type 0} (address : SocketAddr) (connections : ℕ)
 -- Nobody had two turns while another waited for one: a newcomer, or one that could go on after its last. Whoever had a
 -- turn, of all that was to be done, was called in one line, in which each stands once, and of which whoever came first
 -- goes first. Whoever was let go had expired by then, or made room where all places were taken, and was heard to wait
--- so; and all that befell the sockets was heard by that millisecond, unless it had left. And so it is where it may judge
--- now who goes. Each millisecond had counted by some first of what was asked.
+-- so; and all that befell the sockets was heard by that millisecond, unless it had left. And so it is where it may
+-- judge now who goes. Each millisecond had counted by some first of what was asked.
 pub record IsFair {N E : Type 0} (sockets : EventLoop N E) : Type 0 where
   pub owes : ∥ Owes (logged sockets.nexts) (heard_in sockets.schedule.places) sockets.schedule.ready.waiting.items ∥₁
   pub called : AreCalled (logged sockets.nexts) sockets.schedule.ready

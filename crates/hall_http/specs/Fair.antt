@@ -53,8 +53,8 @@ abbrev pub Stands : {P : Type 0} → Nexts P → ℕ → List ℕ → Type 0
 Stands rest place waiting =
     (ahead behind : List ℕ) × (waiting ≡ ahead ++ place ∷ behind) × AreDistinct (turned rest ++ ahead)
 
--- So it was. And whoever can go on now waits in this line, behind none that had a turn since. Of a turn of which nothing
--- was heard yet nothing was next after it.
+-- Nobody had two turns while another waited for one; whoever can go on now waits in this line, behind none that had a
+-- turn since; and after a turn of which nothing was heard yet nothing was next.
 pub record Owes {P : Type 0} (nexts : Nexts P) (heard : List Heard) (waiting : List ℕ) : Type 0 where
   pub fair : NobodyTwice nexts heard
   pub stands : (front rest : Nexts P) (one : Next P) (place : ℕ) → nexts ≡ front ++ one ∷ rest

@@ -172,8 +172,8 @@ AreLetGo nexts places = flat_map gone_at nexts ≡ map (λ one. one.0.place) pla
 abbrev pub AreCalled : {P : Type 0} → Nexts P → Queue → Type 0
 AreCalled nexts ready = turned nexts ≡ called ready
 
--- Whoever has a turn was called, and a newcomer waits in line. Whoever is let go may have stood in it, as the first; and
--- else nobody goes from it, and nobody was called.
+-- Whoever has a turn was called, and a newcomer waits in line. Whoever is let go may have stood in it, as the first;
+-- and else nobody goes from it, and nobody was called.
 abbrev pub CallsOne : {P : Type 0} → Queue → Next P → Queue → Type 0
 CallsOne old (next.Turn place) new =
     (called new ≡ called old ++ place ∷ []) × GoesAhead old place new × (place < most_connections)

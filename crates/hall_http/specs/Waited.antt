@@ -27,8 +27,8 @@ KeepsWait step.Again wait = Unit {0}
 KeepsWait step.Holds wait = Unit {0}
 KeepsWait how wait = IsWaitOf how wait
 
--- whoever is at the place began to wait so at its millisecond, and after each of its turns since it waited for the same,
--- or could go on, or was to be answered
+-- whoever is at the place began to wait so at its millisecond, and after each of its turns since it waited for the
+-- same, or could go on, or was to be answered
 abbrev pub WaitsSince : HeardAt → ℕ → Wait → Type 0
 WaitsSince heard place wait =
     (front rest : HeardAt) × (how : Step) × (held : Option (Option ℕ))

@@ -232,8 +232,8 @@ fn handle_all<H: Responder, S: Sockets, C: Clock>(
 
 /// The first of the requests that are held are answered, each at its moment: those in front that can be are answered
 /// together, and then no more; and what can't be is answered alone, or is passed over where it may wait. It is one at
-/// least where any are held, and at most 67, and at the places of those that are held still nothing changes. The result is whether the
-/// responder goes on; where it doesn't, each whose reply waits is sent once more.
+/// least where any are held, and at most 67, and at the places of those that are held still nothing changes. The result
+/// is whether the responder goes on; where it doesn't, each whose reply waits is sent once more.
 fn answer_held<H: Responder, S: Sockets>(
     alloc: Global,
     routes: &Routes,
