@@ -1,9 +1,9 @@
 -- What the calls of a store say, where its device was honest and the store still serves.
-use Rattle.std.specs.Prelude.{◌≡◌, ◌↔◌, ◌⊎◌, ◌&&◌, ◌++◌, ◌+◌, ℕ, ◌<◌, ◌≤◌, Bool, List, [], ◌∷◌, Result, Ok, Err}
-use Rattle.std.specs.Prelude.{IfErr, Option, Some, None, Contains, AllPairs}
+use Rattle.std.specs.Prelude.{◌≡◌, ◌↔◌, ◌⊎◌, ◌&&◌, ◌++◌, ◌+◌, ℕ, ◌<◌, ◌≤◌, Bool, true, List, [], ◌∷◌, Result, Ok, Err}
+use Rattle.std.specs.Prelude.{IfErr, Option, Some, None, Contains, AllPairs, take}
 use Rattle.std.specs.List.{filter}
 use Rattle.std.specs.List.Sorted.{IsSorted, IsStrictlySortedBy, IsPermutation}
-use Rattle.std.specs.Ordering.{nat_cmp, ordering_then}
+use Rattle.std.specs.Ordering.{is_le, is_lt, nat_cmp, ordering_then}
 use Rattle.std.specs.declared.cmp.Ordering.{Ordering}
 use Rattle.std.specs.FinMap.{get, values}
 use Rattle.hall_policy.specs.Text.{text_cmp}
@@ -12,6 +12,7 @@ use Rattle.hall_policy.specs.Ranges.{HasWholeList}
 use Rattle.hall_policy.specs.Rules.{ListsEntry}
 use Rattle.hall_policy.specs.Facts.{IsRoundFound}
 use Rattle.hall_policy.specs.Sink.{HasTaken}
+use Rattle.hall_policy.specs.declared.record.Person.{Person}
 use Rattle.hall_policy.specs.declared.record.PuzzleKey.{PuzzleKey}
 use Rattle.hall_policy.specs.declared.record.PuzzleRow.{PuzzleRow}
 use Rattle.hall_policy.specs.declared.record.Entry.{Entry}
@@ -161,6 +162,29 @@ pub record IsListing (world : World) (test : AnswerRow → Bool) (rows : List An
 -- the answer belongs to the round
 abbrev pub is_in : List ℕ → AnswerRow → Bool
 is_in round row = same_text row.key.round round
+
+-- the name comes after this one, or none is given
+abbrev pub is_after : Option (List ℕ) → List ℕ → Bool
+is_after None name = true
+is_after (Some after) name = is_lt (text_cmp after name)
+
+-- the name doesn't come after this one, or none is given
+abbrev pub is_up_to : Option (List ℕ) → List ℕ → Bool
+is_up_to None name = true
+is_up_to (Some last) name = is_le (text_cmp name last)
+
+-- the answer belongs to the round, and its entrant's name comes after the one name and not after the other
+abbrev pub is_between : List ℕ → Option (List ℕ) → Option (List ℕ) → AnswerRow → Bool
+is_between round after last row = is_in round row && (is_after after row.key.entrant && is_up_to last row.key.entrant)
+
+-- so many people are read at once, at most
+abbrev pub people_at_once : ℕ
+people_at_once = 200
+
+-- the next people after the name, or the first, in the order of their names
+abbrev pub people_after : World → Option (List ℕ) → List Person
+people_after world after =
+    take people_at_once (filter (λ person. is_after after person.name) (values world.people))
 
 -- the answer is the entrant's, in the round
 abbrev pub is_of : List ℕ → List ℕ → AnswerRow → Bool

@@ -22,5 +22,5 @@ pub use change::{Change, RoundFlag};
 pub use fault::StoreFault;
 pub use joint::{JointAnswers, MOST_TOGETHER};
 pub use map_store::MapStore;
-pub use store::{ReadStore, Store};
+pub use store::{PEOPLE_AT_ONCE, ReadStore, Store};
 pub use whole::{Place, Tester, WholeStore};

@@ -8,6 +8,9 @@ use hall_policy::{
 };
 use std::alloc::Global;
 
+/// The most people that are read at once: where fewer come, there are no more.
+pub const PEOPLE_AT_ONCE: usize = 200;
+
 /// The hall's world, however it is kept, as those see it who only read: who plans what a request does gets no more.
 ///
 /// A read may change what keeps the world, as a connection is, and leaves the world. What a call says of its answer and
@@ -21,7 +24,8 @@ pub trait ReadStore: Drop {
     ghost use Rattle.hall_policy.specs.Rules.{answers_given, protests_made, puzzles_put};
     ghost use Rattle.hall_store.specs.Store.{Content, Kept, IsSettled, Served, Fails, puzzles_of, IsRoundKept};
     ghost use Rattle.hall_store.specs.Store.{AreTestersOf, RoundCanFail};
-    ghost use Rattle.hall_store.specs.Store.{AreUsing, IsNumberTaken, IsListing, is_of, is_in};
+    ghost use Rattle.hall_store.specs.Store.{AreUsing, IsNumberTaken, IsListing, is_of, is_in, is_between};
+    ghost use Rattle.hall_store.specs.Store.{people_after};
     ghost use Rattle.hall_store.specs.Store.{HasSubmitted, IsProtestOpen, protests_of, protests_in, Fed, IsRefusedNext};
     ghost use Rattle.hall_store.specs.Caller.{IsKeyHolder};
     ghost use Rattle.hall_store.specs.declared.fault.StoreFault.TheVariants.{Failed};
@@ -49,6 +53,17 @@ pub trait ReadStore: Drop {
     fn people(&mut self, alloc: Global) -> Result<Vec<Person>, StoreFault>
         ensures kept { Kept (content self.old) (content self.new) }
         ensures served { Served (content self.new) result (λ world people. people.items ≡ values world.people) }
+        ensures fault { Fails (content self.new).can_fail result };
+
+    /// The next people after the name, or the first, `PEOPLE_AT_ONCE` at most, in the order of their names.
+    fn people_after(
+        &mut self,
+        alloc: Global,
+        after: &Option<Name>,
+    ) -> Result<Vec<Person>, StoreFault>
+        ensures kept { Kept (content self.old) (content self.new) }
+        ensures served { Served (content self.new) result
+            (λ world people. people.items ≡ people_after world after.now) }
         ensures fault { Fails (content self.new).can_fail result };
 
     /// The puzzle under the key.
@@ -150,19 +165,22 @@ pub trait ReadStore: Drop {
         ensures served { Served (content self.new) result (λ world rows. IsListing world (is_in round.now) rows.items) }
         ensures fault { Fails (content self.new).can_fail result };
 
-    /// Gives the sink the answers of the round, one after another, by entrant, number, then n. It fails where the sink
-    /// refuses one, and has then taken those before.
+    /// Gives the sink the answers of the round by entrants after the one name and up to the other, where these are
+    /// given, one after another, by entrant, number, then n. It fails where the sink refuses one, and has then taken
+    /// those before.
     fn feed_answers<K: Sink<AnswerRow>>(
         &mut self,
         alloc: Global,
         round: &RoundId,
+        after: &Option<Name>,
+        last: &Option<Name>,
         sink: &mut K,
     ) -> Result<(), StoreFault>
         ensures kept { Kept (content self.old) (content self.new) }
-        ensures fed { Fed K.takes (λ world rows. IsListing world (is_in round.now) rows)
+        ensures fed { Fed K.takes (λ world rows. IsListing world (is_between round.now after.now last.now) rows)
             (content self.old) (content self.new) sink.old result sink.new }
-        ensures fault { IfErr result (λ fault. fault ≡ Failed → (content self.new).can_fail
-            ⊎ IsRefusedNext K.takes K.refuses (λ world rows. IsListing world (is_in round.now) rows)
+        ensures fault { IfErr result (λ fault. fault ≡ Failed → (content self.new).can_fail ⊎ IsRefusedNext K.takes
+            K.refuses (λ world rows. IsListing world (is_between round.now after.now last.now) rows)
             (content self.old) (content self.new) sink.old sink.new) };
 
     /// Whether the entrant has an answer in the round.
