@@ -32,7 +32,8 @@ use Rattle.hall_policy.proofs.Orders.{answer_total, same_answer_keys, text_total
 use Rattle.hall_store.specs.Keyed.{HasAny, agree, answer_entry, slot_cmp, slot_of, first_slot, AreKeysDistinct}
 use Rattle.hall_store.specs.Maps.{world_of_maps}
 use Rattle.hall_store.specs.Change.{CanAddAnswer}
-use Rattle.hall_store.specs.Store.{HasSubmitted, IsListing, IsNumberTaken, listing_cmp, is_in, is_of}
+use Rattle.hall_store.specs.Store.{HasSubmitted, IsListing, IsNumberTaken, listing_cmp, is_after, is_between, is_in, is_of}
+use Rattle.hall_store.specs.Store.{is_up_to}
 use Rattle.hall_store.specs.declared.map_store.MapStore.{MapStore}
 use Rattle.hall_store.specs.declared.slot.AnswerSlot.{AnswerSlot}
 use Rattle.hall_store.specs.declared.slot.Part.TheVariants.{Entrant, Puzzle}
@@ -449,6 +450,13 @@ module _ (store : MapStore) where
   pub listed_in : (round : List ℕ) → IsStrictlySortedBy slot_cmp (keys_of store.answers.entries)
       → IsListing world (is_in round) (filter (is_in round) rows)
   listed_in round = listed (is_in round) round (λ row h. (text_decides row.key.round round).0 h)
+
+  pub listed_between : (round : List ℕ) (after last : Option (List ℕ))
+      → IsStrictlySortedBy slot_cmp (keys_of store.answers.entries) →
+      IsListing world (is_between round after last) (filter (is_between round after last) rows)
+  listed_between round after last = listed (is_between round after last) round
+      (λ row h. (text_decides row.key.round round).0 (and_first (is_in round row)
+      (is_after after row.key.entrant && is_up_to last row.key.entrant) h))
 
   pub listed_of : (entrant round : List ℕ) → IsStrictlySortedBy slot_cmp (keys_of store.answers.entries)
       → IsListing world (is_of entrant round) (filter (is_of entrant round) rows)

@@ -1,8 +1,9 @@
 -- The least keys of the intervals of keys that are asked for, and what lies between two keys of one interval.
 use Rattle.std.proofs.Common.{◌≡◌, ◌==◌, ◌&&◌, ◌≤◌, ℕ, length, Bool, true, false, List, [], ◌∷◌, IsTrue, refl, sym, ap}
-use Rattle.std.proofs.Common.{◌∙◌, subst, arith}
+use Rattle.std.proofs.Common.{◌∙◌, subst, arith, Option, Some, None}
 use Rattle.std.specs.Cmp.{IsTotalOrder, tied_itself, unsigned_Decides}
-use Rattle.std.specs.Ordering.{is_le, nat_cmp, ordering_then, ordering_reverse}
+use Rattle.std.specs.BTreeMap.Comparable.{le_lt_trans}
+use Rattle.std.specs.Ordering.{is_le, is_lt, nat_cmp, ordering_then, ordering_reverse}
 use Rattle.std.specs.declared.cmp.Ordering.{Ordering}
 use Rattle.std.specs.declared.cmp.Ordering.TheVariants.{Less, Equal, Greater}
 use Rattle.std.specs.declared.ops.Bound.TheVariants.{Included, Unbounded}
@@ -24,14 +25,16 @@ use Rattle.hall_policy.specs.declared.record.ProtestRow.{ProtestRow}
 use Rattle.hall_policy.proofs.Orders.{text_total, same_texts, puzzle_total, protest_total, tied_then}
 use Rattle.hall_store.specs.Keyed.{Each, IsPuzzleKept, IsUseKept, IsAnswerKept, IsProtestKept, IsFirst, agree, slot_cmp}
 use Rattle.hall_store.specs.Keyed.{slot_of, use_cmp, use_of, is_use_of, least_word}
-use Rattle.hall_store.specs.Store.{is_protest_of}
+use Rattle.hall_store.specs.Keyed.{first_name, first_slot, is_inside}
+use Rattle.hall_policy.specs.Ranges.{IsName}
+use Rattle.hall_store.specs.Store.{is_after, is_between, is_protest_of, is_up_to}
 use Rattle.hall_store.specs.declared.slot.AnswerSlot.{AnswerSlot}
 use Rattle.hall_store.specs.declared.slot.UseKey.{UseKey}
 use Rattle.hall_store.specs.declared.slot.Part.{Part}
 use Rattle.hall_store.specs.declared.slot.Part.TheVariants.{Round, Entrant, Puzzle}
 use Rattle.hall_store.proofs.Tests.{and_both}
 use Rattle.hall_policy.proofs.Texts.{and_first, and_second, text_decides}
-use Rattle.hall_store.proofs.Ranges.{all_of_each, values_filtered, stand_together}
+use Rattle.hall_store.proofs.Ranges.{all_of_each, values_filtered, stand_among, stand_together}
 
 -- ---- the orders
 pub slot_total : IsTotalOrder slot_cmp
@@ -75,6 +78,19 @@ first_le Greater b h = h
 
 second_le : (a b : Ordering) → a ≡ Equal → is_le (ordering_then a b) ≡ true → is_le b ≡ true
 second_le a b e h = subst (λ r. is_le (ordering_then r b) ≡ true) e h
+
+less_le : (a : Ordering) → is_lt a ≡ true → is_le a ≡ true
+less_le Less h = refl
+less_le Equal h = refl
+less_le Greater h = h
+
+le_le : (a b c : List ℕ) → is_le (text_cmp a b) ≡ true → is_le (text_cmp b c) ≡ true → is_le (text_cmp a c) ≡ true
+le_le a b c low high =
+    elim (text_cmp b c) as (λ r. text_cmp b c ≡ r → is_le r ≡ true → is_le (text_cmp a c) ≡ true) [
+      | Less ↦ λ less _. ap is_le (le_lt_trans text_total a b c low less)
+      | Equal ↦ λ same _. subst (λ x. is_le (text_cmp a x) ≡ true) (same_texts b c same) low
+      | Greater ↦ λ _ no. let never : false ≡ true = no in absurd (cc)
+    ] refl high
 
 both_le : (a b : Ordering) → is_le a ≡ true → is_le b ≡ true → is_le (ordering_then a b) ≡ true
 both_le Less b p q = refl
@@ -232,6 +248,24 @@ one_round a b = same_text a.round b.round
 abbrev one_entrant : AnswerSlot → AnswerSlot → Bool
 one_entrant a b = same_text a.entrant b.entrant
 
+-- a name before one that comes after none comes after none
+pub up_to_before : (last : Option (List ℕ)) (a b : List ℕ) → is_le (text_cmp a b) ≡ true → is_up_to last b ≡ true
+    → is_up_to last a ≡ true
+up_to_before None a b le up = refl
+up_to_before (Some last) a b le up = le_le a b last le up
+
+name_low : (after : Option (List ℕ)) (name : List ℕ) → IsName name → is_after after name ≡ true
+    → is_le (text_cmp (first_name after) name) ≡ true
+name_low None name is h = least_le 24 least_word name refl is
+name_low (Some after) name is h = less_le (text_cmp after name) h
+
+pub and_parted : (a b c : Bool) → ((a && b) && c) ≡ (a && (c && b))
+and_parted true true true = refl
+and_parted true true false = refl
+and_parted true false true = refl
+and_parted true false false = refl
+and_parted false b c = refl
+
 module _ (first : AnswerSlot) where
   slot_between : (part : Part) (a b : AnswerSlot) → is_le (slot_cmp first a) ≡ true → slot_cmp a b ≡ Less
       → agree part b first ≡ true → agree part a first ≡ true
@@ -323,6 +357,51 @@ module _ (first : AnswerSlot) where
       answers_together part is es sorted kept
       ∙ ap (λ (es : List (AnswerSlot × AnswerRow)). values_of
       (take_while (λ (e : AnswerSlot × AnswerRow). agree part e.0 first) es)) (sym from)
+
+  -- the round's answers by entrants after a name and up to another, from the first slot of the one name on
+  module _ (after last : Option (List ℕ)) (is : first ≡ first_slot first.round (first_name after) 1) where
+    inside_between : (a b : AnswerSlot) → is_le (slot_cmp first a) ≡ true → slot_cmp a b ≡ Less
+        → is_inside first.round last b ≡ true → is_inside first.round last a ≡ true
+    inside_between a b low less own =
+        let one = squeezed text_total same_texts first.round a.round b.round (by_entrant first a) (by_entrant a b) low
+        (ap is_le less) ((text_decides b.round first.round).0
+        (and_first (one_round b first) (is_up_to last b.entrant) own)) in
+        and_both (one_round a first) (is_up_to last a.entrant) ((text_decides a.round first.round).1 one.same)
+        (up_to_before last a.entrant b.entrant (first_le (text_cmp a.entrant b.entrant) (by_number a b) one.below)
+        (and_second (one_round b first) (is_up_to last b.entrant) own))
+
+    inside_low : (slot : AnswerSlot) (row : AnswerRow) → IsAnswerKept slot row
+        → (is_inside first.round last slot && is_after after slot.entrant) ≡ true → is_le (slot_cmp first slot) ≡ true
+    inside_low slot row kept own =
+        not_below slot (texts_le slot.round first.round (and_first (one_round slot first) (is_up_to last slot.entrant)
+        (and_first (is_inside first.round last slot) (is_after after slot.entrant) own)))
+        (subst (λ name. is_le (text_cmp name slot.entrant) ≡ true) (sym (ap (λ (s : AnswerSlot). s.entrant) is))
+        (name_low after slot.entrant kept.entrant
+        (and_second (is_inside first.round last slot) (is_after after slot.entrant) own)))
+        (least_number first.number slot.number (ap (λ (s : AnswerSlot). s.number) is) kept.number)
+        (least_number first.n slot.n (ap (λ (s : AnswerSlot). s.n) is) kept.n)
+
+    abbrev is_asked : AnswerSlot → Bool
+    is_asked slot = is_inside first.round last slot && is_after after slot.entrant
+
+    pub answers_among : (es : List (AnswerSlot × AnswerRow)) → IsStrictlySortedBy slot_cmp (keys_of es)
+        → Each slot_cmp es IsAnswerKept →
+        (ahead : List (AnswerSlot × AnswerRow)) → ahead ≡ entries_between slot_cmp (Included first) Unbounded es →
+        filter (is_between first.round after last) (values_of es) ≡ values_of
+        (filter (λ (e : AnswerSlot × AnswerRow). is_after after e.0.entrant)
+        (take_while (λ (e : AnswerSlot × AnswerRow). is_inside first.round last e.0) ahead))
+    answers_among es sorted kept ahead from =
+        values_filtered is_asked (is_between first.round after last) es
+        (all_of_each slot_total (λ slot row. is_asked slot ≡ is_between first.round after last row) es sorted
+        (λ slot row found. ap is_asked (sym (kept slot row found).own) ∙ and_parted (same_text row.key.round first.round)
+        (is_up_to last row.key.entrant) (is_after after row.key.entrant)))
+        ∙ ap values_of (stand_among first (is_inside first.round last) inside_between
+        (λ slot. is_after after slot.entrant) es sorted
+        (all_of_each slot_total (λ slot row. is_asked slot ≡ true → is_le (slot_cmp first slot) ≡ true) es sorted
+        (λ slot row found. inside_low slot row (kept slot row found))))
+        ∙ ap (λ (es : List (AnswerSlot × AnswerRow)). values_of
+        (filter (λ (e : AnswerSlot × AnswerRow). is_after after e.0.entrant)
+        (take_while (λ (e : AnswerSlot × AnswerRow). is_inside first.round last e.0) es))) (sym from)
 
 -- ---- protests
 -- both keys are of one entrant in one round

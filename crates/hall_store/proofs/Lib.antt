@@ -1,6 +1,7 @@
 pub mod Tests
 pub mod Ranges
 pub mod Firsts
+pub mod Slices
 pub mod MapWorlds
 pub mod RoundWorlds
 pub mod AnswerWorlds

@@ -81,6 +81,17 @@ values_filtered {K} {X} p q (e ∷ es) alike =
       | false ↦ rest
     ]
 
+-- what passes a test of those that pass another passes both
+pub filter_twice : {X : Type 0} (p q : X → Bool) (xs : List X) → filter p (filter q xs) ≡ filter (λ x. q x && p x) xs
+filter_twice p q [] = refl
+filter_twice {X} p q (x ∷ xs) =
+    let rest : filter p (filter q xs) ≡ filter (λ y. q y && p y) xs = filter_twice p q xs in
+    elim (q x) as (λ b. filter p (cond b (x ∷ filter q xs) (filter q xs)) ≡ cond (b && p x)
+    (x ∷ filter (λ y. q y && p y) xs) (filter (λ y. q y && p y) xs)) [
+      | true ↦ ap (λ (ys : List X). cond (p x) (x ∷ ys) ys) rest
+      | false ↦ rest
+    ]
+
 module _ {K X : Type 0} {R : K → K → Ordering} (least : K) (test : K → Bool)
     (between : (a b : K) → is_le (R least a) ≡ true → R a b ≡ Less → test b ≡ true → test a ≡ true) where
   abbrev passes : K × X → Bool
@@ -113,6 +124,34 @@ module _ {K X : Type 0} {R : K → K → Ordering} (least : K) (test : K → Boo
             ] refl ∙ sym (take_while-cons passes e beyond)
         | false ↦ λ below.
             let here : test e.0 ≡ false = not_true (test e.0)
+            (λ yes. true_not_false (is_le (R least e.0)) (low.0 yes) below) in
+            ap (λ b. cond b (e ∷ rest) rest) here ∙ again
+      ] refl
+
+  -- those that pass and have more are those with more of the first from the least key on
+  pub stand_among : (more : K → Bool) (es : List (K × X)) → IsStrictlySortedBy R (keys_of es)
+      → AllByRecursion (λ (e : K × X). (test e.0 && more e.0) ≡ true → is_le (R least e.0) ≡ true) es →
+      filter (λ (e : K × X). test e.0 && more e.0) es ≡ filter (λ (e : K × X). more e.0)
+      (take_while passes (entries_between R (Included least) Unbounded es))
+  stand_among more [] sorted low = refl
+  stand_among more (e ∷ es) sorted low =
+      let both : K × X → Bool = λ e. test e.0 && more e.0 in
+      let further : K × X → Bool = λ e. more e.0 in
+      let rest = filter both es in
+      let beyond = entries_between R (Included least) Unbounded es in
+      let ahead = take_while passes beyond in
+      let again = stand_among more es (sorted_tail R e.0 (keys_of es) sorted) low.1 in
+      elim (is_le (R least e.0)) as (λ b. is_le (R least e.0) ≡ b → cond (both e) (e ∷ rest) rest ≡ filter further
+      (take_while passes (cond (b && true) (e ∷ beyond) beyond))) [
+        | true ↦ λ within.
+            elim (test e.0) as (λ b. test e.0 ≡ b → cond (b && more e.0) (e ∷ rest) rest ≡ filter further
+            (cond b (e ∷ ahead) [])) [
+              | true ↦ λ _. ap (λ rows. cond (more e.0) (e ∷ rows) rows) again
+              | false ↦ λ out. sym (filter_twice further passes es) ∙ ap (filter further)
+                  (none_later e.0 es within out (sorted_head R e.0 (keys_of es) sorted))
+            ] refl ∙ ap (filter further) (sym (take_while-cons passes e beyond))
+        | false ↦ λ below.
+            let here : both e ≡ false = not_true (both e)
             (λ yes. true_not_false (is_le (R least e.0)) (low.0 yes) below) in
             ap (λ b. cond b (e ∷ rest) rest) here ∙ again
       ] refl

@@ -18,6 +18,7 @@ use Rattle.hall_policy.specs.declared.record.AnswerKey.{AnswerKey}
 use Rattle.hall_policy.specs.declared.record.AnswerRow.{AnswerRow}
 use Rattle.hall_policy.specs.declared.record.ProtestKey.{ProtestKey}
 use Rattle.hall_policy.specs.declared.record.ProtestRow.{ProtestRow}
+use Rattle.hall_store.specs.Store.{is_up_to}
 use Rattle.hall_store.specs.declared.slot.AnswerSlot.{AnswerSlot}
 use Rattle.hall_store.specs.declared.slot.UseKey.{UseKey}
 use Rattle.hall_store.specs.declared.slot.Part.{Part}
@@ -168,6 +169,15 @@ agree Puzzle a b = (same_text a.round b.round && same_text a.entrant b.entrant) 
 -- the least slot that an answer of the entrant to the round's puzzle of the number can have
 abbrev pub first_slot : List ℕ → List ℕ → ℕ → AnswerSlot
 first_slot round entrant number = record { round = round; entrant = entrant; number = number; n = 1 }
+
+-- the name, or the least word where none is given
+abbrev pub first_name : Option (List ℕ) → List ℕ
+first_name None = least_word
+first_name (Some name) = name
+
+-- the slot is of the round, and its entrant's name doesn't come after the last, where one is given
+abbrev pub is_inside : List ℕ → Option (List ℕ) → AnswerSlot → Bool
+is_inside round last slot = same_text slot.round round && is_up_to last slot.entrant
 
 -- no slot of the part is below this one
 abbrev pub IsFirst : Part → AnswerSlot → Type 0

@@ -3,10 +3,10 @@ ghost use Rattle.std.specs.Prelude.{◌≡◌, ◌↔◌, IsTrue, IfOk, IfErr, O
 ghost use Rattle.std.specs.List.{filter};
 ghost use Rattle.std.specs.BTreeMap as tree;
 ghost use Rattle.hall_policy.specs.World.{same_text};
-ghost use Rattle.hall_store.specs.Store.{Stops};
+ghost use Rattle.hall_store.specs.Store.{Stops, is_after, is_between};
 ghost use Rattle.hall_policy.specs.Sink.{HasTaken};
 ghost use Rattle.hall_store.specs.Keyed.{Each, IsAnswerKept, IsFirst, slot_cmp, slot_of, first_slot, agree, least_word};
-ghost use Rattle.hall_store.specs.Keyed.{HasAny};
+ghost use Rattle.hall_store.specs.Keyed.{HasAny, first_name, is_inside};
 ghost use Rattle.hall_store.specs.declared.slot.Part.TheVariants.{Entrant as ToEntrant, Puzzle as ToPuzzle};
 ghost use Rattle.hall_store.specs.declared.slot.Part.TheVariants.{Round as ToRound};
 
@@ -53,6 +53,20 @@ pub(crate) fn first_in(alloc: Global, round: &RoundId) -> Result<AnswerSlot, All
         unreachable!()
     };
     first_of(&entrant, round)
+}
+
+/// The least slot that an answer in the round can have by an entrant from the name on, or by any.
+pub(crate) fn first_from(
+    alloc: Global,
+    round: &RoundId,
+    name: &Option<Name>,
+) -> Result<AnswerSlot, AllocError>
+    ensures { IfOk result (λ slot. slot ≡ first_slot round.now (first_name name.now) 1) }
+{
+    match name {
+        Some(name) => first_of(name, round),
+        None => first_in(alloc, round),
+    }
 }
 
 /// The least slot that an answer of the entrant in the round can have.
@@ -176,23 +190,53 @@ pub(crate) fn is_taken(answers: &BTreeMap<AnswerSlot, AnswerRow>, slot: &AnswerS
     answers.contains_key(slot)
 }
 
-/// Gives the sink the round's answers, one after another, from its first slot on.
+/// Whether the name comes after this one, or none is given.
+fn is_after(after: &Option<Name>, name: &Name) -> bool
+    ensures { result ≡ is_after after.now name.now }
+{
+    match after {
+        Some(after) => after.cmp(name).is_lt(),
+        None => true,
+    }
+}
+
+/// Whether the slot is of the round, and its entrant's name doesn't come after the last, where one is given.
+fn is_inside(round: &RoundId, last: &Option<Name>, slot: &AnswerSlot) -> bool
+    ensures { result ≡ is_inside round.now last.now slot.now }
+{
+    if slot.round != *round {
+        return false;
+    }
+    match last {
+        Some(last) => slot.entrant.cmp(last).is_le(),
+        None => true,
+    }
+}
+
+/// Gives the sink the round's answers by entrants after the one name and up to the other, one after another, from the
+/// first slot on that an entrant from the one name on can have.
 pub(crate) fn feed_answers<K: Sink<AnswerRow>>(
     answers: &BTreeMap<AnswerSlot, AnswerRow>,
     first: &AnswerSlot,
+    after: &Option<Name>,
+    last: &Option<Name>,
     sink: &mut K,
 ) -> Result<(), SinkFault>
     requires kept { Each slot_cmp answers.now.entries IsAnswerKept }
-    requires first { IsFirst ToRound first.now }
+    requires first { first.now ≡ first_slot first.now.round (first_name after.now) 1 }
     ensures fed { OnOk result (HasTaken K.takes sink.old
-        (filter (λ row. agree ToRound (slot_of row) first.now) (tree.values answers.now)) sink.new) }
+        (filter (is_between first.now.round after.now last.now) (tree.values answers.now)) sink.new) }
     ensures stopped { IfErr result (λ fault. Stops K.takes K.refuses sink.old
-        (filter (λ row. agree ToRound (slot_of row) first.now) (tree.values answers.now)) sink.new fault) }
+        (filter (is_between first.now.round after.now last.now) (tree.values answers.now)) sink.new fault) }
     ensures ordered { tree.IsOrdered slot_cmp answers.now }
 {
     for (slot, row) in answers.range(first..) {
-        if !agree(Part::Round, slot, first) {
+        if !is_inside(&first.round, last, slot) {
             break;
+        }
+        // The range begins with the answers of the entrant after whom others are asked for.
+        if !is_after(after, &slot.entrant) {
+            continue;
         }
         sink.take(row)?;
     }

@@ -86,6 +86,16 @@ impl<S: ReadStore> ReadStore for CachedStore<S> {
         told
     }
 
+    fn people_after(
+        &mut self,
+        alloc: Global,
+        after: &Option<Name>,
+    ) -> Result<Vec<Person>, StoreFault> {
+        let told = self.store.people_after(alloc, after);
+        self.cache.forget_if_refused(&told);
+        told
+    }
+
     fn puzzle(&mut self, alloc: Global, key: &PuzzleKey) -> Result<Option<PuzzleRow>, StoreFault> {
         if let Some(row) = self.cache.puzzle(key) {
             return Ok(Some(row));
@@ -202,9 +212,11 @@ impl<S: ReadStore> ReadStore for CachedStore<S> {
         &mut self,
         alloc: Global,
         round: &RoundId,
+        after: &Option<Name>,
+        last: &Option<Name>,
         sink: &mut K,
     ) -> Result<(), StoreFault> {
-        let told = self.store.feed_answers(alloc, round, sink);
+        let told = self.store.feed_answers(alloc, round, after, last, sink);
         self.cache.forget_if_refused(&told);
         told
     }

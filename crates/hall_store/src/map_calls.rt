@@ -3,8 +3,8 @@ ghost use Rattle.std.specs.Prelude.{◌≡◌};
 ghost use Rattle.hall_store.specs.Change.{flagged};
 
 use crate::answer_reads::{
-    answer_rows, answer_with, count_answers, feed_answers, first_in, first_of, first_to,
-    has_answer, is_taken, slot_at,
+    answer_rows, answer_with, count_answers, feed_answers, first_from, first_in, first_of,
+    first_to, has_answer, is_taken, slot_at,
 };
 use crate::change::RoundFlag;
 use crate::fault::StoreFault;
@@ -14,7 +14,7 @@ use crate::map_adds::{
 };
 use crate::map_reads::{
     all_people, all_puzzle_rows, count_puzzles, first_label, first_use, heads, holder, ids_using,
-    own_key, person_at, puzzle_at, puzzle_rows, round_at, testers_at,
+    next_people, own_key, person_at, puzzle_at, puzzle_rows, round_at, testers_at,
 };
 use crate::map_store::MapStore;
 use crate::protest_reads::{
@@ -47,6 +47,14 @@ impl ReadStore for MapStore {
 
     fn people(&mut self, alloc: Global) -> Result<Vec<Person>, StoreFault> {
         Ok(all_people(alloc, &self.people)?)
+    }
+
+    fn people_after(
+        &mut self,
+        alloc: Global,
+        after: &Option<Name>,
+    ) -> Result<Vec<Person>, StoreFault> {
+        Ok(next_people(alloc, &self.people, after)?)
     }
 
     fn puzzle(&mut self, _alloc: Global, key: &PuzzleKey) -> Result<Option<PuzzleRow>, StoreFault> {
@@ -131,10 +139,12 @@ impl ReadStore for MapStore {
         &mut self,
         alloc: Global,
         round: &RoundId,
+        after: &Option<Name>,
+        last: &Option<Name>,
         sink: &mut K,
     ) -> Result<(), StoreFault> {
-        let first = first_in(alloc, round)?;
-        Ok(feed_answers(&self.answers, &first, sink)?)
+        let first = first_from(alloc, round, after)?;
+        Ok(feed_answers(&self.answers, &first, after, last, sink)?)
     }
 
     fn has_answered(

@@ -1,20 +1,25 @@
 //! What the maps of people, puzzles and rounds answer.
 ghost use Rattle.std.specs.Prelude.{◌≡◌, ◌++◌, ◌∷◌, [], IfOk, OnOk, cond, map, count_by, option_copied, AllPairs};
+ghost use Rattle.std.specs.Prelude.{take};
 ghost use Rattle.std.specs.List.{filter};
+ghost use Rattle.std.specs.Map.{values_of};
 ghost use Rattle.std.specs.BTreeMap as tree;
 ghost use Rattle.hall_policy.specs.Text.{text_cmp};
 ghost use Rattle.hall_policy.specs.World.{same_text, puzzle_cmp};
 ghost use Rattle.hall_store.specs.Keyed.{Each, IsPuzzleKept, IsUseKept, holder_of, first_label, least_word};
 ghost use Rattle.hall_store.specs.Keyed.{use_of, use_cmp, is_use_of, is_use_true, has_puzzle, has_puzzle_at, ids_using};
 ghost use Rattle.hall_store.specs.Keyed.{testers_at};
+ghost use Rattle.hall_store.specs.Store.{is_after, people_at_once};
 
 use crate::slot::UseKey;
+use crate::store::PEOPLE_AT_ONCE;
 use crate::writes::push;
 use hall_policy::{
     Entry, Key, Label, Name, Person, PuzzleKey, PuzzleRow, Round, RoundId, RoundRow,
 };
 use std::alloc::{AllocError, Global};
 use std::collections::BTreeMap;
+use std::ops::Bound;
 
 /// The person with the key, as the index leads to the name; the row decides.
 pub(crate) fn find_holder<'a>(
@@ -72,6 +77,30 @@ pub(crate) fn all_people(
         push(&mut all, person.clone()?)?;
     }
     Ok(all)
+}
+
+/// Copies of the next people after the name, or of the first, `PEOPLE_AT_ONCE` at most, in the order of their names.
+pub(crate) fn next_people(
+    alloc: Global,
+    people: &BTreeMap<Name, Person>,
+    after: &Option<Name>,
+) -> Result<Vec<Person>, AllocError>
+    ensures people { IfOk result (λ next. next.items
+        ≡ take people_at_once (values_of (filter (λ entry. is_after after.now entry.0) people.now.entries))) }
+    ensures ordered { tree.IsOrdered text_cmp people.now }
+{
+    let start = match after {
+        Some(name) => Bound::Excluded(name),
+        None => Bound::Unbounded,
+    };
+    let mut next = Vec::new(alloc);
+    for (_, person) in people.range((start, Bound::Unbounded)) {
+        if next.len() >= PEOPLE_AT_ONCE {
+            break;
+        }
+        push(&mut next, person.clone()?)?;
+    }
+    Ok(next)
 }
 
 /// A copy of the puzzle under the key.
