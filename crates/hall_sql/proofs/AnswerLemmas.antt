@@ -1,6 +1,6 @@
 -- What the statements on answers say of the world.
 use Rattle.std.proofs.Common.{◌&&◌, inr, flat_map, option_to_list, Bool, true, sym, subst, ◌∙◌, ◌≡◌, ◌≤◌, ℕ, pos, List}
-use Rattle.std.proofs.Common.{[], ◌∷◌, length, map, slice_get, Some, refl, ap}
+use Rattle.std.proofs.Common.{[], ◌∷◌, length, map, slice_get, Option, Some, refl, ap}
 use Rattle.std.specs.List.{list_all}
 use Rattle.std.specs.Ordering.{eq_by_cmp}
 use Rattle.std.specs.FinMap.{get}
@@ -28,14 +28,16 @@ use Rattle.sqlite.specs.Query.{output, output_cmp}
 use Rattle.sqlite.specs.Table.{Table}
 use Rattle.sqlite.specs.Term.{Term}
 use Rattle.sqlite.specs.Tree.{Trees}
-use Rattle.hall_store.specs.Store.{IsListing, listing_cmp, is_in, is_of}
+use Rattle.hall_store.specs.Store.{IsListing, listing_cmp, is_between, is_in, is_of}
+use Rattle.hall_sql.specs.Bounds.{between_params, text_before, text_up_to}
+use Rattle.hall_sql.proofs.BoundLemmas.{column_above, column_up_to, is_name, name_after, name_read, name_up_to}
 use Rattle.hall_sql.specs.Tables.{IsHallSchema, table_at}
 use Rattle.hall_sql.proofs.Wordings.{Wording, hall_in, worded}
 use Rattle.hall_sql.specs.Rows.{columns_from}
 use Rattle.hall_sql.specs.Standing.{AreKeyed, AreKeyedIn, IsSelection}
 use Rattle.hall_sql.specs.Statements.{equals, plain_query}
 use Rattle.hall_sql.specs.declared.answers.TheConstants.{ANSWERS_IN, ANSWERS_OF, ALL_ANSWERS, ANSWER}
-use Rattle.hall_sql.proofs.AnswerTexts.{listing_order, answers_in_is, answers_of_is}
+use Rattle.hall_sql.proofs.AnswerTexts.{between_terms, listing_order, answers_in_is, answers_of_is}
 use Rattle.hall_sql.proofs.CallLemmas.{answers_selection}
 use Rattle.hall_sql.proofs.ColumnLemmas.{int_as_nat, and_true, column_same}
 use Rattle.hall_sql.proofs.SortedLemmas.{sorted_records, selection_of_values}
@@ -62,6 +64,7 @@ pub record HasColumns (r : Row) (row : AnswerRow) : Type 0 where
   pub number : column r 3 ≡ Int (pos row.key.number)
   pub token : column r 4 ≡ Text row.key.token
   pub n : column r 5 ≡ Int (pos row.n)
+  pub named : is_name row.key.entrant ≡ true
 
 pub has_columns : (r : Row) (row : AnswerRow) → answer_of_row r ≡ Some row → HasColumns r row
 has_columns r row is =
@@ -74,6 +77,7 @@ has_columns r row is =
       number = number_column 1 most_number (column r 3) row.key.number it.number;
       token = kind_column 1 32 is_word_byte (column r 4) row.key.token it.token;
       n = number_column 1 most_answers (column r 5) row.n it.n;
+      named = name_read (column r 1) row.key.entrant it.entrant;
     }
 
 abbrev pub key_params : AnswerKey → Row
@@ -233,6 +237,20 @@ module _ (old new : State) (has : IsHallSchema old.now.schema) (keyed : AreKeyed
   pub in_agrees : (round : List ℕ) (r : Row) (x : AnswerRow) → answer_of_row r ≡ Some x
       → list_all (holds ((Text round ∷ []) ∷ r ∷ [])) (equals 2 0 ∷ []) ≡ is_in round x
   in_agrees round r x h = and_true _ ∙ column_same (column r 2) x.key.round round (has_columns r x h).round
+
+  -- so does round = ?1 AND entrant > ?2 AND entrant <= ?3
+  pub between_agrees : (round : List ℕ) (after last : Option (List ℕ)) (r : Row) (x : AnswerRow)
+      → answer_of_row r ≡ Some x
+      → list_all (holds (between_params round after last ∷ r ∷ [])) between_terms ≡ is_between round after last x
+  between_agrees round after last r x h =
+      let it = has_columns r x h in
+      let entrant = x.key.entrant in
+      both (column_same (column r 2) x.key.round round it.round)
+      (both (column_above (column r 1) entrant (text_before after) it.entrant ∙ name_after after entrant it.named)
+      (and_true _ ∙ column_up_to (column r 1) entrant (text_up_to last) it.entrant ∙ name_up_to last entrant it.named))
+    where
+      both : {a b c d : Bool} → a ≡ c → b ≡ d → a && b ≡ c && d
+      both {a} {b} {c} {d} p q = ap (λ x. x && b) p ∙ ap (λ x. c && x) q
 
   of_agrees : (entrant round : List ℕ) (r : Row) (x : AnswerRow) → answer_of_row r ≡ Some x
       → list_all (holds ((Text entrant ∷ Text round ∷ []) ∷ r ∷ [])) (equals 2 1 ∷ equals 1 0 ∷ []) ≡ is_of entrant

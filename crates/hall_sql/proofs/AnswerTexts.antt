@@ -1,5 +1,5 @@
 -- What the statements on answers mean under the hall's tables.
-use Rattle.std.proofs.Common.{◌≡◌, List, ℕ, refl, pos, true, false, [], ◌∷◌}
+use Rattle.std.proofs.Common.{◌≡◌, List, ℕ, Option, refl, pos, true, false, [], ◌∷◌}
 use Rattle.sqlite_tied.specs.Compute.{everything}
 use Rattle.sqlite_value.specs.declared.keys.Key.{Key}
 use Rattle.sqlite.specs.Term.{Term, lit, col}
@@ -9,9 +9,10 @@ use Rattle.sqlite.specs.Listing.{understood, reads_listing}
 use Rattle.sqlite.specs.Command.TheVariants.{Select, Insert}
 use Rattle.sqlite.proofs.Callers.{IsPlain, command_of}
 use Rattle.hall_sql.specs.declared.tables.HallTable.TheVariants.{Answers}
-use Rattle.hall_sql.specs.Statements.{equals, rising, names_of, plain_query}
+use Rattle.hall_sql.specs.Statements.{above, equals, rising, names_of, plain_query, up_to}
 use Rattle.hall_sql.specs.declared.answers.TheConstants.{ANSWER, ANSWERS_IN, ANSWERS_OF, ADD_ANSWER, ANSWERS_GIVEN}
-use Rattle.hall_sql.specs.declared.answers.TheConstants.{NUMBER_TAKEN, ALL_ANSWERS}
+use Rattle.hall_sql.specs.declared.answers.TheConstants.{NUMBER_TAKEN, ALL_ANSWERS, ANSWERS_BETWEEN}
+use Rattle.hall_sql.specs.Bounds.{between_params}
 use Rattle.hall_sql.specs.Asked.{IsAsked, IsAskedIn, is_whole}
 use Rattle.hall_sql.proofs.AskedLemmas.{asked}
 use Rattle.hall_sql.specs.Versions.{IsVersion}
@@ -60,6 +61,24 @@ answers_in_asked round =
     by_hall (IsAskedIn ANSWERS_IN.now (Text round ∷ [])) (λ u. asked ANSWERS_IN.now (Text round ∷ []) 9
     (equals 2 0 ∷ []) answer_columns listing_order _ (answers_in_is u).0 (answers_in_is u).1 (answers_in_is u).2
     (answers_in_is u).3 refl)
+
+-- round = ?1 AND entrant > ?2 AND entrant <= ?3
+abbrev pub between_terms : List Term
+between_terms = equals 2 0 ∷ above 1 1 ∷ up_to 1 2 ∷ []
+
+pub answers_between_is : (u : Wording) → (command_of (understood (hall_in u) ANSWERS_BETWEEN.now)
+    ≡ Select (record { lets = []; body = plain_query 9 between_terms answer_columns listing_order }) answer_names)
+    × (reads_listing (hall_in u) ANSWERS_BETWEEN.now ≡ false) × IsPlain (understood (hall_in u) ANSWERS_BETWEEN.now)
+    × (is_whole ANSWERS_BETWEEN.now 3 (understood (hall_in u) ANSWERS_BETWEEN.now) ≡ true)
+unfolding understood everything
+answers_between_is u = (refl, refl, (refl, refl), refl)
+
+pub answers_between_asked : (round : List ℕ) (after last : Option (List ℕ))
+    → IsAsked ANSWERS_BETWEEN.now (between_params round after last)
+answers_between_asked round after last =
+    by_hall (IsAskedIn ANSWERS_BETWEEN.now (between_params round after last)) (λ u. asked ANSWERS_BETWEEN.now
+    (between_params round after last) 9 between_terms answer_columns listing_order _ (answers_between_is u).0
+    (answers_between_is u).1 (answers_between_is u).2 (answers_between_is u).3 refl)
 
 pub answers_of_is : (u : Wording) → (command_of (understood (hall_in u) ANSWERS_OF.now)
     ≡ Select (record { lets = []; body = plain_query 9 (equals 2 1 ∷ equals 1 0 ∷ []) answer_columns listing_order })

@@ -33,7 +33,7 @@ use Rattle.hall_sql.proofs.LastLemmas.{more_faults}
 sums_nothing : (db : Trees) (tree : ℕ) (env : Env) → ¬ (FoldOverflows db (inner tree end) env)
 sums_nothing db tree env h = h.4
 
-never_overflows : (tree : ℕ) (terms project : List Term) (order : List (Term × Key)) (params : Row) (db : Trees)
+pub never_overflows : (tree : ℕ) (terms project : List Term) (order : List (Term × Key)) (params : Row) (db : Trees)
     → ¬ (ProgramOverflows db params [] [] (plain_query tree terms project order))
 never_overflows tree terms project order params db (inl h) = h
 never_overflows tree terms project order params db (inr h) = sums_nothing (overlay db []) tree (params ∷ []) h

@@ -76,6 +76,8 @@ pub mod MakeLemmas
 pub mod MakeCauseLemmas
 pub mod AdoptLemmas
 pub mod FeedLemmas
+pub mod FirstRows
+pub mod BoundLemmas
 pub mod FillLemmas
 pub mod FillCauseLemmas
 pub mod SelectedLemmas

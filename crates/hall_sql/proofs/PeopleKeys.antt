@@ -1,6 +1,6 @@
 -- Who has a key, of the people of the table.
 use Rattle.std.proofs.Common.{◌≡◌, ◌≤◌, inr, ℕ, List, [], ◌∷◌, length, map, filter, flat_map, true, Option, Some, None}
-use Rattle.std.proofs.Common.{IfSome, option_to_list, slice_get, refl, sym, subst, ◌∙◌}
+use Rattle.std.proofs.Common.{IfSome, option_to_list, slice_get, take, ap, refl, sym, subst, ◌∙◌}
 use Rattle.std.specs.List.{list_all}
 use Rattle.std.specs.List.Sorted.{IsPermutation}
 use Rattle.std.specs.FinMap.{get, values}
@@ -8,7 +8,7 @@ use Rattle.sqlite.specs.declared.types.Value.TheVariants.{Text}
 use Rattle.sqlite.specs.Effect.{IsDatabase}
 use Rattle.sqlite.specs.Order.{Row}
 use Rattle.sqlite.specs.State.{State, Shown}
-use Rattle.sqlite.specs.Term.{holds}
+use Rattle.sqlite.specs.Term.{Term, holds}
 use Rattle.sqlite.specs.Tree.{Trees}
 use Rattle.sqlite_schema.specs.Rules.{agree}
 use Rattle.sqlite_rules.proofs.ListLemmas.{all_has}
@@ -25,13 +25,18 @@ use Rattle.hall_sql.specs.Tables.{IsHallSchema}
 use Rattle.hall_sql.proofs.Wordings.{worded}
 use Rattle.hall_sql.specs.Rows.{person_in, person_of_row, world_of}
 use Rattle.hall_sql.specs.Standing.{AreKeyed, AreKeyedIn}
-use Rattle.hall_sql.specs.declared.people.TheConstants.{PERSON_BY_KEY, ALL_PEOPLE}
+use Rattle.hall_sql.specs.declared.people.TheConstants.{PERSON_BY_KEY, ALL_PEOPLE, PEOPLE_AFTER}
 use Rattle.hall_sql.proofs.AmongLemmas.{kept_value, is_among, only_found, only_one}
 use Rattle.hall_sql.proofs.ColumnLemmas.{and_true, column_same}
 use Rattle.hall_sql.proofs.ListedLemmas.{by_order, records_asked}
-use Rattle.hall_sql.proofs.PeopleLemmas.{name_column, key_column}
-use Rattle.hall_sql.proofs.PeopleTexts.{person_columns, person_by_key_is, name_order, all_people_are}
-use Rattle.hall_sql.specs.Statements.{equals}
+use Rattle.hall_sql.proofs.PeopleLemmas.{name_column, name_kept, key_column}
+use Rattle.hall_sql.proofs.PeopleTexts.{person_columns, person_by_key_is, name_order, people_after_is, all_people_are}
+use Rattle.hall_sql.specs.Bounds.{text_before}
+use Rattle.hall_sql.specs.Statements.{above, equals}
+use Rattle.hall_sql.proofs.BoundLemmas.{column_above, name_after}
+use Rattle.hall_sql.proofs.FirstRows.{first_records, first_shown}
+use Rattle.hall_sql.proofs.SelectedLemmas.{values_selected}
+use Rattle.hall_store.specs.Store.{is_after, people_after, people_at_once}
 use Rattle.hall_sql.proofs.UniqueLemmas.{equal_texts, kept_keyed, records_listed}
 use Rattle.hall_sql.specs.Versions.{IsVersion}
 use Rattle.sqlite.specs.Schema.{Schema}
@@ -101,9 +106,9 @@ key_holder old new has keyed sound rows out is short key shown =
     out words shown is (values (world_of db).people) whole) short
 
 -- ORDER BY name is the order of names
-same_order : (a b : Row) (x y : Person) → person_of_row a ≡ Some x → person_of_row b ≡ Some y
-    → by_order 0 [] person_columns name_order [] a b ≡ text_cmp x.name y.name
-same_order a b x y p q =
+same_order : (params : Row) (terms : List Term) (a b : Row) (x y : Person) → person_of_row a ≡ Some x
+    → person_of_row b ≡ Some y → by_order 0 terms person_columns name_order params a b ≡ text_cmp x.name y.name
+same_order params terms a b x y p q =
     rw (name_column a x p, name_column b y q, value_cmp-Text x.name y.name, then-Equal (text_cmp x.name y.name))
 
 pub all_people_listed : (schema : Schema) → IsVersion schema → (old new : State) → old.now.schema ≡ schema
@@ -117,4 +122,29 @@ all_people_listed schema version old new has keyed sound =
     (subst (λ s. IsDatabase (record { schema = s; trees = db })) has sound) in
     all_listed (all_people_are schema version) text_total same_texts (λ (p : Person). p.name) person_in 3 (λ db. refl)
     (λ r. refl)
-    same_order old new has whole
+    (same_order [] []) old new has whole
+
+-- WHERE name > ?1 asks for those after the name
+after_so : (after : Option (List ℕ)) (r : Row) (p : Person) → person_of_row r ≡ Some p
+    → list_all (holds ((Text (text_before after) ∷ []) ∷ r ∷ [])) (above 1 0 ∷ []) ≡ is_after after p.name
+after_so after r p is =
+    and_true _ ∙ column_above (column r 1) p.name (text_before after) (name_column r p is)
+    ∙ name_after after p.name (name_kept r p is)
+
+-- and its LIMIT for as many as are read at once
+pub people_after_listed : (old new : State) → IsHallSchema old.now.schema → AreKeyed (old.now.trees 0)
+    → IsDatabase old.now → (rows : List Row) (out : List Person) → map person_in rows ≡ map Some out
+    → (after : Option (List ℕ)) → Shown PEOPLE_AFTER.now (Text (text_before after) ∷ []) old new rows
+    → out ≡ people_after (world_of old.now.trees) after
+people_after_listed old new has keyed sound rows out is after shown =
+    let (u, words) = worded old.now.schema has in
+    let db = old.now.trees in
+    let params = Text (text_before after) ∷ [] in
+    let terms = above 1 0 ∷ [] in
+    let first = first_shown people_at_once 0 terms person_columns name_order PEOPLE_AFTER.now params _
+    (people_after_is u).0 (people_after_is u).1 (people_after_is u).2 old new rows refl words shown in
+    first_records person_in people_at_once first.0 out (subst (λ l. map person_in l ≡ map Some out) first.2 is)
+    ∙ ap (take people_at_once) (values_selected person_in 3 params 0 terms person_columns name_order (λ r. refl) (db 0)
+    first.0 first.1 text_total same_texts (λ (p : Person). p.name)
+    (people_listed {schema = old.now.schema} (inr has) db keyed sound) (λ p. is_after after p.name) (after_so after)
+    (same_order params terms))

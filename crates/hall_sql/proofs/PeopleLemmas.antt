@@ -1,5 +1,5 @@
 -- What the statements on people say of the world.
-use Rattle.std.proofs.Common.{◌≡◌, ◌≤◌, ℕ, List, [], ◌∷◌, length, map, slice_get, Some, refl}
+use Rattle.std.proofs.Common.{◌≡◌, ◌≤◌, ℕ, List, [], ◌∷◌, length, map, slice_get, Some, true, refl}
 use Rattle.std.specs.List.{list_all}
 use Rattle.std.specs.Ordering.{eq_by_cmp}
 use Rattle.std.specs.FinMap.{get}
@@ -20,10 +20,15 @@ use Rattle.hall_sql.specs.Statements.{equals}
 use Rattle.hall_sql.proofs.ColumnLemmas.{kind_column, column_equals, last_equal}
 use Rattle.hall_policy.proofs.Orders.{text_total, same_texts}
 use Rattle.hall_sql.proofs.FoundLemmas.{asked_found}
+use Rattle.hall_sql.proofs.BoundLemmas.{is_name, name_read}
 use Rattle.hall_sql.proofs.RecordParts.{person_parts_of}
 
 pub name_column : (r : Row) (p : Person) → person_of_row r ≡ Some p → column r 1 ≡ Text p.name
 name_column r p is = kind_column 1 24 is_word_byte (column r 1) p.name
+    (person_parts_of (name_in (column r 1)) (key_in (column r 2)) (roles_in (column r 3)) p is).name
+
+pub name_kept : (r : Row) (p : Person) → person_of_row r ≡ Some p → is_name p.name ≡ true
+name_kept r p is = name_read (column r 1) p.name
     (person_parts_of (name_in (column r 1)) (key_in (column r 2)) (roles_in (column r 3)) p is).name
 
 pub key_column : (r : Row) (p : Person) → person_of_row r ≡ Some p → column r 2 ≡ Text p.key

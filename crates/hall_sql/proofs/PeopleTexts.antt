@@ -9,10 +9,13 @@ use Rattle.sqlite.specs.Source.TheVariants.{Values}
 use Rattle.sqlite.specs.declared.types.Value.TheVariants.{Null, Text}
 use Rattle.sqlite.proofs.Callers.{IsPlain, command_of}
 use Rattle.hall_sql.specs.declared.tables.HallTable.TheVariants.{People}
-use Rattle.hall_sql.specs.Statements.{equals, rising, names_of, plain_query}
+use Rattle.hall_sql.specs.Statements.{above, equals, first_rows, rising, names_of, plain_query}
 use Rattle.hall_sql.specs.declared.people.TheConstants.{PERSON, PERSON_BY_KEY, ADD_PERSON, ALL_PEOPLE}
+use Rattle.hall_sql.specs.declared.people.TheConstants.{PEOPLE_AFTER}
+use Rattle.hall_store.specs.Store.{people_at_once}
 use Rattle.hall_sql.specs.Asked.{IsAsked, IsAskedIn, is_whole}
 use Rattle.hall_sql.proofs.AskedLemmas.{asked}
+use Rattle.hall_sql.proofs.FirstRows.{first_asked}
 use Rattle.hall_sql.specs.Versions.{IsVersion}
 use Rattle.sqlite.specs.Schema.{Schema}
 use Rattle.hall_sql.proofs.Versions.{AsksAll, by_version}
@@ -49,6 +52,25 @@ person_by_key_asked key =
     (equals 2 0 ∷ []) person_columns [] _ (person_by_key_is u).0 (person_by_key_is u).1 (person_by_key_is u).2
     (person_by_key_is u).3 refl)
 
+-- the order of names
+abbrev pub name_order : List (Term × Key)
+name_order = (col 1 1, rising) ∷ []
+
+pub people_after_is : (u : Wording) → (command_of (understood (hall_in u) PEOPLE_AFTER.now) ≡ Select (record {
+  lets = [];
+  body = first_rows people_at_once (plain_query 0 (above 1 0 ∷ []) person_columns name_order);
+}) person_names)
+    × (reads_listing (hall_in u) PEOPLE_AFTER.now ≡ false) × IsPlain (understood (hall_in u) PEOPLE_AFTER.now)
+    × (is_whole PEOPLE_AFTER.now 1 (understood (hall_in u) PEOPLE_AFTER.now) ≡ true)
+unfolding understood everything
+people_after_is u = (refl, refl, (refl, refl), refl)
+
+pub people_after_asked : (name : List ℕ) → IsAsked PEOPLE_AFTER.now (Text name ∷ [])
+people_after_asked name =
+    by_hall (IsAskedIn PEOPLE_AFTER.now (Text name ∷ [])) (λ u. first_asked people_at_once 0 (above 1 0 ∷ [])
+    person_columns name_order PEOPLE_AFTER.now (Text name ∷ []) _ (people_after_is u).0 (people_after_is u).1
+    (people_after_is u).2 (people_after_is u).3 refl)
+
 -- the rowid that is chosen, and each parameter
 abbrev pub added_terms : List Term
 added_terms = lit Null ∷ col 0 0 ∷ col 0 1 ∷ col 0 2 ∷ []
@@ -58,10 +80,6 @@ pub add_person_is : (u : Wording) → (command_of (understood (hall_in u) ADD_PE
     × IsPlain (understood (hall_in u) ADD_PERSON.now)
 unfolding understood everything
 add_person_is u = (refl, (refl, refl))
-
--- the order of names
-abbrev pub name_order : List (Term × Key)
-name_order = (col 1 1, rising) ∷ []
 
 pub all_people_are : (schema : Schema) → IsVersion schema → AsksAll ALL_PEOPLE.now 0 person_columns name_order
     person_names schema

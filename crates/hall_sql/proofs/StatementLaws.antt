@@ -8,9 +8,9 @@ use Rattle.hall_sql.specs.Statements.{plain_query}
 use Rattle.hall_sql.specs.Laws.{AskOfPeople, AskOfPuzzles, AskOfRounds, AskOfPlaces, AskOfTesters, AskOfAnswers}
 use Rattle.hall_sql.specs.Laws.{AskOfProtests, AskForRowids, Is, IsCommand}
 use Rattle.hall_sql.proofs.AnswerTexts.{answer_is, answers_of_is, answers_in_is, answers_given_is, number_taken_is}
-use Rattle.hall_sql.proofs.AnswerTexts.{add_answer_is, all_answers_are}
+use Rattle.hall_sql.proofs.AnswerTexts.{add_answer_is, all_answers_are, answers_between_is}
 use Rattle.hall_sql.proofs.HeadTexts.{head_is, look_head_is, add_head_is, replace_head_is}
-use Rattle.hall_sql.proofs.PeopleTexts.{person_is, person_by_key_is, add_person_is, all_people_are}
+use Rattle.hall_sql.proofs.PeopleTexts.{person_is, person_by_key_is, people_after_is, add_person_is, all_people_are}
 use Rattle.hall_sql.proofs.PlaceTexts.{add_place_is, drop_places_is}
 use Rattle.hall_sql.proofs.ProtestTexts.{protest_is, protests_of_is, protests_in_is, add_protest_is, rule_protest_is}
 use Rattle.hall_sql.proofs.ProtestTexts.{all_protests_are}
@@ -48,6 +48,11 @@ asks_of_people = record {
     plain = (person_by_key_is u).2;
     whole =
         (person_by_key_is u).3;
+  });
+  people_after = over_halls (λ u. record {
+    is = (people_after_is u).0;
+    plain = (people_after_is u).2;
+    whole = (people_after_is u).3;
   });
   all_people = λ schema has. listing (all_people_are schema has);
   add_person = over_halls (λ u. record {
@@ -173,6 +178,11 @@ asks_of_answers = record {
     plain = (answers_in_is u).2;
     whole =
         (answers_in_is u).3;
+  });
+  answers_between = over_halls (λ u. record {
+    is = (answers_between_is u).0;
+    plain = (answers_between_is u).2;
+    whole = (answers_between_is u).3;
   });
   answers_given = over_halls (λ u. record {
     is = (answers_given_is u).0;

@@ -25,16 +25,17 @@ use Rattle.sqlite.specs.Tree.{Trees}
 use Rattle.sqlite.proofs.Callers.{IsPlain, command_of, begins_as}
 use Rattle.hall_sql.specs.AllRead.{AreAllRead}
 use Rattle.hall_sql.specs.Asked.{AsksOne}
+use Rattle.hall_sql.specs.Bounds.{between_params}
 use Rattle.hall_sql.specs.Cause.{IsAnyUnread}
 use Rattle.hall_sql.specs.Inside.{IsHallData}
 use Rattle.hall_sql.specs.Rows.{answer_in, columns_from, person_in, place_in, protest_in, puzzle_row_in, round_in}
 use Rattle.hall_sql.specs.Rows.{tester_in}
 use Rattle.hall_sql.specs.Standing.{AreKeyed, IsSelection}
-use Rattle.hall_sql.specs.Statements.{equals, plain_query}
+use Rattle.hall_sql.specs.Statements.{above, equals, plain_query}
 use Rattle.hall_sql.specs.Tables.{IsHallSchema, hall_schema}
 use Rattle.hall_sql.specs.declared.answers.TheConstants.{ALL_ANSWERS, ANSWER, ANSWERS_GIVEN, ANSWERS_IN, ANSWERS_OF}
-use Rattle.hall_sql.specs.declared.answers.TheConstants.{NUMBER_TAKEN}
-use Rattle.hall_sql.specs.declared.people.TheConstants.{ALL_PEOPLE, PERSON, PERSON_BY_KEY}
+use Rattle.hall_sql.specs.declared.answers.TheConstants.{ANSWERS_BETWEEN, NUMBER_TAKEN}
+use Rattle.hall_sql.specs.declared.people.TheConstants.{ALL_PEOPLE, PEOPLE_AFTER, PERSON, PERSON_BY_KEY}
 use Rattle.hall_sql.specs.declared.protests.TheConstants.{ALL_PROTESTS, PROTEST, PROTESTS_IN, PROTESTS_OF}
 use Rattle.hall_sql.specs.declared.puzzles.TheConstants.{ALL_PUZZLES, PUZZLE, PUZZLES_OF}
 use Rattle.hall_sql.specs.declared.rounds.TheConstants.{ALL_PLACES, ALL_ROUNDS, HEAD, PLACES_OF, PLACES_WITH}
@@ -44,7 +45,10 @@ use Rattle.hall_sql.proofs.AnswerTexts as answers
 use Rattle.hall_sql.proofs.CallLemmas.{answers_selection}
 use Rattle.hall_sql.proofs.HeadTexts.{head_is, id_terms}
 use Rattle.hall_sql.proofs.OneRow.{AreUnique, has_key, one_passes}
-use Rattle.hall_sql.proofs.PeopleTexts.{all_people_are, name_order, person_by_key_is, person_columns, person_is}
+use Rattle.hall_sql.proofs.PeopleTexts.{all_people_are, name_order, people_after_is, person_by_key_is, person_columns}
+use Rattle.hall_sql.proofs.PeopleTexts.{person_is}
+use Rattle.hall_sql.proofs.FirstRows.{all_first, first_shown}
+use Rattle.hall_store.specs.Store.{people_at_once}
 use Rattle.hall_sql.proofs.ProtestTexts as protests
 use Rattle.hall_sql.proofs.PuzzleTexts as puzzles
 use Rattle.hall_sql.proofs.RoundQueries.{all_places_are, first_terms, number_order, place_columns, place_order}
@@ -88,6 +92,25 @@ some_unread read rows it each =
     each in
     absurd (let no : false ≡ true = sym (ap is_some it.2) ∙ reads in cc)
 
+abbrev Reads : {X : Type 0} → (Row → Option X) → Row → Type 0
+Reads read r = IsTrue (is_some (read r))
+
+-- where each row of the table is a record, so is each that is selected
+module _ {X : Type 0} (read : Row → Option X) (count tree : ℕ) (params : Row) (terms project : List Term)
+    (order : List (Term × Key)) (shows : (r : Row) → eval_all project (params ∷ r ∷ []) ≡ columns_from 1 count r)
+    (reads : (trees : Trees) → AreAllRead hall_schema trees → AllByRecursion
+    (λ r. IsTrue (is_some (read (columns_from 1 count r)))) (trees tree)) where
+  all_selected : (trees : Trees) (rows : List Row) → IsSelection (plain_query tree terms project order) (trees tree)
+      params rows
+      → AreAllRead hall_schema trees → AllByRecursion (Reads read) rows
+  all_selected trees rows sel all =
+      let keeps = λ (r : Row). list_all (holds (params ∷ r ∷ [])) terms in
+      let Whole = λ (r : Row). Reads read (columns_from 1 count r) in
+      let kept = all-filter Whole keeps (trees tree) (reads trees all) in
+      let found = all-permutation Whole (filter keeps (trees tree)) sel.found sel.same kept in
+      subst (AllByRecursion (Reads read)) (sym (sel.shown ∙ (λ i. map (λ r. shows r i) sel.found)))
+      (all-map (Reads read) (columns_from 1 count) sel.found found)
+
 module _ {X : Type 0} (read : Row → Option X) (count tree : ℕ) (sql : List ℕ) (params : Row)
     (terms project : List Term) (order : List (Term × Key)) (names : List (List ℕ))
     (is : (u : Wording) → command_of (understood (hall_in u) sql)
@@ -98,9 +121,6 @@ module _ {X : Type 0} (read : Row → Option X) (count tree : ℕ) (sql : List �
     (shows : (r : Row) → eval_all project (params ∷ r ∷ []) ≡ columns_from 1 count r)
     (reads : (trees : Trees) → AreAllRead hall_schema trees → AllByRecursion
     (λ r. IsTrue (is_some (read (columns_from 1 count r)))) (trees tree)) where
-  abbrev Reads : Row → Type 0
-  Reads r = IsTrue (is_some (read r))
-
   selection : (old new : State) (rows : List Row) → IsHallSchema old.now.schema → Shown sql params old new rows
       → IsSelection (plain_query tree terms project order) (old.now.trees tree) params rows
   selection old new rows has shown =
@@ -108,21 +128,10 @@ module _ {X : Type 0} (read : Row → Option X) (count tree : ℕ) (sql : List �
       answers_selection sql params old new tree terms project order names (is u) (unlisted u) (plain u)
       (apart old.now.trees) words rows shown
 
-  -- where each row of the table is a record, so is each that is selected
-  all_selected : (trees : Trees) (rows : List Row) → IsSelection (plain_query tree terms project order) (trees tree)
-      params rows
-      → AreAllRead hall_schema trees → AllByRecursion Reads rows
-  all_selected trees rows sel all =
-      let keeps = λ (r : Row). list_all (holds (params ∷ r ∷ [])) terms in
-      let Whole = λ (r : Row). Reads (columns_from 1 count r) in
-      let kept = all-filter Whole keeps (trees tree) (reads trees all) in
-      let found = all-permutation Whole (filter keeps (trees tree)) sel.found sel.same kept in
-      subst (AllByRecursion Reads) (sym (sel.shown ∙ (λ i. map (λ r. shows r i) sel.found)))
-      (all-map Reads (columns_from 1 count) sel.found found)
-
   pub unread : TellsUnread read sql params
   unread old new rows has shown any all =
-      some_unread read rows any (all_selected old.now.trees rows (selection old new rows has shown) all)
+      some_unread read rows any (all_selected read count tree params terms project order shows reads old.now.trees rows
+      (selection old new rows has shown) all)
 
   pub begins_unread : BeginsUnread read sql params
   begins_unread old rows has begins any all =
@@ -131,9 +140,10 @@ module _ {X : Type 0} (read : Row → Option X) (count tree : ℕ) (sql : List �
       let sel = subst (λ t. IsSelection (plain_query tree terms project order) t params (rows ++ begun.1.0))
       (apart old.now.trees)
       (selected tree terms project order (overlay old.now.trees []) params (rows ++ begun.1.0) (begun.1.1 Null)) in
-      some_unread read rows any (all-front rows begun.1.0 (all_selected old.now.trees (rows ++ begun.1.0) sel all))
+      some_unread read rows any (all-front rows begun.1.0 (all_selected read count tree params terms project order shows
+      reads old.now.trees (rows ++ begun.1.0) sel all))
     where
-      all-front : (front rest : List Row) → AllByRecursion Reads (front ++ rest) → AllByRecursion Reads front
+      all-front : (front rest : List Row) → AllByRecursion (Reads read) (front ++ rest) → AllByRecursion (Reads read) front
       all-front [] rest each = tt
       all-front (r ∷ front) rest each = (each.0, all-front front rest each.1)
 
@@ -202,6 +212,15 @@ people_unread =
     all_unread person_in 3 0 ALL_PEOPLE.now person_columns name_order _
     (λ u. all_people_are (hall_in u) (inr (hall_like u))) (λ db. refl) (λ r. refl)
     (λ trees all. all.0)
+
+pub people_after_unread : (name : List ℕ) → TellsUnread person_in PEOPLE_AFTER.now (Text name ∷ [])
+people_after_unread name old new rows has shown any all =
+    let (u, words) = worded old.now.schema has in
+    let first = first_shown people_at_once 0 (above 1 0 ∷ []) person_columns name_order PEOPLE_AFTER.now (Text name ∷ [])
+    _ (people_after_is u).0 (people_after_is u).1 (people_after_is u).2 old new rows refl words shown in
+    some_unread person_in rows any (subst (AllByRecursion (Reads person_in)) (sym first.2)
+    (all_first (Reads person_in) people_at_once first.0 (all_selected person_in 3 0 (Text name ∷ [])
+    (above 1 0 ∷ []) person_columns name_order (λ r. refl) (λ trees all. all.0) old.now.trees first.0 first.1 all)))
 
 -- ---- puzzles
 
@@ -342,11 +361,13 @@ module _ (round : List ℕ) where
       (λ db. refl) (λ r. refl)
       (λ trees all. all.1.1.1.1.0)
 
-  pub answers_in_begin : BeginsUnread answer_in ANSWERS_IN.now (Text round ∷ [])
-  answers_in_begin =
-      begins_unread answer_in 8 9 ANSWERS_IN.now (Text round ∷ []) (equals 2 0 ∷ []) answers.answer_columns
-      answers.listing_order _
-      (λ u. (answers.answers_in_is u).0) (λ u. (answers.answers_in_is u).1) (λ u. (answers.answers_in_is u).2)
+  pub answers_between_begin : (after last : Option (List ℕ)) → BeginsUnread answer_in ANSWERS_BETWEEN.now
+      (between_params round after last)
+  answers_between_begin after last =
+      begins_unread answer_in 8 9 ANSWERS_BETWEEN.now (between_params round after last) answers.between_terms
+      answers.answer_columns answers.listing_order _
+      (λ u. (answers.answers_between_is u).0) (λ u. (answers.answers_between_is u).1)
+      (λ u. (answers.answers_between_is u).2)
       (λ db. refl) (λ r. refl)
       (λ trees all. all.1.1.1.1.0)
 

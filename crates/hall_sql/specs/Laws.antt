@@ -13,22 +13,24 @@ use Rattle.sqlite.specs.declared.types.Value.TheVariants.{Null}
 use Rattle.sqlite.proofs.Callers.{command_of}
 use Rattle.sqlite_schema.specs.declared.command.Command.{Command}
 use Rattle.sqlite_schema.specs.declared.schema.Column.{Column}
+use Rattle.hall_store.specs.Store.{people_at_once}
 use Rattle.hall_sql.specs.Asked.{is_whole}
 use Rattle.hall_sql.specs.Scan.{tree_of}
-use Rattle.hall_sql.specs.Statements.{equals, rising, names_of, plain_query, rowids_text}
+use Rattle.hall_sql.specs.Statements.{above, equals, first_rows, rising, names_of, plain_query, rowids_text}
+use Rattle.hall_sql.specs.Statements.{up_to}
 use Rattle.hall_sql.specs.Tables.{IsHallSchema, table_at}
 use Rattle.hall_sql.specs.Versions.{HasTable}
 use Rattle.hall_sql.specs.declared.tables.HallTable.{HallTable}
 use Rattle.hall_sql.specs.declared.tables.HallTable.TheVariants.{People, Puzzles, Rounds, Places, Answers, Protests}
 use Rattle.hall_sql.specs.declared.tables.HallTable.TheVariants.{Testers}
-use Rattle.hall_sql.specs.declared.people.TheConstants.{PERSON, PERSON_BY_KEY, ALL_PEOPLE, ADD_PERSON}
+use Rattle.hall_sql.specs.declared.people.TheConstants.{PERSON, PERSON_BY_KEY, ALL_PEOPLE, PEOPLE_AFTER, ADD_PERSON}
 use Rattle.hall_sql.specs.declared.puzzles.TheConstants.{PUZZLE, PUZZLES_OF, ALL_PUZZLES}
 use Rattle.hall_sql.specs.declared.puzzles.TheConstants.{LOOK_PUZZLE, ADD_PUZZLE, REPLACE_PUZZLE}
 use Rattle.hall_sql.specs.declared.rounds.TheConstants.{HEAD, ALL_ROUNDS, PLACES_WITH, PLACES_OF, ALL_PLACES}
 use Rattle.hall_sql.specs.declared.round_writes.TheConstants.{LOOK_HEAD, ADD_HEAD, REPLACE_HEAD, ADD_PLACE, DROP_PLACES}
 use Rattle.hall_sql.specs.declared.testers.TheConstants.{TESTERS_OF, ALL_TESTERS, ADD_TESTER, DROP_TESTERS}
 use Rattle.hall_sql.specs.declared.answers.TheConstants.{ANSWER, ANSWERS_OF, ANSWERS_IN, ANSWERS_GIVEN, NUMBER_TAKEN}
-use Rattle.hall_sql.specs.declared.answers.TheConstants.{ALL_ANSWERS, ADD_ANSWER}
+use Rattle.hall_sql.specs.declared.answers.TheConstants.{ALL_ANSWERS, ANSWERS_BETWEEN, ADD_ANSWER}
 use Rattle.hall_sql.specs.declared.protests.TheConstants.{PROTEST, PROTESTS_OF, PROTESTS_IN, ALL_PROTESTS}
 use Rattle.hall_sql.specs.declared.protests.TheConstants.{ADD_PROTEST, RULE_PROTEST}
 
@@ -47,6 +49,16 @@ select table terms order = Select
       lets = [];
       body = plain_query (tree_of table) terms (terms_from 1 1 (table_at table).columns)
           (map (λ number. (col 1 number, rising)) order);
+    })
+    (names_of table)
+
+-- likewise the first of them, so many at most
+abbrev pub select_first : ℕ → HallTable → List Term → List ℕ → Command
+select_first count table terms order = Select
+    (record {
+      lets = [];
+      body = first_rows count (plain_query (tree_of table) terms (terms_from 1 1 (table_at table).columns)
+          (map (λ number. (col 1 number, rising)) order));
     })
     (names_of table)
 
@@ -107,6 +119,7 @@ pub record AskOfPeople : Type 0 where
   pub person : Is PERSON.now 1 (select People (equals 1 0 ∷ []) [])
   pub person_by_key : Is PERSON_BY_KEY.now 1 (select People (equals 2 0 ∷ []) [])
   pub all_people : IsTableListing ALL_PEOPLE.now People (1 ∷ [])
+  pub people_after : Is PEOPLE_AFTER.now 1 (select_first people_at_once People (above 1 0 ∷ []) (1 ∷ []))
   pub add_person : Is ADD_PERSON.now 3 (insert People)
 
 -- so on puzzles: 1 author, 2 label, 3 body, 4 state, 5 solution
@@ -150,6 +163,8 @@ pub record AskOfAnswers : Type 0 where
   pub answer : Is ANSWER.now 4 (select Answers (equals 1 0 ∷ equals 2 1 ∷ equals 3 2 ∷ equals 4 3 ∷ []) [])
   pub answers_of : Is ANSWERS_OF.now 2 (select Answers (equals 2 1 ∷ equals 1 0 ∷ []) (1 ∷ 3 ∷ 5 ∷ 4 ∷ []))
   pub answers_in : Is ANSWERS_IN.now 1 (select Answers (equals 2 0 ∷ []) (1 ∷ 3 ∷ 5 ∷ 4 ∷ []))
+  pub answers_between : Is ANSWERS_BETWEEN.now 3
+      (select Answers (equals 2 0 ∷ above 1 1 ∷ up_to 1 2 ∷ []) (1 ∷ 3 ∷ 5 ∷ 4 ∷ []))
   pub answers_given : Is ANSWERS_GIVEN.now 3 (select Answers (equals 1 0 ∷ equals 2 1 ∷ equals 3 2 ∷ []) [])
   pub number_taken : Is NUMBER_TAKEN.now 4
       (select Answers (equals 1 0 ∷ equals 2 1 ∷ equals 3 2 ∷ equals 5 3 ∷ []) [])

@@ -5,6 +5,7 @@ pub mod Spared
 pub mod Stands
 pub mod Standing
 pub mod Statements
+pub mod Bounds
 pub mod Columns
 pub mod PuzzleText
 pub mod RoundColumns

@@ -4,7 +4,7 @@ use Rattle.sqlite.specs.Collation.TheVariants.{Binary}
 use Rattle.sqlite.specs.declared.types.Value.TheVariants.{Int}
 use Rattle.sqlite_schema.specs.declared.schema.Column.{Column}
 use Rattle.sqlite_sql.specs.declared.ops.BinaryOp.TheVariants.{Compare}
-use Rattle.sqlite_sql.specs.declared.ops.CompareOp.TheVariants.{Eq}
+use Rattle.sqlite_sql.specs.declared.ops.CompareOp.TheVariants.{Eq, Gt, Le}
 use Rattle.sqlite_value.specs.declared.keys.Key.{Key}
 use Rattle.sqlite.specs.Term.{Term, lit, col, op2}
 use Rattle.sqlite.specs.Query.{Query, inner, end}
@@ -18,6 +18,13 @@ use Rattle.hall_sql.specs.Tables.{table_at}
 -- the row's column equals the parameter, as SQL compares
 abbrev pub equals : ℕ → ℕ → Term
 equals place parameter = op2 (Compare Eq Binary) (col 1 place) (col 0 parameter)
+
+-- it comes after the parameter, and it doesn't
+abbrev pub above : ℕ → ℕ → Term
+above place parameter = op2 (Compare Gt Binary) (col 1 place) (col 0 parameter)
+
+abbrev pub up_to : ℕ → ℕ → Term
+up_to place parameter = op2 (Compare Le Binary) (col 1 place) (col 0 parameter)
 
 -- ascending by a column
 abbrev pub rising : Key
@@ -40,6 +47,10 @@ plain_query tree filter project order = record {
   limit = lit (Int (negsuc 0));
   offset = lit (Int (pos 0));
 }
+
+-- its first rows, so many at most
+abbrev pub first_rows : ℕ → Query → Query
+first_rows count q = record q { limit = lit (Int (pos count)) }
 
 -- the rowids of a table, in order
 abbrev pub rowids_text : HallTable → List ℕ

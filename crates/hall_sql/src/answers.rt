@@ -44,6 +44,11 @@ pub(crate) const ANSWERS_IN: &str =
     "SELECT entrant, round, number, token, n, moment, answer, verdict FROM answers \
     WHERE round = ?1 ORDER BY entrant, number, n, token";
 
+/// The answers of the round by entrants after one name and up to another, in the order of listings.
+pub(crate) const ANSWERS_BETWEEN: &str =
+    "SELECT entrant, round, number, token, n, moment, answer, verdict FROM answers \
+    WHERE round = ?1 AND entrant > ?2 AND entrant <= ?3 ORDER BY entrant, number, n, token";
+
 /// The entrant's answers to the round's puzzle of the number.
 pub(crate) const ANSWERS_GIVEN: &str =
     "SELECT entrant, round, number, token, n, moment, answer, verdict FROM answers \

@@ -4,6 +4,7 @@
 mod adoption;
 mod answers;
 mod bad_rows;
+mod bounds;
 mod calls;
 mod copied;
 mod copied_files;

@@ -32,6 +32,10 @@ pub(crate) const PERSON: &str = "SELECT name, pass, roles FROM people WHERE name
 /// Who has a key.
 pub(crate) const PERSON_BY_KEY: &str = "SELECT name, pass, roles FROM people WHERE pass = ?1";
 
+/// The next people after a name, in the order of their names: as many as are read at once.
+pub(crate) const PEOPLE_AFTER: &str =
+    "SELECT name, pass, roles FROM people WHERE name > ?1 ORDER BY name LIMIT 200";
+
 /// All people, in the order of their names.
 const ALL_PEOPLE: &str = "SELECT name, pass, roles FROM people ORDER BY name";
 

@@ -20,15 +20,16 @@ ghost use Rattle.hall_sql.specs.WholeRows.{AreRowsOf};
 
 use crate::adoption::adopt;
 use crate::answers::{
-    ANSWER, ANSWERS_GIVEN, ANSWERS_IN, ANSWERS_OF, NUMBER_TAKEN, add_answer, add_answers,
-    all_answers,
+    ANSWER, ANSWERS_BETWEEN, ANSWERS_GIVEN, ANSWERS_IN, ANSWERS_OF, NUMBER_TAKEN, add_answer,
+    add_answers, all_answers,
 };
 use crate::bad_rows::{BadRows, bad_rows};
+use crate::bounds::{text_before, text_up_to};
 use crate::calls::live;
 use crate::counts::count;
 use crate::feed::feed;
 use crate::migration::{Migrated, take_rows};
-use crate::people::{PERSON, PERSON_BY_KEY, all_people, import};
+use crate::people::{PEOPLE_AFTER, PERSON, PERSON_BY_KEY, all_people, import};
 use crate::protests::{
     PROTESTS_IN, PROTESTS_OF, add_protest, all_protests, has_open_protest, protest, protests_in,
     rule_protest,
@@ -147,19 +148,20 @@ impl<S: Alter + Drop> ReadStore for SqlStore<S> {
     ghost use Rattle.hall_store.specs.Caller.{IsKeyHolder};
     ghost use Rattle.hall_store.specs.Store.{Kept, Fails, puzzles_of, IsRoundKept, RoundCanFail, AreUsing};
     ghost use Rattle.hall_store.specs.Store.{IsNumberTaken};
-    ghost use Rattle.hall_store.specs.Store.{AreTestersOf, IsListing, is_of, is_in};
+    ghost use Rattle.hall_store.specs.Store.{AreTestersOf, IsListing, is_of, is_in, is_between, people_after};
     ghost use Rattle.hall_store.specs.Store.{HasSubmitted, IsProtestOpen, protests_of, protests_in};
     ghost use Rattle.hall_store.specs.Store.{Fed, IsRefusedNext};
     ghost use Rattle.hall_store.specs.declared.fault.StoreFault.TheVariants.{Failed};
     ghost use Rattle.hall_sql.specs.Rows.{person_in, puzzle_row_in, round_in, place_in, tester_in, answer_in};
     ghost use Rattle.hall_sql.specs.Rows.{protest_in};
-    ghost use Rattle.hall_sql.specs.declared.people.TheConstants.{PERSON, PERSON_BY_KEY, ALL_PEOPLE};
+    ghost use Rattle.hall_sql.specs.declared.people.TheConstants.{PERSON, PERSON_BY_KEY, ALL_PEOPLE, PEOPLE_AFTER};
     ghost use Rattle.hall_sql.specs.declared.puzzles.TheConstants.{PUZZLE, ALL_PUZZLES, PUZZLES_OF};
     ghost use Rattle.hall_sql.specs.declared.rounds.TheConstants.{ALL_ROUNDS, PLACES_WITH};
     ghost use Rattle.hall_sql.specs.declared.answers.TheConstants.{ANSWER, ANSWERS_GIVEN, NUMBER_TAKEN};
-    ghost use Rattle.hall_sql.specs.declared.answers.TheConstants.{ANSWERS_OF, ANSWERS_IN};
+    ghost use Rattle.hall_sql.specs.declared.answers.TheConstants.{ANSWERS_OF, ANSWERS_IN, ANSWERS_BETWEEN};
     ghost use Rattle.hall_sql.specs.declared.protests.TheConstants.{PROTEST, PROTESTS_OF, PROTESTS_IN};
     ghost use Rattle.hall_sql.specs.declared.testers.TheConstants.{TESTERS_OF};
+    ghost use Rattle.hall_sql.specs.Bounds.{text_before, between_params};
     ghost use Rattle.hall_sql.specs.Reads.{Reads, ReadsRows};
     ghost use Rattle.hall_sql.specs.Whole.{AreRecords, IsRoundRead};
     ghost use Rattle.hall_sql.specs.Cause.{FeedFails, RoundFails};
@@ -194,6 +196,23 @@ impl<S: Alter + Drop> ReadStore for SqlStore<S> {
             (λ world people. people.items ≡ values world.people) }
     {
         all_people(&mut self.conn, alloc)
+    }
+
+    fn people_after(
+        &mut self,
+        alloc: Global,
+        after: &Option<Name>,
+    ) -> Result<Vec<Person>, StoreFault>
+        ensures { ReadsRows person_in PEOPLE_AFTER.now (Text (text_before after.now) ∷ []) (state S.Store self.old)
+            (state S.Store self.new) result (λ world people. people.items ≡ people_after world after.now) }
+    {
+        let _schema = self.conn.schema();
+        read(
+            &mut self.conn,
+            alloc,
+            PEOPLE_AFTER,
+            params![text_before(after)],
+        )
     }
 
     fn puzzle(&mut self, alloc: Global, key: &PuzzleKey) -> Result<Option<PuzzleRow>, StoreFault>
@@ -351,28 +370,30 @@ impl<S: Alter + Drop> ReadStore for SqlStore<S> {
         &mut self,
         alloc: Global,
         round: &RoundId,
+        after: &Option<Name>,
+        last: &Option<Name>,
         sink: &mut K,
     ) -> Result<(), StoreFault>
         ensures kept { Kept (content_of (state S.Store self.old)) (content_of (state S.Store self.new)) }
         ensures rested { KeptTables (state S.Store self.old) (state S.Store self.new) }
-        ensures fed { Fed K.takes (λ world rows. IsListing world (is_in round.now) rows)
+        ensures fed { Fed K.takes (λ world rows. IsListing world (is_between round.now after.now last.now) rows)
             (content_of (state S.Store self.old)) (content_of (state S.Store self.new)) sink.old result sink.new }
-        ensures fault { IfErr result (λ fault. fault ≡ Failed → CanFail (state S.Store self.new)
-            ⊎ IsRefusedNext K.takes K.refuses (λ world rows. IsListing world (is_in round.now) rows)
+        ensures fault { IfErr result (λ fault. fault ≡ Failed → CanFail (state S.Store self.new) ⊎ IsRefusedNext
+            K.takes K.refuses (λ world rows. IsListing world (is_between round.now after.now last.now) rows)
             (content_of (state S.Store self.old)) (content_of (state S.Store self.new)) sink.old sink.new) }
         ensures whole { HasCleanDisk (state S.Store self.new) → IfOk result (λ _.
-            AreRecords answer_in ANSWERS_IN.now (Text round.now ∷ []) (state S.Store self.old)
-            (state S.Store self.new)) }
+            AreRecords answer_in ANSWERS_BETWEEN.now (between_params round.now after.now last.now)
+            (state S.Store self.old) (state S.Store self.new)) }
         ensures cause { HasCleanDisk (state S.Store self.new) → Fails
-            (FeedFails answer_in K.takes K.refuses ANSWERS_IN.now (Text round.now ∷ []) (state S.Store self.old)
-            (state S.Store self.new) sink.old sink.new) result }
+            (FeedFails answer_in K.takes K.refuses ANSWERS_BETWEEN.now (between_params round.now after.now last.now)
+            (state S.Store self.old) (state S.Store self.new) sink.old sink.new) result }
     {
         let _schema = self.conn.schema();
         feed::<S, K, AnswerRow>(
             &mut self.conn,
             alloc,
-            ANSWERS_IN,
-            params![round.as_str()],
+            ANSWERS_BETWEEN,
+            params![round.as_str(), text_before(after), text_up_to(last)],
             sink,
         )
     }
