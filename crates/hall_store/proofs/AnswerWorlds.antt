@@ -32,8 +32,8 @@ use Rattle.hall_policy.proofs.Orders.{answer_total, same_answer_keys, text_total
 use Rattle.hall_store.specs.Keyed.{HasAny, agree, answer_entry, slot_cmp, slot_of, first_slot, AreKeysDistinct}
 use Rattle.hall_store.specs.Maps.{world_of_maps}
 use Rattle.hall_store.specs.Change.{CanAddAnswer}
-use Rattle.hall_store.specs.Store.{HasSubmitted, IsListing, IsNumberTaken, listing_cmp, is_after, is_between, is_in, is_of}
-use Rattle.hall_store.specs.Store.{is_up_to}
+use Rattle.hall_store.specs.Store.{HasSubmitted, IsListing, IsNumberTaken, listing_cmp, is_after, is_between, is_in}
+use Rattle.hall_store.specs.Store.{is_of, is_up_to}
 use Rattle.hall_store.specs.declared.map_store.MapStore.{MapStore}
 use Rattle.hall_store.specs.declared.slot.AnswerSlot.{AnswerSlot}
 use Rattle.hall_store.specs.declared.slot.Part.TheVariants.{Entrant, Puzzle}

@@ -393,8 +393,8 @@ module _ (first : AnswerSlot) where
     answers_among es sorted kept ahead from =
         values_filtered is_asked (is_between first.round after last) es
         (all_of_each slot_total (λ slot row. is_asked slot ≡ is_between first.round after last row) es sorted
-        (λ slot row found. ap is_asked (sym (kept slot row found).own) ∙ and_parted (same_text row.key.round first.round)
-        (is_up_to last row.key.entrant) (is_after after row.key.entrant)))
+        (λ slot row found. ap is_asked (sym (kept slot row found).own)
+        ∙ and_parted (same_text row.key.round first.round) (is_up_to last row.key.entrant) (is_after after row.key.entrant)))
         ∙ ap values_of (stand_among first (is_inside first.round last) inside_between
         (λ slot. is_after after slot.entrant) es sorted
         (all_of_each slot_total (λ slot row. is_asked slot ≡ true → is_le (slot_cmp first slot) ≡ true) es sorted

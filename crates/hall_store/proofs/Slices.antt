@@ -1,7 +1,7 @@
--- The answers of a round by slices of its entrants: those up to a name, and then those from there on, are in one row the
--- answers up to the later end.
-use Rattle.std.proofs.Common.{◌≡◌, ◌&&◌, ◌⊎◌, inl, inr, ◌++◌, ◌+◌, ◌-◌, ◌<◌, ◌≤◌, ℕ, Bool, true, false, not, List, length}
-use Rattle.std.proofs.Common.{Option, Some, None, Contains, slice_index_or, refl, sym, ap, ◌∙◌, subst, arith}
+-- The answers of a round by slices of its entrants: those up to a name, and then those from there on, are in one row
+-- the answers up to the later end.
+use Rattle.std.proofs.Common.{◌≡◌, ◌&&◌, inl, inr, ◌++◌, ◌+◌, ◌-◌, ℕ, Bool, true, false, not, List}
+use Rattle.std.proofs.Common.{length, Option, Some, None, Contains, slice_index_or, refl, sym, ap, ◌∙◌, subst, arith}
 use Rattle.std.specs.BTreeMap.Comparable.{le_lt_trans}
 use Rattle.std.specs.Cmp.{both_ways}
 use Rattle.std.specs.List.{filter}
@@ -141,8 +141,8 @@ and_true true = refl
 and_true false = refl
 
 -- the answers by entrants after none and up to none are the round's
-pub slices_whole : (world : World) (id : List ℕ) (rows : List AnswerRow) → IsListing world (is_between id None None) rows
-    → IsListing world (is_in id) rows
+pub slices_whole : (world : World) (id : List ℕ) (rows : List AnswerRow)
+    → IsListing world (is_between id None None) rows → IsListing world (is_in id) rows
 slices_whole world id rows listing = record {
   whole = subst (λ kept. IsPermutation kept rows) (filter_agree (is_between id None None) (is_in id)
       (λ row. and_true (is_in id row)) (values world.answers)) listing.whole;

@@ -265,7 +265,7 @@ fn feed(
     id: &RoundId,
     tally: &mut Tally,
 ) -> Result<&'static str, Fault> {
-    match store.feed_answers(alloc, id, tally) {
+    match store.feed_answers(alloc, id, &None, &None, tally) {
         Ok(()) => Ok("fed"),
         Err(StoreFault::Failed) => Ok("failed"),
         Err(StoreFault::Memory) => Err(Fault::Memory),

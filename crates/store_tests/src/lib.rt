@@ -18,6 +18,8 @@ mod opening;
 #[cfg(test)]
 mod rows;
 #[cfg(test)]
+mod slices;
+#[cfg(test)]
 mod stops;
 #[cfg(test)]
 mod tables;

@@ -51,6 +51,15 @@ impl ReadStore for LimitedStore<'_> {
         self.store.people(alloc)
     }
 
+    fn people_after(
+        &mut self,
+        alloc: Global,
+        after: &Option<Name>,
+    ) -> Result<Vec<Person>, StoreFault> {
+        spend(&mut self.left)?;
+        self.store.people_after(alloc, after)
+    }
+
     fn puzzle(&mut self, alloc: Global, key: &PuzzleKey) -> Result<Option<PuzzleRow>, StoreFault> {
         spend(&mut self.left)?;
         self.store.puzzle(alloc, key)
@@ -138,10 +147,12 @@ impl ReadStore for LimitedStore<'_> {
         &mut self,
         alloc: Global,
         round: &RoundId,
+        after: &Option<Name>,
+        last: &Option<Name>,
         sink: &mut K,
     ) -> Result<(), StoreFault> {
         spend(&mut self.left)?;
-        self.store.feed_answers(alloc, round, sink)
+        self.store.feed_answers(alloc, round, after, last, sink)
     }
 
     fn has_answered(

@@ -1,6 +1,5 @@
-use Rattle.std.proofs.lemmas.Result.{IfOk-from_err}
-use Rattle.std.proofs.Common.{◌≡◌, ◌∙◌, ◌++◌, ◌∷◌, [], ◌+◌, ◌-◌, ◌<◌, ◌≤◌, ℕ, suc, List, length, take, ap, sym, arith, rules}
-use Rattle.std.proofs.Common.{append_assoc}
+use Rattle.std.proofs.Common.{◌≡◌, ◌∙◌, ◌++◌, ◌∷◌, [], ◌+◌, ◌-◌, ◌<◌, ◌≤◌, suc, List, length, take, ap, sym}
+use Rattle.std.proofs.Common.{append_assoc, arith, rules}
 use Rattle.std.proofs.Math.Seq.{take-nil}
 use Rattle.std.specs.Map.{values_of}
 use Rattle.std.proofs.lemmas.List.{append-nil, length-append}

@@ -20,7 +20,8 @@ listed_from : (store : MapStore) (round : List ℕ) (after last : Option (List �
     → first ≡ first_slot round (first_name after) 1 → IsStrictlySortedBy slot_cmp (keys_of store.answers.entries) →
     IsListing (world_of_maps store) (is_between round after last) (rows_from store after last first)
 listed_from store round after last first is ordered = subst (λ (s : AnswerSlot). IsListing (world_of_maps store)
-    (is_between round after last) (rows_from store after last s)) (sym is) (listed_between store round after last ordered)
+    (is_between round after last) (rows_from store after last s)) (sym is)
+    (listed_between store round after last ordered)
 
 pub feed_answers-requires-clause-first : goal.feed_answers-requires-clause-first
 feed_answers-requires-clause-first g c =
@@ -34,8 +35,8 @@ returns-in_err-feed_answers-clause-fed g c =
     let after = c.args.after.now in
     let last = c.args.last.now in
     let first = c.in_ok-first.first in
-    (fed_or_refused g.K.Sink.refuses (λ world rows. IsListing world (is_between round after last) rows) (content_of_maps store)
-    c.args.sink.now c.feed_answers.new.sink (rows_from store after last first)
+    (fed_or_refused g.K.Sink.refuses (λ world rows. IsListing world (is_between round after last) rows)
+    (content_of_maps store) c.args.sink.now c.feed_answers.new.sink (rows_from store after last first)
     (listed_from store round after last first c.in_ok-first.ensures c.feed_answers.ensures.ordered) tt
     c.in_err-feed_answers.field-0.0 c.from_residual-in_err-feed_answers.result
     c.in_err-feed_answers.ensures.stopped c.from_residual-in_err-feed_answers.ensures.1).0
@@ -47,8 +48,8 @@ returns-in_err-feed_answers-clause-fault g c =
     let after = c.args.after.now in
     let last = c.args.last.now in
     let first = c.in_ok-first.first in
-    (fed_or_refused g.K.Sink.refuses (λ world rows. IsListing world (is_between round after last) rows) (content_of_maps store)
-    c.args.sink.now c.feed_answers.new.sink (rows_from store after last first)
+    (fed_or_refused g.K.Sink.refuses (λ world rows. IsListing world (is_between round after last) rows)
+    (content_of_maps store) c.args.sink.now c.feed_answers.new.sink (rows_from store after last first)
     (listed_from store round after last first c.in_ok-first.ensures c.feed_answers.ensures.ordered) tt
     c.in_err-feed_answers.field-0.0 c.from_residual-in_err-feed_answers.result
     c.in_err-feed_answers.ensures.stopped c.from_residual-in_err-feed_answers.ensures.1).1
@@ -60,7 +61,7 @@ returns-clause-fed g c =
     let after = c.args.after.now in
     let last = c.args.last.now in
     let first = c.in_ok-first.first in
-    fed_whole g.K.Sink.refuses (λ world rows. IsListing world (is_between round after last) rows) (content_of_maps store)
-    c.args.sink.now c.feed_answers.new.sink (rows_from store after last first)
+    fed_whole g.K.Sink.refuses (λ world rows. IsListing world (is_between round after last) rows)
+    (content_of_maps store) c.args.sink.now c.feed_answers.new.sink (rows_from store after last first)
     (listed_from store round after last first c.in_ok-first.ensures c.feed_answers.ensures.ordered) tt
     c.in_ok-feed_answers.ensures.fed
