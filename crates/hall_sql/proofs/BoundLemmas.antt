@@ -1,6 +1,6 @@
 -- SQL's comparisons of names with the texts between which it looks for them.
-use Rattle.std.proofs.Common.{◌≡◌, ◌≤◌, ◌&&◌, ℕ, Bool, true, false, List, [], ◌∷◌, Option, Some, None, length, arith}
-use Rattle.std.proofs.Common.{refl, ap, sym, subst, ◌∙◌}
+use Rattle.std.proofs.Common.{◌≡◌, ◌&&◌, ℕ, Bool, true, false, List, [], ◌∷◌, Option, Some, None, length, arith}
+use Rattle.std.proofs.Common.{refl, ap, subst, ◌∙◌}
 use Rattle.std.specs.Prelude.{nat_le}
 use Rattle.std.specs.List.{list_all}
 use Rattle.std.specs.declared.cmp.Ordering.{Ordering}
@@ -69,8 +69,8 @@ pub name_up_to : (last : Option (List ℕ)) (name : List ℕ) → is_name name �
     → is_le (text_cmp name (text_up_to last)) ≡ is_up_to last name
 name_up_to None [] is = refl
 name_up_to None (b ∷ bs) is =
-    let bytes = and_second (nat_le 1 (length (b ∷ bs)) && nat_le (length (b ∷ bs)) 24) (list_all is_word_byte (b ∷ bs)) is
-    in
+    let bytes = and_second (nat_le 1 (length (b ∷ bs)) && nat_le (length (b ∷ bs)) 24)
+    (list_all is_word_byte (b ∷ bs)) is in
     ap (λ r. is_le (ordering_then r (text_cmp bs []))) (below b (and_first (is_word_byte b) (list_all is_word_byte bs)
     bytes))
 name_up_to (Some last) name is = refl

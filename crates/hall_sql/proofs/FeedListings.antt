@@ -27,7 +27,8 @@ module _ (s : State) (round : List ℕ) where
       record {
         whole = records_selected answer_in 8 params 9 between_terms answer_columns listing_order
             (λ r. refl) (db 9) rows sel
-            (is_between round after last) agrees _ (answers.answers_listed {schema = s.now.schema} (inr has) db at sound);
+            (is_between round after last) agrees _
+            (answers.answers_listed {schema = s.now.schema} (inr has) db at sound);
         in_order = records_in_order answer_in 8 params 9 between_terms answer_columns listing_order
             (λ r. refl) (db 9) rows sel
             listing_cmp (answers.same_order params between_terms);

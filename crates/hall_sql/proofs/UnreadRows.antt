@@ -143,7 +143,8 @@ module _ {X : Type 0} (read : Row → Option X) (count tree : ℕ) (sql : List �
       some_unread read rows any (all-front rows begun.1.0 (all_selected read count tree params terms project order shows
       reads old.now.trees (rows ++ begun.1.0) sel all))
     where
-      all-front : (front rest : List Row) → AllByRecursion (Reads read) (front ++ rest) → AllByRecursion (Reads read) front
+      all-front : (front rest : List Row) → AllByRecursion (Reads read) (front ++ rest)
+          → AllByRecursion (Reads read) front
       all-front [] rest each = tt
       all-front (r ∷ front) rest each = (each.0, all-front front rest each.1)
 
@@ -216,8 +217,8 @@ people_unread =
 pub people_after_unread : (name : List ℕ) → TellsUnread person_in PEOPLE_AFTER.now (Text name ∷ [])
 people_after_unread name old new rows has shown any all =
     let (u, words) = worded old.now.schema has in
-    let first = first_shown people_at_once 0 (above 1 0 ∷ []) person_columns name_order PEOPLE_AFTER.now (Text name ∷ [])
-    _ (people_after_is u).0 (people_after_is u).1 (people_after_is u).2 old new rows refl words shown in
+    let first = first_shown people_at_once 0 (above 1 0 ∷ []) person_columns name_order PEOPLE_AFTER.now
+    (Text name ∷ []) _ (people_after_is u).0 (people_after_is u).1 (people_after_is u).2 old new rows refl words shown in
     some_unread person_in rows any (subst (AllByRecursion (Reads person_in)) (sym first.2)
     (all_first (Reads person_in) people_at_once first.0 (all_selected person_in 3 0 (Text name ∷ [])
     (above 1 0 ∷ []) person_columns name_order (λ r. refl) (λ trees all. all.0) old.now.trees first.0 first.1 all)))
