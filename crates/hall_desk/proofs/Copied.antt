@@ -20,13 +20,15 @@ use Rattle.hall_desk.specs.Copies.{AreCopied}
 use Rattle.hall_desk.specs.RoundCopy.{IsShownAt, IsRoundCopied, LeavesRounds}
 use Rattle.hall_desk.specs.Shown.{ShowsPuzzles}
 use Rattle.hall_desk.specs.TableCopy.{AreTablesCopied, IsKept, leaves_table}
+use Rattle.hall_desk.specs.Tabling.{IsTallied, IsTalliedIfAny, IsTalliedIn}
 use Rattle.hall_desk.specs.Totals.{IsTableAt}
 use Rattle.hall_desk.specs.declared.copies.Copies.{Copies}
 use Rattle.hall_desk.specs.declared.reply.ShownPuzzle.{ShownPuzzle}
 use Rattle.hall_desk.specs.declared.reply.ShownRound.{ShownRound}
 use Rattle.hall_desk.specs.declared.round_copy.RoundCopy.{RoundCopy}
 use Rattle.hall_desk.specs.declared.table_copy.TableCopy.{TableCopy}
-use Rattle.hall_desk.proofs.TablesLeft.{same_at, table_left}
+use Rattle.hall_desk.specs.declared.tabling.Tabling.{Tabling}
+use Rattle.hall_desk.proofs.TablesLeft.{same_at, table_left, tally_left}
 
 -- ---- over a call that leaves the world
 pub tables_kept : (old new : Content) (copied : Option (List TableCopy)) → Kept old new → AreTablesCopied old copied
@@ -39,12 +41,25 @@ pub round_kept : (old new : Content) (copied : Option RoundCopy) → Kept old ne
 round_kept old new None kept was = tt
 round_kept old new (Some copy) kept was = carried (λ w. IsShownAt w copy.round copy.shown) old new kept was
 
+pub tabling_kept : (old new : Content) (tabling : Option Tabling) → Kept old new → IsTalliedIfAny old tabling
+    → IsTalliedIfAny new tabling
+tabling_kept old new None kept was = tt
+tabling_kept old new (Some tabling) kept was = carried (λ w. IsTalliedIn w tabling) old new kept was
+
 pub copies_kept : (old new : Content) (copies : Copies) → Kept old new → AreCopied old copies → AreCopied new copies
 copies_kept old new copies kept was =
     record {
       tables = tables_kept old new copies.tables kept was.tables;
       round = round_kept old new copies.round kept was.round;
+      tabling = tabling_kept old new copies.tabling kept was.tabling;
     }
+
+-- with other tables, and another tally
+pub copies_on : (old new : Content) (copies : Copies) (tables : Option (List TableCopy)) (tabling : Option Tabling)
+    → Kept old new → AreCopied old copies → AreTablesCopied new tables → IsTalliedIfAny new tabling
+    → AreCopied new (record copies { tables = tables; tabling = tabling })
+copies_on old new copies tables tabling kept was are is =
+    record { tables = are; round = round_kept old new copies.round kept was.round; tabling = is }
 
 -- ---- copies of tables
 -- those that pass a test
@@ -57,26 +72,35 @@ kept_filtered passes copied copies rows is made copy (others, at, among) =
     among) in
     ((copies, is, passed.0), passed.1)
 
--- one more, of this round with this text, where there was memory for it
+-- one more, where there was memory for it
 pub kept_pushed : {R E : Type 0} (result : Result R E) (copied : Option (List TableCopy))
-    (copies rows : List TableCopy) (added : TableCopy) (round text : List ℕ)
+    (copies rows : List TableCopy) (added : TableCopy)
     → ((copy : TableCopy) → Contains copies copy → IsKept copied copy) → OnOk result (rows ≡ copies ++ added ∷ [])
-    → OnErr result (rows ≡ copies) → (added.round ≡ round) × (added.text ≡ text)
-    → (copy : TableCopy) → IsKept (Some rows) copy
-    → IsKept copied copy ⊎ ((copy.round ≡ round) × (copy.text ≡ text))
-kept_pushed (Ok done) copied copies rows added round text were more same told copy (others, at, among) =
+    → OnErr result (rows ≡ copies) → (copy : TableCopy) → IsKept (Some rows) copy
+    → IsKept copied copy ⊎ (copy ≡ added)
+kept_pushed (Ok done) copied copies rows added were more same copy (others, at, among) =
     let one : rows ≡ others = cc in
     elim (Contains-push_cases copies added copy (subst (λ (l : List TableCopy). Contains l copy) (sym one ∙ more)
     among)) [
       | inl there ↦ inl (were copy there)
-      | inr itself ↦ inr (
-        ap (λ (c : TableCopy). c.round) (sym itself) ∙ told.0,
-        ap (λ (c : TableCopy). c.text) (sym itself) ∙ told.1,
-      )
+      | inr itself ↦ inr (sym itself)
     ]
-kept_pushed (Err fault) copied copies rows added round text were more same told copy (others, at, among) =
+kept_pushed (Err fault) copied copies rows added were more same copy (others, at, among) =
     let one : rows ≡ others = cc in
     inl (were copy (subst (λ (l : List TableCopy). Contains l copy) (sym one ∙ same) among))
+
+-- one more, of this round with this text
+pub kept_told : (before after : Option (List TableCopy)) (added : TableCopy) (round text : List ℕ)
+    → ((copy : TableCopy) → IsKept after copy → IsKept before copy ⊎ (copy ≡ added))
+    → (added.round ≡ round) × (added.text ≡ text) → (copy : TableCopy) → IsKept after copy
+    → IsKept before copy ⊎ ((copy.round ≡ round) × (copy.text ≡ text))
+kept_told before after added round text more told copy there = elim (more copy there) [
+  | inl kept ↦ inl kept
+  | inr itself ↦ inr (
+    ap (λ (c : TableCopy). c.round) itself ∙ told.0,
+    ap (λ (c : TableCopy). c.text) itself ∙ told.1,
+  )
+]
 
 -- so each text is its round's table, where this one is
 pub tables_more : (content : Content) (before after : Option (List TableCopy)) (round text : List ℕ)
@@ -209,20 +233,39 @@ tables_left content old new made result copied left can leads (inr did) nothing 
     (λ h s. table_left copy.round copy.text made (content old).world (stays copy there).1 (can h s)) leads did
     (was copy (stays copy there).0)
 
--- so each copy that is left is what the store's world says
+-- a tally that is left was there, and the change leaves it
+tabling_left : {S R E : Type 0} (content : S → Content) (old new : S) (made : Change) (result : Result R E)
+    (tabling left : Option Tabling) → Asks (content old) (CanMake made) → Leads (content old) (content new)
+    → (made ≡ change.Nothing) ⊎ MakesInWorld made (content old) (content new) result
+    → (made ≡ change.Nothing → new ≡ old)
+    → ((one : Tabling) → left ≡ Some one → (tabling ≡ Some one) × IsTrue (leaves_table made one.round))
+    → IsTalliedIfAny (content old) tabling → IsTalliedIfAny (content new) left
+tabling_left content old new made result tabling None can leads did nothing stays was = tt
+tabling_left content old new made result tabling (Some one) can leads (inl idle) nothing stays was =
+    subst (λ s. IsTallied (content s) one) (sym (nothing idle))
+    (subst (IsTalliedIfAny (content old)) (stays one refl).0 was)
+tabling_left content old new made result tabling (Some one) can leads (inr did) nothing stays was =
+    made_alike made (content old) (content new) result (λ w. IsTalliedIn w one)
+    (λ h s. tally_left one.round one made (content old).world refl (stays one refl).1 (can h s)) leads did
+    (subst (IsTalliedIfAny (content old)) (stays one refl).0 was)
+
+-- so each copy that is left is what the store's world says, and the tally is of it
 pub copies_left : {S R E : Type 0} (content : S → Content) (old new : S) (made : Change) (result : Result R E)
-    (copies : Copies) (tables other_tables : Option (List TableCopy)) (round other_round : Option RoundCopy)
-    → tables ≡ copies.tables → round ≡ copies.round → Asks (content old) (CanMake made)
+    (copies taken left : Copies) → taken ≡ copies → Asks (content old) (CanMake made)
     → Leads (content old) (content new)
     → (made ≡ change.Nothing) ⊎ MakesInWorld made (content old) (content new) result
     → (made ≡ change.Nothing → new ≡ old)
-    → ((copy : TableCopy) → IsKept other_tables copy → IsKept tables copy × IsTrue (leaves_table made copy.round))
-    → (LeavesRounds made × (other_round ≡ round)) ⊎ (other_round ≡ None) → AreCopied (content old) copies
-    → AreCopied (content new) (record { tables = other_tables; round = other_round })
-copies_left content old new made result copies tables other_tables round other_round same_tables same_round can leads
-    did nothing stays rounds was = record {
-      tables = tables_left content old new made result tables other_tables can leads did nothing stays
-          (subst (AreTablesCopied (content old)) (sym same_tables) was.tables);
-      round = round_left content old new made result round other_round leads did nothing rounds
-          (subst (λ (kept : Option RoundCopy). IsRoundCopied (content old) kept) (sym same_round) was.round);
+    → ((copy : TableCopy) → IsKept left.tables copy
+    → IsKept taken.tables copy × IsTrue (leaves_table made copy.round))
+    → (LeavesRounds made × (left.round ≡ taken.round)) ⊎ (left.round ≡ None)
+    → ((one : Tabling) → left.tabling ≡ Some one
+    → (taken.tabling ≡ Some one) × IsTrue (leaves_table made one.round))
+    → AreCopied (content old) copies → AreCopied (content new) left
+copies_left content old new made result copies taken left same can leads did nothing stays rounds tallies was =
+    let were : AreCopied (content old) taken = subst (AreCopied (content old)) (sym same) was in
+    record {
+      tables = tables_left content old new made result taken.tables left.tables can leads did nothing stays were.tables;
+      round = round_left content old new made result taken.round left.round leads did nothing rounds were.round;
+      tabling = tabling_left content old new made result taken.tabling left.tabling can leads did nothing tallies
+          were.tabling;
     }

@@ -276,7 +276,7 @@ published_rounds_stay world later events id round sane typed life at published =
 
 -- ---- a table that was told
 -- a Table is denied where the round isn't there, or isn't published
-table_rules : (r : Rule) (id : List ℕ) → Contains (rules_asked (action.Table id)) r → (r ≡ rule.Missing)
+pub table_rules : (r : Rule) (id : List ℕ) → Contains (rules_asked (action.Table id)) r → (r ≡ rule.Missing)
     ⊎ (r ≡ rule.Published)
 table_rules r id (zero, within, is) = inl (sym is)
 table_rules r id (suc zero, within, is) = inr (sym is)

@@ -85,3 +85,4 @@ pub mod OwnRows
 pub mod WholeLists
 pub mod SaneTold
 pub mod WholeWorlds
+pub mod Tablings

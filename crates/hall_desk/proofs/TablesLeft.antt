@@ -6,6 +6,7 @@ use Rattle.std.specs.Cmp.{IsTotalOrder}
 use Rattle.std.specs.FinMap.{FinMap, get, insert, entries, values, find, put, get-entries, entries-insert}
 use Rattle.std.specs.FinMap.Entries.{by_order}
 use Rattle.std.specs.List.{filter, list_all}
+use Rattle.std.specs.List.Sorted.{IsPermutation}
 use Rattle.std.specs.Map.{values_of}
 use Rattle.std.specs.Ordering.{is_eq}
 use Rattle.std.specs.declared.cmp.Ordering.{Ordering}
@@ -22,15 +23,19 @@ use Rattle.hall_policy.specs.declared.record.RoundRow.{RoundRow}
 use Rattle.hall_policy.proofs.Maps.{get-insert_other}
 use Rattle.hall_policy.proofs.Orders.{text_total, same_texts, answer_total, protest_total}
 use Rattle.hall_policy.proofs.Texts.{text_decides, and_first}
+use Rattle.hall_policy.specs.Sink.{HasTaken}
+use Rattle.hall_score.specs.Tally.{TakesProtest}
 use Rattle.hall_score.specs.Total.{total_of}
 use Rattle.hall_store.specs.Change.{CanAddAnswers, CanMake, changed, flagged, with_flag, with_state}
-use Rattle.hall_store.specs.Store.{is_of}
+use Rattle.hall_store.specs.Store.{is_between, is_of, is_protest_in, is_up_to}
 use Rattle.hall_store.specs.declared.change.Change.{Change}
 use Rattle.hall_store.specs.declared.change.Change.TheVariants as change
 use Rattle.hall_store.specs.declared.change.RoundFlag.{RoundFlag}
 use Rattle.hall_store.proofs.Tests.{not_true}
 use Rattle.hall_desk.specs.TableCopy.{leaves_table}
+use Rattle.hall_desk.specs.Tabling.{AreUpTo, IsTalliedIn}
 use Rattle.hall_desk.specs.Totals.{round_answers_by, round_protests_by, AreTotals, IsTableAt}
+use Rattle.hall_desk.specs.declared.tabling.Tabling.{Tabling}
 use Rattle.hall_desk.proofs.DraftSane.{relisted_other, retested_other}
 
 -- a value at a new key that doesn't pass a test leaves what the test leaves
@@ -97,98 +102,160 @@ same_at world other rounds places testers id row at = record {
   );
 }
 
-module _ (id text : List ℕ) where
+-- each row of the round that is kept under the id is kept in the other world too, and no other one is
+pub record RowsStay (world other : World) (id : List ℕ) : Type 0 where
+  pub round : (row : RoundRow) → IsRoundAt world id row → IsRoundAt other id row
+  pub answers : (test : AnswerRow → Bool) → ((row : AnswerRow) → test row ≡ true → row.key.round ≡ id) →
+      filter test (values world.answers) ≡ filter test (values other.answers)
+  pub protests : (test : ProtestRow → Bool) → ((row : ProtestRow) → test row ≡ true → row.key.round ≡ id) →
+      filter test (values world.protests) ≡ filter test (values other.protests)
+
+-- the answers up to a name stay with the rows of the round
+listed_still : (world other : World) (id : List ℕ) (after : Option (List ℕ)) (answers : List AnswerRow)
+    → RowsStay world other id → AreUpTo world id after answers → AreUpTo other id after answers
+listed_still world other id None answers stay none = none
+listed_still world other id (Some name) answers stay listed = record {
+  whole = subst (λ (rows : List AnswerRow). IsPermutation rows answers)
+      (stay.answers (is_between id None (Some name)) (λ row own. (text_decides row.key.round id).0
+      (and_first (same_text row.key.round id) (true && is_up_to (Some name) row.key.entrant) own)))
+      listed.whole;
+  in_order = listed.in_order;
+}
+
+module _ (id : List ℕ) where
+  -- the same rounds, answers and protests
+  stay_alike : (world other : World) → other.rounds ≡ world.rounds → other.places ≡ world.places
+      → other.testers ≡ world.testers → other.answers ≡ world.answers → other.protests ≡ world.protests
+      → RowsStay world other id
+  stay_alike world other rounds places testers answers protests = record {
+    round = same_at world other rounds places testers id;
+    answers = λ test own. ap (λ m. filter test (values m)) (sym answers);
+    protests = λ test own. ap (λ m. filter test (values m)) (sym protests);
+  }
+
   -- an answer of another round
-  answer_left : (world : World) (row : AnswerRow) → not (same_text row.key.round id) ≡ true
-      → get world.answers row.key ≡ None → IsTableAt world id text
-      → IsTableAt (changed (change.AddAnswer row) world) id text
-  answer_left world row other new =
-      table_moved world (changed (change.AddAnswer row) world) id text
-      (same_at world (changed (change.AddAnswer row) world) refl refl refl id)
-      (λ entrant. filter-insert_new answer_total (is_of entrant id) row.key row
-      (not_true (is_of entrant id row)
-      (λ own. is_other row.key.round id other ((text_decides row.key.round id).0
-      (and_first (same_text row.key.round id) (same_text row.key.entrant entrant) own))))
-      world.answers new)
-      (λ entrant. refl)
+  answer_stays : (world : World) (row : AnswerRow) → not (same_text row.key.round id) ≡ true
+      → get world.answers row.key ≡ None → RowsStay world (changed (change.AddAnswer row) world) id
+  answer_stays world row other new = record {
+    round = same_at world (changed (change.AddAnswer row) world) refl refl refl id;
+    answers = λ test own. filter-insert_new answer_total test row.key row
+        (not_true (test row) (λ passes. is_other row.key.round id other (own row passes))) world.answers new;
+    protests = λ test own. refl;
+  }
 
-  answers_left : (world : World) (rows : List AnswerRow) → list_all (λ row. not (same_text row.key.round id)) rows ≡ true
-      → CanAddAnswers world rows → IsTableAt world id text → IsTableAt (changed (change.AddAnswers rows) world) id text
-  answers_left world [] others can is = is
-  answers_left world (row ∷ rows) others can is =
-      let apart = both_pass (not (same_text row.key.round id)) (list_all (λ r. not (same_text r.key.round id)) rows) others
-      in
-      answers_left (changed (change.AddAnswer row) world) rows apart.1 can.1
-      (answer_left world row apart.0 can.0.fresh is)
+  answers_stay : (world : World) (rows : List AnswerRow)
+      → list_all (λ row. not (same_text row.key.round id)) rows ≡ true → CanAddAnswers world rows → RowsStay world (changed (change.AddAnswers rows) world) id
+  answers_stay world [] others can = stay_alike world world refl refl refl refl refl
+  answers_stay world (row ∷ rows) others can =
+      let apart =
+      both_pass (not (same_text row.key.round id)) (list_all (λ r. not (same_text r.key.round id)) rows) others in
+      let one : RowsStay world (changed (change.AddAnswer row) world) id =
+      answer_stays world row apart.0 can.0.fresh in
+      let rest : RowsStay (changed (change.AddAnswer row) world)
+      (changed (change.AddAnswers rows) (changed (change.AddAnswer row) world)) id =
+      answers_stay (changed (change.AddAnswer row) world) rows apart.1 can.1 in
+      record {
+        round = λ r at. rest.round r (one.round r at);
+        answers = λ test own. one.answers test own ∙ rest.answers test own;
+        protests = λ test own. one.protests test own ∙ rest.protests test own;
+      }
 
-  protest_left : (world : World) (row : ProtestRow) → not (same_text row.key.round id) ≡ true
-      → get world.protests row.key ≡ None → IsTableAt world id text
-      → IsTableAt (changed (change.AddProtest row) world) id text
-  protest_left world row other new =
-      table_moved world (changed (change.AddProtest row) world) id text
-      (same_at world (changed (change.AddProtest row) world) refl refl refl id)
-      (λ entrant. refl)
-      (λ entrant. filter-insert_new protest_total
-      (λ r. same_text r.key.round id && same_text r.key.entrant entrant) row.key row
-      (not_true (same_text row.key.round id && same_text row.key.entrant entrant)
-      (λ own. is_other row.key.round id other ((text_decides row.key.round id).0
-      (and_first (same_text row.key.round id) (same_text row.key.entrant entrant) own))))
-      world.protests new)
+  protest_stays : (world : World) (row : ProtestRow) → not (same_text row.key.round id) ≡ true
+      → get world.protests row.key ≡ None → RowsStay world (changed (change.AddProtest row) world) id
+  protest_stays world row other new = record {
+    round = same_at world (changed (change.AddProtest row) world) refl refl refl id;
+    answers = λ test own. refl;
+    protests = λ test own. filter-insert_new protest_total test row.key row
+        (not_true (test row) (λ passes. is_other row.key.round id other (own row passes))) world.protests new;
+  }
 
   -- another round
-  flag_left : (world : World) (round : List ℕ) (flag : RoundFlag) (found : Option Round)
-      → not (same_text round id) ≡ true → IsTableAt world id text → IsTableAt (with_flag world round flag found) id text
-  flag_left world round flag None other is = is
-  flag_left world round flag (Some old) other is =
-      table_moved world (with_flag world round flag (Some old)) id text
-      (λ row at. record {
-        head = get-insert_other text_total same_texts world.rounds round (flagged flag old) id
-            (λ same. is_other round id other (sym same)) ∙ at.head;
-        list = at.list;
-        testers = at.testers;
-      })
-      (λ entrant. refl) (λ entrant. refl) is
+  flag_stays : (world : World) (round : List ℕ) (flag : RoundFlag) (found : Option Round)
+      → not (same_text round id) ≡ true → RowsStay world (with_flag world round flag found) id
+  flag_stays world round flag None other = stay_alike world world refl refl refl refl refl
+  flag_stays world round flag (Some old) other = record {
+    round = λ row at. record {
+      head = get-insert_other text_total same_texts world.rounds round (flagged flag old) id
+          (λ same. is_other round id other (sym same)) ∙ at.head;
+      list = at.list;
+      testers = at.testers;
+    };
+    answers = λ test own. refl;
+    protests = λ test own. refl;
+  }
 
-  round_left : (world : World) (put_row : RoundRow) → not (same_text put_row.round.id id) ≡ true
-      → IsTableAt world id text → IsTableAt (changed (change.PutRound put_row) world) id text
-  round_left world put_row other =
+  round_stays : (world : World) (put_row : RoundRow) → not (same_text put_row.round.id id) ≡ true
+      → RowsStay world (changed (change.PutRound put_row) world) id
+  round_stays world put_row other =
       let apart : id ≢ put_row.round.id = λ same. is_other put_row.round.id id other (sym same) in
-      table_moved world (changed (change.PutRound put_row) world) id text
-      (λ row at. record {
-        head = get-insert_other text_total same_texts world.rounds put_row.round.id put_row.round id apart ∙ at.head;
-        list = λ number. relisted_other world.places put_row.round.id put_row.puzzles
-            (record { round = id; number = number }) apart ∙ at.list number;
-        testers = λ name.
-            let same = retested_other world.testers put_row.round.id put_row.testers
-            (record { round = id; name = name }) apart in (
-              λ tests. (at.testers name).0 (sym same ∙ tests),
-              λ among. same ∙ (at.testers name).1 among,
-            );
-      })
-      (λ entrant. refl) (λ entrant. refl)
+      record {
+        round = λ row at. record {
+          head = get-insert_other text_total same_texts world.rounds put_row.round.id put_row.round id apart ∙ at.head;
+          list = λ number. relisted_other world.places put_row.round.id put_row.puzzles
+              (record { round = id; number = number }) apart ∙ at.list number;
+          testers = λ name.
+              let same = retested_other world.testers put_row.round.id put_row.testers
+              (record { round = id; name = name }) apart in (
+                λ tests. (at.testers name).0 (sym same ∙ tests),
+                λ among. same ∙ (at.testers name).1 among,
+              );
+        };
+        answers = λ test own. refl;
+        protests = λ test own. refl;
+      }
 
-  state_left : (world : World) (key : PuzzleKey) (state : PuzzleState) (found : Option PuzzleRow)
-      → IsTableAt world id text → IsTableAt (with_state world key state found) id text
-  state_left world key state None is = is
-  state_left world key state (Some row) is =
-      let other : World = with_state world key state (Some row) in
-      table_moved world other id text (same_at world other refl refl refl id) (λ entrant. refl) (λ entrant. refl) is
+  state_stays : (world : World) (key : PuzzleKey) (state : PuzzleState) (found : Option PuzzleRow)
+      → RowsStay world (with_state world key state found) id
+  state_stays world key state None = stay_alike world world refl refl refl refl refl
+  state_stays world key state (Some row) = stay_alike world (with_state world key state (Some row)) refl refl refl refl
+      refl
 
-  -- the table stays over a change that leaves it
-  pub table_left : (made : Change) (world : World) → leaves_table made id ≡ true → CanMake made world
+  -- the round's rows stay over a change that leaves its table
+  pub rows_stay : (made : Change) (world : World) → leaves_table made id ≡ true → CanMake made world
+      → RowsStay world (changed made world) id
+  rows_stay change.Nothing world leaves can = stay_alike world world refl refl refl refl refl
+  rows_stay (change.Import people) world leaves can = stay_alike world (changed (change.Import people) world) refl refl
+      refl refl refl
+  rows_stay (change.PutPuzzle row) world leaves can = stay_alike world (changed (change.PutPuzzle row) world) refl refl
+      refl refl refl
+  rows_stay (change.SetState key state) world leaves can = state_stays world key state (get world.puzzles key)
+  rows_stay (change.PutRound row) world leaves can = round_stays world row leaves
+  rows_stay (change.SetRoundFlag round flag) world leaves can = flag_stays world round flag (get world.rounds round)
+      leaves
+  rows_stay (change.AddAnswer row) world leaves can = answer_stays world row leaves can.fresh
+  rows_stay (change.AddAnswers rows) world leaves can = answers_stay world rows leaves can
+  rows_stay (change.AddProtest row) world leaves can = protest_stays world row leaves can.fresh
+  rows_stay (change.RuleProtest key ruling) world leaves can = absurd (false≢true leaves)
+
+  -- so its table stays
+  pub table_left : (text : List ℕ) (made : Change) (world : World) → leaves_table made id ≡ true → CanMake made world
       → IsTableAt world id text → IsTableAt (changed made world) id text
-  table_left change.Nothing world leaves can is = is
-  table_left (change.Import people) world leaves can is =
-      let other : World = changed (change.Import people) world in
-      table_moved world other id text (same_at world other refl refl refl id) (λ entrant. refl) (λ entrant. refl) is
-  table_left (change.PutPuzzle row) world leaves can is =
-      let other : World = changed (change.PutPuzzle row) world in
-      table_moved world other id text (same_at world other refl refl refl id) (λ entrant. refl) (λ entrant. refl) is
-  table_left (change.SetState key state) world leaves can is = state_left world key state (get world.puzzles key) is
-  table_left (change.PutRound row) world leaves can is = round_left world row leaves is
-  table_left (change.SetRoundFlag round flag) world leaves can is = flag_left world round flag (get world.rounds round)
-      leaves is
-  table_left (change.AddAnswer row) world leaves can is = answer_left world row leaves can.fresh is
-  table_left (change.AddAnswers rows) world leaves can is = answers_left world rows leaves can is
-  table_left (change.AddProtest row) world leaves can is = protest_left world row leaves can.fresh is
-  table_left (change.RuleProtest key ruling) world leaves can is = absurd (false≢true leaves)
+  table_left text made world leaves can =
+      let stay : RowsStay world (changed made world) id = rows_stay made world leaves can in
+      table_moved world (changed made world) id text stay.round
+      (λ entrant. stay.answers (is_of entrant id) (λ row own. (text_decides row.key.round id).0
+      (and_first (same_text row.key.round id) (same_text row.key.entrant entrant) own)))
+      (λ entrant. stay.protests (λ r. same_text r.key.round id && same_text r.key.entrant entrant)
+      (λ row own. (text_decides row.key.round id).0
+      (and_first (same_text row.key.round id) (same_text row.key.entrant entrant) own)))
+
+  -- and the tally of it
+  pub tally_left : (tabling : Tabling) (made : Change) (world : World) → tabling.round ≡ id
+      → leaves_table made id ≡ true → CanMake made world → IsTalliedIn world tabling
+      → IsTalliedIn (changed made world) tabling
+  tally_left tabling made world of leaves can was =
+      let stay : RowsStay world (changed made world) tabling.round =
+      subst (RowsStay world (changed made world)) (sym of) (rows_stay made world leaves can) in
+      record {
+        row = was.row;
+        at = stay.round was.row was.at;
+        fresh = was.fresh;
+        begun = was.begun;
+        between = was.between;
+        protests = subst (λ (rows : List ProtestRow). HasTaken TakesProtest was.fresh rows was.between)
+            (stay.protests (is_protest_in tabling.round) (λ row own. (text_decides row.key.round tabling.round).0 own))
+            was.protests;
+        answers = was.answers;
+        listed = listed_still world (changed made world) tabling.round tabling.after was.answers stay was.listed;
+        took = was.took;
+      }

@@ -1,6 +1,6 @@
 -- The totals of a round, from what a tally took.
 use Rattle.std.proofs.Common.{◌≡◌, ◌⊎◌, ◌++◌, ◌+◌, ◌<◌, ◌&&◌, inl, inr, ℕ, zero, suc, ℤ, Bool, true, false, cond, List}
-use Rattle.std.proofs.Common.{[], ◌∷◌, map, length, Some, Contains, refl, sym, ap, ◌∙◌, subst, arith}
+use Rattle.std.proofs.Common.{[], ◌∷◌, map, length, Some, None, Contains, refl, sym, ap, ◌∙◌, subst, arith}
 use Rattle.std.specs.List.{filter, AllByRecursion, IsDistinct}
 use Rattle.std.specs.List.Sorted.{IsPermutation}
 use Rattle.std.specs.Map.{keys_of, values_of}
@@ -33,7 +33,8 @@ use Rattle.hall_score.specs.Tally.{AreTotalsOf, IsTallyOf, TakesAnswer, RefusesA
 use Rattle.hall_score.specs.Tally.{IsNext, taking_cmp}
 use Rattle.hall_score.specs.declared.tally.Tally.{Tally}
 use Rattle.hall_store.specs.Store.{Content, Kept, IsListing, IsRefusedNext, listing_cmp, is_in, is_of, is_protest_in}
-use Rattle.hall_store.specs.Store.{protests_in}
+use Rattle.hall_store.specs.Store.{is_between, protests_in}
+use Rattle.hall_store.proofs.Slices.{slices_whole}
 use Rattle.hall_store.proofs.Tests.{filter-Contains, Contains-filter, and_both, and_turned}
 use Rattle.hall_policy.proofs.Texts.{text_decides, and_first, and_second}
 use Rattle.hall_store.specs.declared.fault.StoreFault.{StoreFault}
@@ -423,7 +424,7 @@ module _ (cause : Type 0) (id : List ℕ) (round : RoundRow) (fresh : Tally) (he
       × HasTaken TakesProtest fresh rows between)) where
     -- feeding answers after them fails for such a cause alone, or in a world that isn't sane
     pub answers_fail : (after : Tally) → cause ⊎ IsRefusedNext TakesAnswer RefusesAnswer
-        (λ world rows. IsListing world (is_in id) rows) mid new between after →
+        (λ world rows. IsListing world (is_between id None None) rows) mid new between after →
         cause ⊎ (new.honest → new.serves × ¬ (Sane new.world))
     answers_fail after (inl is) = inl is
     answers_fail after (inr (taken, next, took, refuses, rest)) = inr (λ h.
@@ -431,12 +432,13 @@ module _ (cause : Type 0) (id : List ℕ) (round : RoundRow) (fresh : Tally) (he
         let read = first (kept.honest h) in (
           left.0,
           λ sane. none_refused mid.world id round read.1.0 taken left.1.0 next fresh between after held read.1.2
-              took refuses left.1.1 (subst Sane (kept.world h left.0) sane),
+              took refuses (slices_whole mid.world id (taken ++ next ∷ left.1.0) left.1.1)
+              (subst Sane (kept.world h left.0) sane),
         ))
 
     -- the totals of both
     pub totals_served : (after : Tally) (totals : List (List ℕ × ℤ)) →
-        (new.honest → new.serves × ((rows : List AnswerRow) × IsListing new.world (is_in id) rows
+        (new.honest → new.serves × ((rows : List AnswerRow) × IsListing new.world (is_between id None None) rows
         × HasTaken TakesAnswer between rows after)) →
         ((round : RoundRow) (protests : List ProtestRow) (answers : List AnswerRow) (fresh between : Tally)
         → IsTallyOf round [] [] fresh → HasTaken TakesProtest fresh protests between
@@ -451,6 +453,6 @@ module _ (cause : Type 0) (id : List ℕ) (round : RoundRow) (fresh : Tally) (he
         let are : AreTotalsOf round read.1.0 served.1.0 totals =
         given round read.1.0 served.1.0 fresh between held read.1.2 served.1.2 in (
           s,
-          totals_are new.world id round served.1.0 served.1.1 totals
+          totals_are new.world id round served.1.0 (slices_whole new.world id served.1.0 served.1.1) totals
               (subst (λ (protests : List ProtestRow). AreTotalsOf round protests served.1.0 totals) all are),
         )

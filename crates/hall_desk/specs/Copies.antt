@@ -2,9 +2,11 @@
 use Rattle.hall_store.specs.Store.{Content}
 use Rattle.hall_desk.specs.RoundCopy.{IsRoundCopied}
 use Rattle.hall_desk.specs.TableCopy.{AreTablesCopied}
+use Rattle.hall_desk.specs.Tabling.{IsTalliedIfAny}
 use Rattle.hall_desk.specs.declared.copies.Copies.{Copies}
 
--- each copy is what the store's world says
+-- each copy is what the store's world says, and the tally of the table that is being made is of it
 pub record AreCopied (content : Content) (copies : Copies) : Type 0 where
   pub tables : AreTablesCopied content copies.tables
   pub round : IsRoundCopied content copies.round
+  pub tabling : IsTalliedIfAny content copies.tabling

@@ -5,6 +5,7 @@ pub mod Shown
 pub mod Lines
 pub mod Totals
 pub mod TableCopy
+pub mod Tabling
 pub mod RoundCopy
 pub mod Copies
 pub mod Judged

@@ -1,11 +1,12 @@
--- The search that a request waits for.
-use Rattle.std.specs.Prelude.{◌≡◌, ℕ, List, Option, Some, None, true}
+-- What a request waits for: a search, or a table.
+use Rattle.std.specs.Prelude.{◌≡◌, ◌⊎◌, ℕ, List, Option, Some, None, true, IsTrue}
 use Rattle.std.specs.FinMap.{get}
 use Rattle.hall_policy.specs.World.{World}
 use Rattle.hall_policy.specs.First.{First}
 use Rattle.hall_policy.specs.declared.record.PuzzleKey.{PuzzleKey}
 use Rattle.hall_policy.specs.declared.record.PuzzleRow.{PuzzleRow}
-use Rattle.hall_policy.specs.declared.request.Action.TheVariants.{Certify}
+use Rattle.hall_policy.specs.declared.record.Round.{Round}
+use Rattle.hall_policy.specs.declared.request.Action.TheVariants.{Certify, Table}
 use Rattle.hall_policy.specs.declared.request.Request.{Request}
 use Rattle.hall_policy.specs.declared.rule.Decision.TheVariants.{Allow}
 use Rattle.hall_desk.specs.Memo.{MemoView, Remembers}
@@ -62,6 +63,17 @@ IsFoundOf found sender name budget memo (Some search) = IsSearchOfFound found se
 IsFoundOf found sender name budget memo None =
     (row : PuzzleRow) → found ≡ Some row → is_open row.state ≡ true → Remembers memo row.puzzle budget
 
--- a request that is to wait needs a search, over an honest store that serves
+-- The request asks for the table of a round that the world keeps, and that is published; and the rules allow it to
+-- whoever has its key, or has none, at whatever moment it is asked.
+pub record AsksTable (world : World) (request : Request) : Type 0 where
+  pub id : List ℕ
+  pub round : Round
+  pub asked : request.action ≡ Table id
+  pub allowed : (t : ℕ) → First world (caller_of world request.key) request.action t Allow
+  pub kept : get world.rounds id ≡ Some round
+  pub published : IsTrue round.published
+
+-- a request that is to wait needs a search, or asks for a table, over an honest store that serves
 abbrev pub MayWait : Content → Request → Type 0
-MayWait content request = content.honest → content.serves → NeedsSearch content.world request
+MayWait content request =
+    content.honest → content.serves → NeedsSearch content.world request ⊎ AsksTable content.world request

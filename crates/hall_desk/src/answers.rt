@@ -149,7 +149,7 @@ fn list_all<S: ReadStore>(
         lines: Rows::new(Vec::new(alloc)),
         shows,
     };
-    store.feed_answers(alloc, round, &mut lines)?;
+    store.feed_answers(alloc, round, &None, &None, &mut lines)?;
     let Lines { lines, .. } = lines;
     Ok(lines)
 }

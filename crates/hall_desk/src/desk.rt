@@ -29,7 +29,7 @@ use crate::serving::still_serves;
 use crate::step::{make, run, step};
 use crate::together::plan_beside;
 use crate::under_way::Searches;
-use crate::{round_copy, table_copy};
+use crate::{round_copy, table_copy, tabling};
 use hall_policy::{Moment, People, Request};
 use hall_store::{Change, JointAnswers, ReadStore, Store, StoreFault};
 use std::alloc::{AllocError, Global};
@@ -38,7 +38,7 @@ use std::marker::Model;
 /// What answers requests to the hall, one after another, over the world of its store; a contract sees the store.
 ///
 /// It keeps copies of the tables that it made last and of the round that was read last, until what they tell of is
-/// changed, the searches that requests wait for, and what these found last.
+/// changed, the table and the searches that requests wait for, and what these found last.
 #[derive(Drop)]
 pub struct Desk<S: ReadStore> {
     store: S,
@@ -119,9 +119,11 @@ impl<S: ReadStore> Desk<S> {
     }
 
     /// Works for a while on what a plan of the request needs: it is to be answered now, or asked so again, or refused.
-    /// An allowed Certify waits until its puzzle has been searched, some visits a time, and no other request does; one
-    /// that wants the puzzle and budget of a search under way joins it. At most eight are, one for each key; others
-    /// wait until one may begin. Reads only, and of a stranger's request the caller alone.
+    /// An allowed Certify waits until its puzzle has been searched, some visits a time; one that wants the puzzle and
+    /// budget of a search under way joins it. At most eight are, one for each key; others wait until one may begin. An
+    /// allowed Table waits until the table is made, the answers of some people a time; of tables one is made at once,
+    /// which a question about any other goes on with. No other request waits. Reads only, and of a stranger's request
+    /// the caller alone.
     pub fn prepare(&mut self, alloc: Global, request: &Request) -> Prepared
         ensures kept { Kept (S.content (kept_by self.old)) (S.content (kept_by self.new)) }
         ensures untouched { IsNobodys request.now → kept_by self.new ≡ kept_by self.old }
@@ -132,6 +134,7 @@ impl<S: ReadStore> Desk<S> {
             alloc,
             &mut self.store,
             request,
+            &mut self.copies,
             &mut self.searches,
             &mut memo,
         );
@@ -233,6 +236,7 @@ impl<S: Store> Desk<S> {
     {
         self.copies.tables = table_copy::left_by(&change, self.copies.tables.take());
         self.copies.round = round_copy::left_by(&change, self.copies.round.take());
+        self.copies.tabling = tabling::left_by(&change, self.copies.tabling.take());
         let writes = is_change(&change);
         let made = make(alloc, &mut self.store, change);
         if writes {

@@ -58,6 +58,7 @@ mod step;
 mod submit;
 mod table;
 mod table_copy;
+mod tabling;
 mod together;
 mod under_way;
 mod verdict;

@@ -1,25 +1,29 @@
-//! What is worked on before a request is answered: the search that its plan would make.
-ghost use Rattle.std.specs.Prelude.{◌≡◌};
+//! What is worked on before a request is answered: the search, or the table, that its plan would make.
+ghost use Rattle.std.specs.Prelude.{◌≡◌, ◌⊎◌};
 ghost use Rattle.hall_store.specs.Store.{Asks, Kept};
+ghost use Rattle.hall_desk.specs.Copies.{AreCopied};
 ghost use Rattle.hall_desk.specs.Plans.{IsNobodys};
 ghost use Rattle.hall_desk.specs.Searches.{WaitsAmong};
+ghost use Rattle.hall_desk.specs.Tabling.{WaitsForTable};
 ghost use Rattle.hall_desk.specs.Wanted.{IsPrepared, IsSearchFor};
 ghost use Rattle.hall_desk.specs.declared.preparing.Prepared.TheVariants as Prepared;
 ghost use Rattle.hall_desk.specs.declared.wanted_search.Wanted.{Wanted};
 
+use crate::copies::Copies;
 use crate::memo::Memo;
+use crate::tabling::prepare_table;
 use crate::under_way::{Searches, search_on};
 use crate::wanted_search::search_for;
-use hall_policy::Request;
+use hall_policy::{Action, Request};
 use hall_store::ReadStore;
 use std::alloc::Global;
 
 /// What came of working on what a request needs.
 #[derive(Clone, Copy, Debug, PartialEq, Eq)]
 pub enum Prepared {
-    /// Nothing is left to search for it.
+    /// Nothing is left to do for it.
     Ready,
-    /// Its search is under way, or waits for its place.
+    /// Its search is under way, or waits for its place; or a table is being made, its own or one before it.
     Waits,
     /// Memory or the store failed.
     Refused,
@@ -27,6 +31,34 @@ pub enum Prepared {
 
 /// Works for a while on what a plan of the request needs. Reads only.
 pub(crate) fn prepare<S: ReadStore>(
+    alloc: Global,
+    store: &mut S,
+    request: &Request,
+    copies: &mut Copies,
+    searches: &mut Option<Searches>,
+    memo: &mut Option<Memo>,
+) -> Prepared
+    requires { AreCopied (S.content store.old) copies.old }
+    ensures kept { Kept (S.content store.old) (S.content store.new) }
+    ensures untouched { IsNobodys request.now → store.new ≡ store.old }
+    ensures copied { AreCopied (S.content store.new) copies.new }
+    ensures ready { result ≡ Prepared.Ready → Asks (S.content store.new)
+        (λ world. IsPrepared world request.now memo.new) }
+    ensures waits { result ≡ Prepared.Waits → WaitsForTable (S.content store.new) request.now copies.old copies.new
+        ⊎ ((wanted : Wanted) × WaitsAmong searches.old wanted searches.new
+        × Asks (S.content store.new) (λ world. IsSearchFor world request.now wanted)) }
+{
+    match &request.action {
+        Action::Table { round } => match prepare_table(alloc, store, request, round, copies) {
+            Ok(prepared) => prepared,
+            Err(_fault) => Prepared::Refused,
+        },
+        _ => prepare_search(alloc, store, request, searches, memo),
+    }
+}
+
+/// Works for a while on the search that a plan of the request needs.
+fn prepare_search<S: ReadStore>(
     alloc: Global,
     store: &mut S,
     request: &Request,

@@ -89,6 +89,6 @@ fn find_totals<S: ReadStore>(
 {
     let mut tally = Tally::new(alloc, row.clone()?);
     store.feed_protests(alloc, round, &mut tally)?;
-    store.feed_answers(alloc, round, &mut tally)?;
+    store.feed_answers(alloc, round, &None, &None, &mut tally)?;
     Ok(tally.totals()?)
 }

@@ -45,8 +45,15 @@ pub(crate) fn text_of(
     Ok(None)
 }
 
-/// Keeps a copy of the round's table, where there is memory for it: beside the others, or in their place where there is
-/// no room beside them.
+/// Whether a copy of the round's table is kept.
+pub(crate) fn is_copied(copied: &Option<Rows<TableCopy>>, round: &RoundId) -> bool {
+    match copied {
+        Some(copies) => copies.as_slice().iter().any(|copy| copy.round == *round),
+        None => false,
+    }
+}
+
+/// Keeps a copy of the round's table, where there is memory for it.
 pub(crate) fn keep(alloc: Global, copied: &mut Option<Rows<TableCopy>>, round: &RoundId, text: &str)
     ensures { (copy : TableCopy) → IsKept copied.new copy →
         IsKept copied.old copy ⊎ ((copy.round ≡ round.now) × (copy.text ≡ text.now)) }
@@ -54,9 +61,23 @@ pub(crate) fn keep(alloc: Global, copied: &mut Option<Rows<TableCopy>>, round: &
     let Ok(copy) = copy_of(alloc, round, text) else {
         return;
     };
-    let mut copies = those_beside(alloc, copied.take(), text.len());
-    let _ = copies.push(copy);
+    keep_copy(alloc, copied, copy);
+}
+
+/// Keeps the copy where there is memory for it: beside the others, or in their place where there is no room beside
+/// them. The result is whether it is kept.
+pub(crate) fn keep_copy(
+    alloc: Global,
+    copied: &mut Option<Rows<TableCopy>>,
+    copy: TableCopy,
+) -> bool
+    ensures some { (other : TableCopy) → IsKept copied.new other → IsKept copied.old other ⊎ (other ≡ copy) }
+    ensures kept { IsTrue result → IsKept copied.new copy }
+{
+    let mut copies = those_beside(alloc, copied.take(), copy.text.as_str().len());
+    let kept = copies.push(copy).is_ok();
     *copied = Some(copies);
+    kept
 }
 
 /// The copies beside which there is room for one more, of so many bytes: those that are kept, or none.
@@ -110,7 +131,7 @@ fn left_of(change: &Change, copies: Rows<TableCopy>) -> Rows<TableCopy>
 }
 
 /// Whether the change is of no round, answer or protest that the round's table is made of.
-fn leaves(change: &Change, round: &RoundId) -> bool
+pub(crate) fn leaves(change: &Change, round: &RoundId) -> bool
     ensures { result ≡ leaves_table change.now round.now }
 {
     match change {

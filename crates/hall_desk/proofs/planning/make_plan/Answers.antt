@@ -1,7 +1,7 @@
 use Rattle.std.proofs.Common.{sym, subst}
 use Rattle.hall_desk.specs.Copies.{AreCopied}
 use Rattle.hall_desk.specs.declared.copies.Copies.{Copies}
-use Rattle.hall_desk.proofs.Copied.{round_kept, tables_kept}
+use Rattle.hall_desk.proofs.Copied.{round_kept, tables_kept, tabling_kept}
 use Rattle.hall_desk.proofs.planning.make_plan.Goals as goal
 use Rattle.hall_desk.proofs.planning.make_plan.Goals.{in-Table, in_default}
 
@@ -13,6 +13,7 @@ returns-clause-copied g c = elim c.match-request.branch [
       let made : AreCopied new (record c.args.copies.now { tables = w.plan_for_anyone-plan.new.copied }) = record {
         tables = w.plan_for_anyone-plan.ensures.copied;
         round = round_kept _ _ c.args.copies.now.round kept c.requires.round;
+        tabling = tabling_kept _ _ c.args.copies.now.tabling kept c.requires.tabling;
       } in
       subst (λ s. AreCopied (g.S.ReadStore.content s) c.match-request.copies) (sym w.store-is)
       (subst (λ (k : Copies). AreCopied new k) (sym w.copies-is) made)
@@ -22,6 +23,7 @@ returns-clause-copied g c = elim c.match-request.branch [
       let made : AreCopied new (record c.args.copies.now { round = w.plan_by_key-plan.new.copied }) = record {
         tables = tables_kept _ _ c.args.copies.now.tables kept c.requires.tables;
         round = w.plan_by_key-plan.ensures.copied;
+        tabling = tabling_kept _ _ c.args.copies.now.tabling kept c.requires.tabling;
       } in
       subst (λ s. AreCopied (g.S.ReadStore.content s) c.match-request.copies) (sym w.store-is)
       (subst (λ (k : Copies). AreCopied new k) (sym w.copies-is) made)

@@ -1,12 +1,19 @@
-use Rattle.hall_desk.proofs.Wants.{prepared_by}
+use Rattle.std.proofs.Common.{inl, inr}
+use Rattle.hall_desk.proofs.Copied.{copies_kept}
 use Rattle.hall_desk.proofs.preparing.prepare.Goals as goal
 
-pub returns-in-Ok-Some-clause-waits : goal.returns-in-Ok-Some-clause-waits
-returns-in-Ok-Some-clause-waits g c = λ waits.
-    let told = rw c.in-Ok-Some.field-0-is at c.in-Ok-Some.ensures.told in
-    (c.in-Ok-Some.wanted, c.search_on.ensures.waits waits, told.1)
+pub returns-in-Ok-clause-waits : goal.returns-in-Ok-clause-waits
+returns-in-Ok-clause-waits g c = λ waits.
+    let is = c.in-Ok.is in
+    inl (c.in-Ok.ensures.waits (cc))
 
-pub returns-in-Ok-Some-clause-ready : goal.returns-in-Ok-Some-clause-ready
-returns-in-Ok-Some-clause-ready g c = λ ready h s.
-    let told = rw c.in-Ok-Some.field-0-is at c.in-Ok-Some.ensures.told in
-    prepared_by _ _ _ c.in-Ok-Some.wanted (told.1 h s) (c.search_on.ensures.ready ready)
+pub returns-in_default : goal.returns-in_default
+returns-in_default g c =
+    let searched = c.prepare_search.ensures in
+    record {
+      kept = searched.kept;
+      untouched = searched.untouched;
+      copied = copies_kept _ _ c.args.copies.now searched.kept c.requires;
+      ready = searched.ready;
+      waits = λ waits. inr (searched.waits waits);
+    }

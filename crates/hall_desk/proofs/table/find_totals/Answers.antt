@@ -1,7 +1,7 @@
-use Rattle.std.proofs.Common.{◌≡◌, [], subst}
+use Rattle.std.proofs.Common.{◌≡◌, [], None, subst}
 use Rattle.hall_policy.specs.declared.record.RoundRow.{RoundRow}
 use Rattle.hall_score.specs.Tally.{IsTallyOf, TakesProtest, TakesAnswer}
-use Rattle.hall_store.specs.Store.{IsListing, is_in, protests_in}
+use Rattle.hall_store.specs.Store.{IsListing, is_between, protests_in}
 use Rattle.hall_store.proofs.Feeds.{fed_now}
 use Rattle.hall_desk.proofs.Totalled.{same_rows, fails_as, protests_fail, answers_fail, totals_served}
 use Rattle.hall_desk.proofs.table.find_totals.Goals as goal
@@ -48,6 +48,6 @@ returns-clause-served g c =
     (g.S.ReadStore.content c.args.store.now) (g.S.ReadStore.content c.feed_protests.new.self) _ _
     c.in_ok-feed_protests.ensures.kept c.in_ok-feed_protests.ensures.fed)
     c.feed_answers.new.sink c.in_ok-totals.field-0.items
-    (fed_now TakesAnswer (λ world rows. IsListing world (is_in c.args.round.now) rows)
+    (fed_now TakesAnswer (λ world rows. IsListing world (is_between c.args.round.now None None) rows)
     (g.S.ReadStore.content c.feed_protests.new.self) (g.S.ReadStore.content c.feed_answers.new.self) _ _
     c.in_ok-feed_answers.ensures.kept c.in_ok-feed_answers.ensures.fed) c.in_ok-totals.ensures

@@ -1,12 +1,6 @@
-use Rattle.std.proofs.Common.{List, Option, subst}
-use Rattle.hall_desk.specs.TableCopy.{IsKept}
-use Rattle.hall_desk.specs.declared.table_copy.TableCopy.{TableCopy}
-use Rattle.hall_desk.proofs.Copied.{kept_pushed}
+use Rattle.hall_desk.proofs.Copied.{kept_told}
 use Rattle.hall_desk.proofs.table_copy.keep.Goals as goal
 
 pub returns : goal.returns
-returns c = kept_pushed c.push.result c.args.copied.now c.those_beside-copies.result c.push.new.self c.in-Ok.copy
-    c.args.round.now c.args.text.now
-    (λ copy there. subst (λ (o : Option (List TableCopy)). IsKept o copy) c.take.ensures.value
-    (c.those_beside-copies.ensures copy there))
-    c.push.ensures.ok c.push.ensures.err c.in-Ok.ensures
+returns c = kept_told c.args.copied.now c.keep_copy.new.copied c.in-Ok.copy c.args.round.now c.args.text.now
+    c.keep_copy.ensures.some c.in-Ok.ensures
