@@ -375,8 +375,19 @@ impl Connection {
     }
 }
 
-/// Whether the bytes begin with a method by which nothing is asked that needs work before it is answered. It spares
-/// most requests a look at their heads.
+/// Whether the bytes begin with a method by which nothing is asked that needs work before it is answered, or ask for
+/// anything but a table. It spares most requests a look at their heads.
 fn needs_nothing(bytes: &[u8]) -> bool {
-    bytes.starts_with(b"GET ") || bytes.starts_with(b"PUT ")
+    match bytes.strip_prefix(b"GET ") {
+        Some(target) => !asks_table(target),
+        None => bytes.starts_with(b"PUT "),
+    }
+}
+
+/// Whether the target that the bytes begin with is a table's.
+fn asks_table(bytes: &[u8]) -> bool {
+    match bytes.iter().position(|byte| *byte == b' ') {
+        Some(end) => bytes[..end].ends_with(b"/table"),
+        None => false,
+    }
 }
