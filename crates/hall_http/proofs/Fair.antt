@@ -26,7 +26,7 @@ use Rattle.hall_http.proofs.Comings.{turns_more}
 use Rattle.hall_http.proofs.Lines.{nobody, numbers}
 
 -- one of a list with one more at its end is that, or one of the list
-last_or : {A : Type 0} (front rest xs : List A) (one last : A) → xs ++ last ∷ [] ≡ front ++ one ∷ rest
+pub last_or : {A : Type 0} (front rest xs : List A) (one last : A) → xs ++ last ∷ [] ≡ front ++ one ∷ rest
     → ((rest ≡ []) × (one ≡ last) × (front ≡ xs))
     ⊎ ((less : List A) × (rest ≡ less ++ last ∷ []) × (xs ≡ front ++ one ∷ less))
 last_or [] rest [] one last is = inl (cc, cc, refl)
@@ -186,7 +186,7 @@ module _ {P : Type 0} where
       by next.End come = still come.0
       by next.Refused come = still come.0
 
-  turns_rest : (front rest : Nexts P) (one : Next P)
+  pub turns_rest : (front rest : Nexts P) (one : Next P)
       → turns_in (front ++ one ∷ rest) ≡ turns_in front + (turn one + turns_in rest)
   turns_rest [] rest one = omega arith
   turns_rest (x ∷ front) rest one = omega (arith, turns_rest front rest one)

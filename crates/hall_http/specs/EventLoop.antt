@@ -1,14 +1,15 @@
 -- What the event loop was asked for, and what it said.
 use Rattle.std.specs.Prelude.{◌≡◌, ◌≢◌, ◌+◌, ℕ, Option, Some, None, [], ◌∷◌, ◌++◌, get_or, length, true, All}
 use Rattle.std.specs.declared.net.socket_addr.SocketAddr.{SocketAddr}
-use Rattle.hall_http.specs.Coming.{IsFreshPeer, Said, logged, newcomer}
+use Rattle.http_server.specs.declared.log.Log.{Log}
+use Rattle.hall_http.specs.Coming.{Heard, IsFreshPeer, Said, logged, newcomer}
 use Rattle.hall_http.specs.Fair.{Owes}
 use Rattle.hall_http.specs.Line.{WereLines}
-use Rattle.hall_http.specs.Looks.{IsHeardOut, IsTimeBy}
+use Rattle.hall_http.specs.Looks.{IsHeardOut}
 use Rattle.hall_http.specs.Places.{IsLetGo}
 use Rattle.hall_http.specs.Seats.{AreCalled, AreFresh, AreLetGo, IsUnheard, LetsGo, heard_in}
 use Rattle.hall_http.specs.Socket.{traffic_of}
-use Rattle.hall_http.specs.Waited.{HadWaited, WasJudged}
+use Rattle.hall_http.specs.Waited.{AreSaidRightly}
 use Rattle.hall_http.specs.declared.event_loop.EventLoop.{EventLoop}
 use Rattle.hall_http.specs.declared.places.Places.{Places}
 use Rattle.hall_http.specs.declared.places.Visit.TheVariants.{Ready}
@@ -25,10 +26,12 @@ said_by sockets = record {
   heard = heard_in sockets.schedule.places;
 }
 
--- a newcomer has the place that was given last, and is ready there and has waited for nothing; and else none was given
+-- a newcomer has the place that was given last, by when so much was heard, and is ready there and has waited for
+-- nothing; and else none was given
 abbrev pub GivesPlace : Places → Next Socket → Places → Type 0
 GivesPlace old (next.Newcomer place peer) new =
-    (now : ℕ) × (new.seated.items ≡ old.seated.items ++ (place, now) ∷ [])
+    (heard : Log Heard ℕ) × (heard.items ≡ old.heard.items)
+    × (new.seated.items ≡ old.seated.items ++ (place, heard) ∷ [])
     × (get_or new.visits.items place None ≡ Some (Ready None))
 GivesPlace old _ new = new.seated.items ≡ old.seated.items
 
@@ -70,16 +73,14 @@ pub record IsFreshLoop {N E : Type 0} (address : SocketAddr) (connections : ℕ)
 
 -- Nobody had two turns while another waited for one: a newcomer, or one that could go on after its last. Whoever had a
 -- turn, of all that was to be done, was called in one line, in which each stands once, and of which whoever came first
--- goes first. Whoever was let go had expired by then, or made room where all places were taken, and was heard to wait
--- so; and all that befell the sockets was heard by that millisecond, unless it had left. And so it is where it may
--- judge now who goes. Each millisecond had counted by some first of what was asked.
+-- goes first. Whoever was let go had expired by then, or made room where all places were taken; it had waited so long
+-- by what was heard and asked until then, when all that befell the sockets was heard, unless it had left. And so it is
+-- where it may judge now who goes.
 pub record IsFair {N E : Type 0} (sockets : EventLoop N E) : Type 0 where
   pub owes : ∥ Owes (logged sockets.nexts) (heard_in sockets.schedule.places) sockets.schedule.ready.waiting.items ∥₁
+  pub said : ∥ AreSaidRightly sockets.nexts.items sockets.schedule.places.heard.items sockets.schedule.looks.items ∥₁
   pub called : AreCalled (logged sockets.nexts) sockets.schedule.ready
   pub lines : ∥ WereLines sockets.schedule.ready.motions.items ∥₁
   pub goes : AreLetGo (logged sockets.nexts) sockets.schedule.places
   pub rightly : All (λ one. ∥ IsLetGo one ∥₁) sockets.schedule.places.let_go.items
-  pub waited : All (λ one. ∥ HadWaited sockets.schedule.places.heard.items one.0 ∥₁) sockets.schedule.places.let_go.items
-  pub judged : All (λ one. ∥ WasJudged sockets.schedule.looks.items one ∥₁) sockets.schedule.places.let_go.items
-  pub timed : All (λ one. ∥ IsTimeBy sockets.schedule.looks.items one.1 ∥₁) sockets.schedule.places.heard.items
   pub heard : sockets.schedule.has_heard ≡ true → ∥ IsHeardOut sockets.schedule.looks.items ∥₁

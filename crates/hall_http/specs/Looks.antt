@@ -60,6 +60,6 @@ after_look so_far (Sockets patience, told) = so_far
 abbrev pub time_by : Looks → ℕ × ℕ
 time_by looks = fold after_look (0, 0) looks
 
--- so many had counted after some first of these looks
-abbrev pub IsTimeBy : Looks → ℕ → Type 0
-IsTimeBy looks now = (front rest : Looks) × (looks ≡ front ++ rest) × ((time_by front).0 ≡ now)
+-- these are the looks before, and perhaps more
+abbrev pub AreMore : Looks → Looks → Type 0
+AreMore old new = (more : Looks) × (new ≡ old ++ more)

@@ -124,12 +124,6 @@ abbrev pub LetsGo : Places → ℕ → Places → Type 0
 LetsGo old place new =
     (one : LetGo × ℕ) × (one.0.place ≡ place) × (new.let_go.items ≡ old.let_go.items ++ one ∷ [])
 
--- whoever is known so at the place was let go, at this millisecond
-abbrev pub LetsGoNow : Places → ℕ → Places → Type 0
-LetsGoNow old place new =
-    (one : LetGo × ℕ) × (new.let_go.items ≡ old.let_go.items ++ one ∷ [])
-    × (get_or old.visits.items place None ≡ Some one.0.visit) × (one.1 ≡ old.elapsed)
-
 -- what was waited for last is this, after as many requests
 abbrev pub WaitedFor : Option Visit → Wish → ℕ → Wait → Type 0
 WaitedFor old what requests last =

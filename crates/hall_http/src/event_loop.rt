@@ -1,7 +1,7 @@
 //! The system's sockets: who comes, whose turn it is, and who has waited too long.
 ghost use Rattle.std.specs.Prelude.{◌≡◌, ◌<◌, ◌++◌, ◌⊎◌, ℕ, [], ◌∷◌, IfNone, IfOk, IfSome, Option, None, Some, false, get_or};
 ghost use Rattle.std.specs.Prelude.{All, length, nat_lt, true};
-ghost use Rattle.hall_http.specs.Looks.{IsHeardOut, IsTimeBy, TellsAll, counted, passed_since, read_after};
+ghost use Rattle.hall_http.specs.Looks.{AreMore, IsHeardOut, TellsAll, counted, passed_since, read_after};
 ghost use Rattle.hall_http.specs.Looks.{time_by};
 ghost use Rattle.hall_http.specs.declared.client.Step.TheVariants as Step;
 ghost use Rattle.hall_http.specs.declared.event_loop.Look.TheVariants as Look;
@@ -16,7 +16,7 @@ ghost use Rattle.hall_http.specs.Seats.{AreFresh, AreLetGo, AreStill, HasHeard, 
 ghost use Rattle.hall_http.specs.Seats.{IsUnheard, StandsAt, heard_in};
 ghost use Rattle.hall_http.specs.Fair.{Owes};
 ghost use Rattle.hall_http.specs.Limits.{most_connections};
-ghost use Rattle.hall_http.specs.Waited.{WasJudged};
+ghost use Rattle.hall_http.specs.Waited.{AreSaidRightly, AreSeatedBy, ComeAsSeated, GoesRightly, MayGoRightly};
 
 use crate::client::{Step, Wish};
 use crate::clients::MOST_CLIENTS;
@@ -34,7 +34,7 @@ use mio::{Events, Interest, Poll, Token};
 use std::io::{ErrorKind, Write};
 use std::net::{Net, SocketAddr};
 use std::time::Duration;
-use std::{io, time};
+use std::{io, mem, time};
 
 /// What the listener's events are called. No connection has this place.
 const LISTENER: usize = usize::MAX;
@@ -90,14 +90,16 @@ pub struct EventLoop<'r, N, E> {
     schedule: Schedule<'r, N>,
     /// The address that it was to listen on, and for how many connections.
     asked: Log<SocketAddr, u64>,
-    /// All that was to be done next, and the millisecond of the schedule.
-    nexts: Log<Next<Socket>, u64>,
+    /// All that was to be done next, and what had been asked by then.
+    nexts: Log<Next<Socket>, Log<Look, usize>>,
     /// Where it tells that writes are refused, and that they are taken again.
     journal: Option<Counted<E>>,
     refuses_writes: bool,
     ghost lets_go: { AreLetGo (logged nexts) schedule.places },
     ghost in_line: { AreCalled (logged nexts) schedule.ready },
     ghost owes: { ∥ Owes (logged nexts) (heard_in schedule.places) schedule.ready.waiting.items ∥₁ },
+    ghost come: { ComeAsSeated nexts.items schedule.places.seated.items },
+    ghost said: { ∥ AreSaidRightly nexts.items schedule.places.heard.items schedule.looks.items ∥₁ },
 }
 
 /// Who is here and who waits, and whose turn it is.
@@ -132,8 +134,6 @@ struct Schedule<'r, N> {
     looks: Log<Look, usize>,
     ghost heard_out: { has_heard ≡ true → ∥ IsHeardOut looks.items ∥₁ },
     ghost counts: { time_by looks.items ≡ (places.elapsed, read) },
-    ghost timed: { All (λ one. ∥ IsTimeBy looks.items one.1 ∥₁) places.heard.items },
-    ghost judged: { All (λ one. ∥ WasJudged looks.items one ∥₁) places.let_go.items },
 }
 
 impl<'r, N: Net + AllocGlobal + time::Clock, E: Drop> EventLoop<'r, N, E> {
@@ -179,8 +179,9 @@ impl<'r, N: time::Clock, E: Write> Sockets for EventLoop<'r, N, E> {
     ghost said = { said_by };
 
     fn next(&mut self) -> Next<Socket> {
-        let (next, elapsed) = self.schedule.next_at();
-        self.nexts = self.nexts.and(&next, &elapsed);
+        let next = self.schedule.next();
+        let before = mem::replace(&mut self.nexts, Log::new());
+        self.nexts = self.schedule.note(&before, &next);
         next
     }
 
@@ -295,6 +296,9 @@ impl<'r, N> Schedule<'r, N> {
         ensures handed_out { MayHandOut self.old.places result self.new.places }
         ensures ready { self.new.ready ≡ self.old.ready }
         ensures round { self.new.round ≡ self.old.round }
+        ensures asked { self.new.looks ≡ self.old.looks }
+        ensures goes { MayGoRightly (AreSeatedBy self.new.places.seated.items) result self.new.places.heard.items
+            self.new.looks.items }
     {
         self.places.let_go(place);
         self.try_again();
@@ -318,6 +322,7 @@ impl<'r, N> Schedule<'r, N> {
     fn call_searching(&mut self)
         ensures places { IsUnheard self.old.places self.new.places }
         ensures line { ComeBehind self.old.ready self.new.ready }
+        ensures asked { self.new.looks ≡ self.old.looks }
     {
         for _gone in 0..self.searching.len() {
             let Some(place) = self.searching.first() else {
@@ -340,6 +345,7 @@ impl<'r, N> Schedule<'r, N> {
         ensures round { self.new.round ≡ length self.new.ready.waiting.items }
         ensures unheard { self.new.has_heard ≡ false }
         ensures line { ComeBehind self.old.ready self.new.ready }
+        ensures asked { self.new.looks ≡ self.old.looks }
     {
         if self.holding == 0 || self.answers >= MOST_ANSWERS {
             self.answers = 0;
@@ -409,6 +415,7 @@ impl<'r, N> Schedule<'r, N> {
         ensures heard { self.new.has_heard ≡ self.old.has_heard }
         ensures expired { IfSome result (λ place.
             StandsAt self.new.places place (λ visit. HasExpired visit self.new.places.elapsed)) }
+        ensures asked { self.new.looks ≡ self.old.looks }
     {
         if self.places.elapsed() < self.quiet_until {
             return None;
@@ -454,6 +461,9 @@ impl<'r, N> Schedule<'r, N> {
         ensures round { IfSome result (λ _. self.new.round < self.old.round) }
         ensures handed_out { MayHandOut self.old.places result self.new.places }
         ensures line { MayCall self.old.ready result self.new.ready }
+        ensures asked { self.new.looks ≡ self.old.looks }
+        ensures goes { MayGoRightly (AreSeatedBy self.new.places.seated.items) result self.new.places.heard.items
+            self.new.looks.items }
     {
         if self.round == 0 {
             return None;
@@ -473,6 +483,9 @@ impl<'r, N> Schedule<'r, N> {
         requires { self.old.has_heard ≡ true }
         ensures handed_out { MayHandOut self.old.places result self.new.places }
         ensures line { MayCall self.old.ready result self.new.ready }
+        ensures asked { self.new.looks ≡ self.old.looks }
+        ensures goes { MayGoRightly (AreSeatedBy self.new.places.seated.items) result self.new.places.heard.items
+            self.new.looks.items }
     {
         if self.backlog == Backlog::Waiting
             && let Some(next) = self.admit()
@@ -489,6 +502,9 @@ impl<'r, N> Schedule<'r, N> {
         ensures unheard { IfNone result (self.new.has_heard ≡ false) }
         ensures handed_out { MayHandOut self.old.places result self.new.places }
         ensures line { MayCall self.old.ready result self.new.ready }
+        ensures asked { self.new.looks ≡ self.old.looks }
+        ensures goes { MayGoRightly (AreSeatedBy self.new.places.seated.items) result self.new.places.heard.items
+            self.new.looks.items }
     {
         if !self.has_heard {
             return None;
@@ -506,6 +522,9 @@ impl<'r, N> Schedule<'r, N> {
         ensures heard { IfNone result (self.new.has_heard ≡ true) }
         ensures handed_out { MayHandOut self.old.places result self.new.places }
         ensures line { MayCall self.old.ready result self.new.ready }
+        ensures asked { self.new.looks ≡ self.old.looks }
+        ensures goes { MayGoRightly (AreSeatedBy self.new.places.seated.items) result self.new.places.heard.items
+            self.new.looks.items }
     {
         let Some(place) = self.free_place() else {
             return self.make_room();
@@ -530,6 +549,9 @@ impl<'r, N> Schedule<'r, N> {
         ensures handed_out { MayHandOut self.old.places result self.new.places }
         ensures line { MayCall self.old.ready result self.new.ready }
         ensures first { (place : ℕ) → result ≡ Some (Next.Gone place) → GoesFirst self.old.places place }
+        ensures asked { self.new.looks ≡ self.old.looks }
+        ensures goes { MayGoRightly (AreSeatedBy self.new.places.seated.items) result self.new.places.heard.items
+            self.new.looks.items }
     {
         if self.places.has_room()
             && self.places.are_full()
@@ -549,6 +571,9 @@ impl<'r, N> Schedule<'r, N> {
         ensures heard { IfNone result (self.new.has_heard ≡ true) }
         ensures handed_out { MayHandOut self.old.places result self.new.places }
         ensures line { MayCall self.old.ready result self.new.ready }
+        ensures asked { self.new.looks ≡ self.old.looks }
+        ensures goes { MayGoRightly (AreSeatedBy self.new.places.seated.items) result self.new.places.heard.items
+            self.new.looks.items }
     {
         let interests = Interest::READABLE | Interest::WRITABLE;
         let set = stream.set_nodelay(true).and_then(|_| {
@@ -603,6 +628,7 @@ impl<'r, N: time::Clock> Schedule<'r, N> {
     fn poll_once(&mut self) -> io::Result<()>
         ensures still { AreStill self.old.places self.new.places }
         ensures line { ComeBehind self.old.ready self.new.ready }
+        ensures more { AreMore self.old.looks.items self.new.looks.items }
     {
         self.has_heard = false;
         self.count_time();
@@ -624,6 +650,7 @@ impl<'r, N: time::Clock> Schedule<'r, N> {
         ensures line { ComeBehind self.old.ready self.new.ready }
         ensures unheard { self.new.has_heard ≡ false }
         ensures all { IfOk result (λ _. ∥ IsHeardOut self.new.looks.items ∥₁) }
+        ensures more { AreMore self.old.looks.items self.new.looks.items }
     {
         for _asked in 0..MOST_ASKED {
             let told = self.hear(Some(0))?;
@@ -642,6 +669,7 @@ impl<'r, N: time::Clock> Schedule<'r, N> {
         ensures unheard { self.new.has_heard ≡ false }
         ensures told { IfOk result (λ told.
             self.new.looks.items ≡ self.old.looks.items ++ (Look.Sockets patience, told) ∷ []) }
+        ensures more { AreMore self.old.looks.items self.new.looks.items }
     {
         self.poll
             .poll(&mut self.events, patience.map(Duration::from_millis))?;
@@ -710,6 +738,9 @@ impl<'r, N: time::Clock> Schedule<'r, N> {
         ensures handed_out { HandsOut self.old.places result self.new.places }
         ensures line { CallsOne self.old.ready result self.new.ready }
         ensures over { result ≡ Next.End → HaveAllGone self.new.places }
+        ensures goes { GoesRightly (AreSeatedBy self.new.places.seated.items) result self.new.places.heard.items
+            self.new.looks.items }
+        ensures more { AreMore self.old.looks.items self.new.looks.items }
     {
         for _round in 0..u64::MAX {
             if self.places.are_over() {
@@ -734,16 +765,15 @@ impl<'r, N: time::Clock> Schedule<'r, N> {
         Next::Refused
     }
 
-    /// Waits until something is to be done, and tells at which millisecond it is.
-    fn next_at(&mut self) -> (Next<Socket>, u64)
-        ensures handed_out { HandsOut self.old.places result.0 self.new.places }
-        ensures line { CallsOne self.old.ready result.0 self.new.ready }
-        ensures over { result.0 ≡ Next.End → HaveAllGone self.new.places }
-        ensures at { result.1 ≡ self.new.places.elapsed }
+    /// What was next before and this, with all that was asked until now.
+    fn note(
+        &self,
+        before: &Log<Next<Socket>, Log<Look, usize>>,
+        next: &Next<Socket>,
+    ) -> Log<Next<Socket>, Log<Look, usize>>
+        ensures { result.items ≡ before.now.items ++ (next.now, self.now.looks) ∷ [] }
     {
-        let next = self.next();
-        let elapsed = self.places.elapsed();
-        (next, elapsed)
+        before.and(next, &self.looks)
     }
 
     /// The connection at the place isn't held any more, and is ready.
@@ -751,6 +781,7 @@ impl<'r, N: time::Clock> Schedule<'r, N> {
         ensures places { self.new.places ≡ self.old.places }
         ensures line { ComeBehind self.old.ready self.new.ready }
         ensures ready { IsReadyInLine self.new.places place self.new.ready }
+        ensures asked { self.new.looks ≡ self.old.looks }
     {
         self.holding = self.holding.saturating_sub(1);
         if let Some(Visit::Ready(_)) = self.places.at(place) {
@@ -762,6 +793,7 @@ impl<'r, N: time::Clock> Schedule<'r, N> {
     fn hears(&mut self, place: usize, step: Step, held: Option<Option<Moment>>)
         ensures heard { HasHeard self.old.places ((place, step), held) self.new.places }
         ensures ready { self.new.ready ≡ self.old.ready }
+        ensures asked { self.new.looks ≡ self.old.looks }
     {
         self.places.hears(place, step, held);
     }
@@ -772,6 +804,7 @@ impl<'r, N: time::Clock> Schedule<'r, N> {
         ensures line { ComeBehind self.old.ready self.new.ready }
         ensures ready { IsInLine self.new.places place step self.new.ready }
         ensures goes_on { step ≡ Step.Again → place < most_connections → waits_in self.new.ready place ≡ true }
+        ensures asked { self.new.looks ≡ self.old.looks }
     {
         self.hears(place, step, held);
         // By what was heard it can go on, whether or not anybody is known there.

@@ -3,7 +3,7 @@ ghost use Rattle.std.specs.Prelude.{◌≡◌, ◌≤◌, ◌<◌, ◌+◌, ◌�
 ghost use Rattle.std.specs.Prelude.{false, is_some, true};
 ghost use Rattle.hall_http.specs.Limits.{most_connections};
 ghost use Rattle.hall_http.specs.Places.{IsLetGo, counted_for, patience_of, taken, until_of, wait_in};
-ghost use Rattle.hall_http.specs.Waited.{HadWaited, WaitAsHeard};
+ghost use Rattle.hall_http.specs.Waited.{WaitAsHeard};
 ghost use Rattle.hall_http.specs.declared.client.Step.TheVariants as Step;
 ghost use Rattle.hall_http.specs.declared.places.Visit.TheVariants.{Ready};
 
@@ -109,6 +109,9 @@ pub(crate) struct LetGo {
     is_full: bool,
 }
 
+/// All that was heard of turns, and the millisecond.
+pub(crate) type HeardLog = Log<((usize, Step), Option<Option<Moment>>), u64>;
+
 /// Who is here, at which place. A connection that may come has a place, until that is free again; or it can't be set
 /// up, and is lost.
 #[derive(Drop)]
@@ -122,8 +125,8 @@ pub(crate) struct Places {
     here: u64,
     /// How many milliseconds have counted so far.
     elapsed: u64,
-    /// The places that were given to newcomers, and the millisecond.
-    seated: Log<usize, u64>,
+    /// The places that were given to newcomers, and all that had been heard by then.
+    seated: Log<usize, HeardLog>,
     /// The places that were free again, and the millisecond.
     freed: Log<usize, u64>,
     /// The newcomers that were lost, and the millisecond.
@@ -131,21 +134,20 @@ pub(crate) struct Places {
     /// Those that were let go, and the millisecond.
     let_go: Log<LetGo, u64>,
     /// All that was heard of turns, and the millisecond.
-    heard: Log<((usize, Step), Option<Option<Moment>>), u64>,
+    heard: HeardLog,
     ghost long: { length visits.items ≡ most_connections },
     ghost counted: { here ≡ taken visits.items },
     ghost in_all: { left + (length freed.items + length lost.items) ≡ most },
     ghost stays: { length seated.items ≡ length freed.items + here },
     ghost fits: { here ≤ left },
     ghost rightly: { All (λ one. ∥ IsLetGo one ∥₁) let_go.items },
-    ghost waits: { WaitAsHeard heard.items visits.items },
-    ghost waited: { All (λ one. ∥ HadWaited heard.items one.0 ∥₁) let_go.items },
+    ghost came: { All (λ one. length one.1.items ≤ length heard.items) seated.items },
+    ghost waits: { WaitAsHeard seated.items heard.items visits.items },
 }
 
 impl Places {
     ghost use Rattle.hall_http.specs.Seats.{AreFresh, AreStill, Frees, FreesOne, HasHeard};
     ghost use Rattle.hall_http.specs.Seats.{HaveAllGone, IsHeard, IsOpen, IsUnheard, LetsGo, LosesOne, MayLetGo};
-    ghost use Rattle.hall_http.specs.Seats.{LetsGoNow};
     ghost use Rattle.hall_http.specs.Seats.{TouchesOnly, WaitsFrom, Wakes};
     ghost use Rattle.hall_http.specs.Seats.{are_full};
     ghost use Rattle.hall_http.specs.Looks.{counted};
@@ -301,13 +303,13 @@ impl Places {
 
     /// Gives a newcomer the place, which is ready and has waited for nothing. What comes of it is which places were
     /// given before.
-    pub(crate) fn seat(&mut self, place: usize) -> Log<usize, u64>
+    pub(crate) fn seat(&mut self, place: usize) -> Log<usize, HeardLog>
         requires { IsOpen self.old place }
         ensures before { result.items ≡ self.old.seated.items }
         ensures freed { self.new.freed.items ≡ self.old.freed.items }
         ensures there { TouchesOnly self.old place self.new }
         ensures known { get_or self.new.visits.items place None ≡ Some (Ready None) }
-        ensures seated { self.new.seated.items ≡ self.old.seated.items ++ (place, self.old.elapsed) ∷ [] }
+        ensures seated { self.new.seated.items ≡ self.old.seated.items ++ (place, self.old.heard) ∷ [] }
         ensures most { self.new.most ≡ self.old.most }
         ensures let_go { self.new.let_go.items ≡ self.old.let_go.items }
         ensures heard { self.new.heard.items ≡ self.old.heard.items }
@@ -315,7 +317,7 @@ impl Places {
     {
         self.visits[place] = Some(Visit::Ready(None));
         self.here += 1;
-        let seated = self.seated.and(&place, &self.elapsed);
+        let seated = self.seated.and(&place, &self.heard);
         mem::replace(&mut self.seated, seated)
     }
 
@@ -334,7 +336,6 @@ impl Places {
     pub(crate) fn let_go(&mut self, place: usize)
         requires { MayLetGo self.old place }
         ensures gone { LetsGo self.old place self.new }
-        ensures now { LetsGoNow self.old place self.new }
         ensures freed { FreesOne self.old place self.new }
         ensures there { TouchesOnly self.old place self.new }
         ensures seated { self.new.seated.items ≡ self.old.seated.items }

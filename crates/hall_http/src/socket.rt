@@ -5,6 +5,7 @@ ghost use Rattle.hall_http.specs.Socket.{traffic_of};
 
 use crate::outgoing::Outgoing;
 use crate::peer::{Call, Moved, Peer};
+use crate::places::HeardLog;
 use http_server::Log;
 use mio::net::TcpStream;
 use std::io::{ErrorKind, Read, Write};
@@ -14,7 +15,7 @@ use std::net::Shutdown;
 #[derive(Drop)]
 pub struct Socket {
     stream: TcpStream,
-    before: Log<usize, u64>,
+    before: Log<usize, HeardLog>,
     reads: Log<[u8; 4096], usize>,
     writes: Log<Outgoing, (usize, usize)>,
     /// A read told that no more comes.
@@ -29,7 +30,7 @@ pub struct Socket {
 
 impl Socket {
     /// One that nothing was read of, after these.
-    pub fn new(stream: TcpStream, before: Log<usize, u64>) -> Socket
+    pub fn new(stream: TcpStream, before: Log<usize, HeardLog>) -> Socket
         ensures number { (traffic_of result).number ≡ length before.items }
         ensures untouched { IsUntouched (traffic_of result) }
     {

@@ -7,4 +7,5 @@ abbrev pub invariant-loop-gone : goal.invariant-loop-gone
 invariant-loop-gone g l = record {
   places : IsUnheard l.fn.self.places l.self.places;
   line : ComeBehind l.fn.self.ready l.self.ready;
+  asked : l.self.looks ≡ l.fn.self.looks;
 }

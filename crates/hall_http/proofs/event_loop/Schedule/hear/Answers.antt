@@ -1,6 +1,6 @@
 use Rattle.std.proofs.Common.{◌∙◌, rules}
 use Rattle.hall_http.proofs.Fair.{behind_then}
-use Rattle.hall_http.proofs.Waited.{judged_more, time_more, timed_more}
+use Rattle.hall_http.proofs.Waited.{time_more}
 use Rattle.hall_http.proofs.event_loop.Schedule.hear.Goals.{then-place, else-place}
 use Rattle.hall_http.proofs.event_loop.Schedule.hear.Goals as goal
 
@@ -18,16 +18,6 @@ loop-place-preserved g c =
             told = search rules;
           })
     ]
-
-pub invariant_of-self-2-clause-judged : goal.invariant_of-self-2-clause-judged
-invariant_of-self-2-clause-judged g c =
-    let old = c.args.self.now in
-    rw c.and-self.ensures (judged_more old.looks.items _ old.places.let_go.items old.judged)
-
-pub invariant_of-self-2-clause-timed : goal.invariant_of-self-2-clause-timed
-invariant_of-self-2-clause-timed g c =
-    let old = c.args.self.now in
-    rw c.and-self.ensures (timed_more old.looks.items _ old.places.heard.items old.timed)
 
 pub invariant_of-self-2-clause-counts : goal.invariant_of-self-2-clause-counts
 invariant_of-self-2-clause-counts g c =

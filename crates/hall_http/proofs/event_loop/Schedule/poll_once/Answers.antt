@@ -1,8 +1,10 @@
 use Rattle.std.proofs.Common.{◌≡◌, subst, rules, ◌++◌, ◌∷◌, [], true}
 use Rattle.hall_http.specs.declared.event_loop.Look.TheVariants.{Clock}
+use Rattle.hall_http.specs.Looks.{AreMore}
 use Rattle.hall_http.specs.Queue.{ComeBehind}
 use Rattle.hall_http.proofs.Fair.{behind_then}
 use Rattle.hall_http.proofs.Looked.{all_told, all_told_before}
+use Rattle.hall_http.proofs.Waited.{asked_then}
 use Rattle.hall_http.proofs.event_loop.Schedule.poll_once.Goals.{then-not-tells_all+in_ok-hear_all, else-not-tells_all+else-not-is_quiet}
 use Rattle.hall_http.proofs.event_loop.Schedule.poll_once.Goals as goal
 
@@ -26,14 +28,6 @@ invariant_of-self-2 g c = record {
     | then-not-tells_all+in_ok-hear_all w ↦ rw w.self-is w.hear_all.new.self.counts
     | else-not-tells_all+else-not-is_quiet w ↦ rw w.self-is c.count_time-is_quiet.new.self.counts
   ];
-  timed = elim c.if-not-tells_all.branch [
-    | then-not-tells_all+in_ok-hear_all w ↦ rw w.self-is w.hear_all.new.self.timed
-    | else-not-tells_all+else-not-is_quiet w ↦ rw w.self-is c.count_time-is_quiet.new.self.timed
-  ];
-  judged = elim c.if-not-tells_all.branch [
-    | then-not-tells_all+in_ok-hear_all w ↦ rw w.self-is w.hear_all.new.self.judged
-    | else-not-tells_all+else-not-is_quiet w ↦ rw w.self-is c.count_time-is_quiet.new.self.judged
-  ];
 }
 
 pub returns-clause-line : goal.returns-clause-line
@@ -47,5 +41,21 @@ returns-clause-line g c =
     (elim c.if-not-tells_all.branch [
       | then-not-tells_all+in_ok-hear_all w ↦
           rw w.self-is (behind_then first then w.hear_all.new.self.ready so_far w.hear_all.ensures.line)
+      | else-not-tells_all+else-not-is_quiet w ↦ rw w.self-is so_far
+    ])
+
+pub returns-clause-more : goal.returns-clause-more
+returns-clause-more g c =
+    let first = c.args.self.now.looks.items in
+    let heard = c.hear.new.self.looks.items in
+    let then = c.count_time-is_quiet.new.self.looks.items in
+    let so_far : AreMore first then =
+    asked_then first heard then
+    (asked_then first c.count_time.new.self.looks.items heard (_, c.count_time.ensures.counts.1) c.hear.ensures.more)
+    (_, c.count_time-is_quiet.ensures.counts.1) in
+    rw c.try_again.ensures.asked.0
+    (elim c.if-not-tells_all.branch [
+      | then-not-tells_all+in_ok-hear_all w ↦
+          rw w.self-is (asked_then first then w.hear_all.new.self.looks.items so_far w.hear_all.ensures.more)
       | else-not-tells_all+else-not-is_quiet w ↦ rw w.self-is so_far
     ])

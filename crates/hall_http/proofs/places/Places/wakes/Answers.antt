@@ -7,7 +7,7 @@ pub invariant_of-self-clause-waits : goal.invariant_of-self-clause-waits
 invariant_of-self-clause-waits c =
     let old = c.args.self.now in
     rw c.woken.ensures
-    (as_heard_woken old.heard.items old.visits.items c.args.place c.in-Some.visit
+    (as_heard_woken old.seated.items old.heard.items old.visits.items c.args.place c.in-Some.visit
     (sym c.at.ensures.known ∙ c.in-Some.is) old.waits)
 
 pub invariant_of-self-clause-counted : goal.invariant_of-self-clause-counted

@@ -1,7 +1,0 @@
-use Rattle.hall_http.proofs.event_loop.Schedule.wake.Goals as goal
-
-pub invariant_of-self-clause-timed : goal.invariant_of-self-clause-timed
-invariant_of-self-clause-timed g c = rw c.wakes.ensures.still.3 c.args.self.now.timed
-
-pub invariant_of-self-clause-judged : goal.invariant_of-self-clause-judged
-invariant_of-self-clause-judged g c = rw c.wakes.ensures.still.2 c.args.self.now.judged
