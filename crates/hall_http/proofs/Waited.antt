@@ -20,7 +20,8 @@ use Rattle.hall_http.specs.Places.{HasExpired, HasLeft, MayMakeRoom, counted_for
 use Rattle.hall_http.specs.Seats.{AreStill, IsHeard, MayLetGo, StandsAt, Wakes, WaitedFor, WaitsFrom}
 use Rattle.hall_http.specs.EventLoop.{FreesPlace, GivesPlace, HandsOut, LetsOneGo}
 use Rattle.hall_http.specs.Waited.{AreSaidRightly, AreSeatedBy, CameBy, ComeAsSeated, GoesRightly, HasWaited, HeardAt}
-use Rattle.hall_http.specs.Waited.{IsHeardAfter, IsWaitOf, KeepsWait, MayGoNow, NextsBy, SeatedBy, WaitAsHeard}
+use Rattle.hall_http.specs.Waited.{IsHeardAfter, IsKnownBy, IsKnownLast, IsKnownSince, IsWaitOf, KeepsWait}
+use Rattle.hall_http.specs.Waited.{MayGoNow, NextsBy, SeatedBy, WaitAsHeard}
 use Rattle.hall_http.specs.Waited.{WaitsSince, turns_by}
 use Rattle.hall_http.specs.declared.socket.Socket.{Socket}
 use Rattle.hall_http.specs.declared.client.Step.{Step}
@@ -125,19 +126,65 @@ module _ (HasCome : ℕ → Type 0) (heard : HeardAt) (place : ℕ) (held : Opti
   waits_here (step.Searches requests) (Waiting last) wait known is = absurd known
   waits_here step.Over visit wait known is = absurd known
 
+-- by what was heard last it is known so still once something was heard of another's turn
+known_more : (heard : HeardAt) (place : ℕ) (wait : Wait) (visit : Visit) (one : Heard × ℕ) → one.0.0.0 ≢ place
+    → IsKnownLast heard place wait visit → IsKnownLast (heard ++ one ∷ []) place wait visit
+known_more heard place wait visit one off (front, rest, how, held, now, is, apart, by) = (
+  front,
+  rest ++ one ∷ [],
+  how,
+  held,
+  now,
+  ap (λ xs. xs ++ one ∷ []) is ∙ append_assoc front (_ ∷ rest) (one ∷ []),
+  All-push (λ (one : Heard × ℕ). one.0.0.0 ≢ place) rest one apart off,
+  by,
+)
+
+-- and by this
+known_now : (heard : HeardAt) (place : ℕ) (how : Step) (held : Option (Option ℕ)) (now : ℕ) (wait : Wait)
+    (visit : Visit) → IsKnownBy how wait visit
+    → IsKnownLast (heard ++ (((place, how), held), now) ∷ []) place wait visit
+known_now heard place how held now wait visit by =
+    (heard, [], how, held, now, refl, All-nil (λ (one : Heard × ℕ). one.0.0.0 ≢ place), by)
+
+only_ready : (old : Option Visit) (visit : Visit) → Wakes old (Some visit) → (last : Option Wait) × (visit ≡ Ready last)
+only_ready None visit wakes = absurd cc
+only_ready (Some was) visit wakes = (wait_in was, same_Some visit (Ready (wait_in was)) wakes)
+
+known_by : (old : Option Visit) (how : Step) (now : ℕ) (visit : Visit) (wait : Wait) → IsHeard old how now visit
+    → wait_in visit ≡ Some wait → IsKnownBy how wait visit
+known_by old how now (Ready last) wait known is = is
+known_by old (step.Waits what requests) now (Waiting other) wait known is = same_Some other wait is
+known_by old (step.Searches requests) now (Searching other) wait known is = same_Some other wait is
+known_by old step.Again now (Waiting other) wait known is =
+    let clash = (only_ready old (Waiting other) known).1 in absurd cc
+known_by old step.Again now (Searching other) wait known is =
+    let clash = (only_ready old (Searching other) known).1 in absurd cc
+known_by old step.Holds now (Waiting other) wait known is =
+    let clash = (only_ready old (Waiting other) known).1 in absurd cc
+known_by old step.Holds now (Searching other) wait known is =
+    let clash = (only_ready old (Searching other) known).1 in absurd cc
+known_by old step.Leaves now (Waiting other) wait known is = absurd known
+known_by old step.Leaves now (Searching other) wait known is = absurd known
+known_by old step.Over now (Waiting other) wait known is = absurd known
+known_by old step.Over now (Searching other) wait known is = absurd known
+known_by old (step.Waits what requests) now (Searching other) wait known is = absurd known
+known_by old (step.Searches requests) now (Waiting other) wait known is = absurd known
+
 -- so it is of all once something more was heard, or another place was given, and this is known at one place
 pub as_heard : (seated sat : SeatedBy) (heard then : HeardAt) (visits : List (Option Visit)) (place : ℕ)
     (known : Option Visit)
-    → ((other : ℕ) (wait : Wait) → other ≢ place → WaitsSince (AreSeatedBy seated other) heard other wait
-    → WaitsSince (AreSeatedBy sat other) then other wait)
+    → ((other : ℕ) (wait : Wait) (visit : Visit) → other ≢ place
+    → IsKnownSince (AreSeatedBy seated other) heard other wait visit
+    → IsKnownSince (AreSeatedBy sat other) then other wait visit)
     → ((visit : Visit) (wait : Wait) → known ≡ Some visit → wait_in visit ≡ Some wait
-    → ∥ WaitsSince (AreSeatedBy sat place) then place wait ∥₁)
+    → ∥ IsKnownSince (AreSeatedBy sat place) then place wait visit ∥₁)
     → WaitAsHeard seated heard visits → WaitAsHeard sat then (set visits place known)
 as_heard seated sat heard then visits place known others here all other visit wait at is =
     elim (eqb_tells other place) [
       | inr apart ↦
           ∥∥₁_map (all other visit wait (sym (get_or-set_other visits place other known None apart.1) ∙ at) is)
-          (λ since. others other wait apart.1 since)
+          (others other wait visit apart.1)
       | inl same ↦ elim (leb_tells (length visits) place) [
         | inl past ↦
             let none = get_or_past (set visits place known) other None
@@ -147,7 +194,8 @@ as_heard seated sat heard then visits place known others here all other visit wa
             let there : known ≡ Some visit =
             sym (get_or-set_same visits place known None near.1)
             ∙ subst (λ n. get_or (set visits place known) n None ≡ Some visit) same.1 at in
-            subst (λ n. ∥ WaitsSince (AreSeatedBy sat n) then n wait ∥₁) (sym same.1) (here visit wait there is)
+            subst (λ n. ∥ IsKnownSince (AreSeatedBy sat n) then n wait visit ∥₁) (sym same.1)
+            (here visit wait there is)
       ]
     ]
 
@@ -155,7 +203,7 @@ as_heard seated sat heard then visits place known others here all other visit wa
 pub as_heard_none : (seated : SeatedBy) (heard : HeardAt) (visits : List (Option Visit)) (place : ℕ)
     → WaitAsHeard seated heard visits → WaitAsHeard seated heard (set visits place None)
 as_heard_none seated heard visits place all =
-    as_heard seated seated heard heard visits place None (λ other wait apart since. since)
+    as_heard seated seated heard heard visits place None (λ other wait visit apart known. known)
     (λ visit wait none is. let clash : None ≡ Some visit = none in absurd cc) all
 
 -- and where whoever is there has come, and has waited for nothing
@@ -164,16 +212,19 @@ pub as_heard_new : (seated : SeatedBy) (heard : HeardAt) (log : Log Heard ℕ) (
     → WaitAsHeard (seated ++ (place, log) ∷ []) heard (set visits place (Some (Ready None)))
 as_heard_new seated heard log visits place all =
     as_heard seated (seated ++ (place, log) ∷ []) heard heard visits place (Some (Ready None))
-    (λ other wait apart (front, rest, how, held, is, begins, keeps, came). (
-      front,
-      rest,
-      how,
-      held,
-      is,
-      begins,
-      keeps,
-      All-push (λ (one : ℕ × Log Heard ℕ). one.0 ≡ other → length one.1.items ≤ length front) seated (place, log) came
-          (λ same. absurd (apart (sym same))),
+    (λ other wait visit apart ((front, rest, how, held, is, begins, keeps, came), last). (
+      (
+        front,
+        rest,
+        how,
+        held,
+        is,
+        begins,
+        keeps,
+        All-push (λ (one : ℕ × Log Heard ℕ). one.0 ≡ other → length one.1.items ≤ length front) seated (place, log)
+            came (λ same. absurd (apart (sym same))),
+      ),
+      last,
     ))
     (λ visit wait same is.
     let clash : None ≡ Some wait = ap wait_in (same_Some (Ready None) visit same) ∙ is in absurd cc) all
@@ -203,9 +254,13 @@ pub as_heard_woken : (seated : SeatedBy) (heard : HeardAt) (visits : List (Optio
     → get_or visits place None ≡ Some was → WaitAsHeard seated heard visits
     → WaitAsHeard seated heard (set visits place (Some (Ready (wait_in was))))
 as_heard_woken seated heard visits place was at all =
-    as_heard seated seated heard heard visits place (Some (Ready (wait_in was))) (λ other wait apart since. since)
+    as_heard seated seated heard heard visits place (Some (Ready (wait_in was))) (λ other wait visit apart known. known)
     (λ visit wait same is.
-    all place was wait at (ap wait_in (same_Some (Ready (wait_in was)) visit same) ∙ is)) all
+    let ready = same_Some (Ready (wait_in was)) visit same in
+    let waited : wait_in was ≡ Some wait = ap wait_in ready ∙ is in
+    ∥∥₁_map (all place was wait at waited)
+    (λ (since, (front, rest, how, held, now, parts, apart, by)).
+    (since, (front, rest, how, held, now, parts, apart, subst (λ v. IsKnownBy how wait v) ready waited)))) all
 
 module _ (seated : SeatedBy) (heard : HeardAt) (visits : List (Option Visit)) (place : ℕ) (how : Step)
     (held : Option (Option ℕ)) (now : ℕ) where
@@ -215,13 +270,24 @@ module _ (seated : SeatedBy) (heard : HeardAt) (visits : List (Option Visit)) (p
       → WaitAsHeard seated (heard ++ (((place, how), held), now) ∷ []) (set visits place (Some visit))
   as_heard_turn visit came all known =
       as_heard seated seated heard (heard ++ (((place, how), held), now) ∷ []) visits place (Some visit)
-      (λ other wait apart since.
-      since_more (AreSeatedBy seated other) heard other wait (((place, how), held), now)
-      (λ here. absurd (apart (sym here))) since)
+      (λ other wait later apart (since, last). (
+        since_more (AreSeatedBy seated other) heard other wait (((place, how), held), now)
+            (λ here. absurd (apart (sym here))) since,
+        known_more heard other wait later (((place, how), held), now) (λ here. apart (sym here)) last,
+      ))
       (λ later wait same is.
-      waits_here (AreSeatedBy seated place) heard place held now (get_or visits place None)
-      (λ k d less there. came k d less) (λ was waited at waits. all place was waited at waits) how visit wait known
-      (ap wait_in (same_Some visit later same) ∙ is)) all
+      let here = same_Some visit later same in
+      let waits : wait_in visit ≡ Some wait = ap wait_in here ∙ is in
+      ∥∥₁_map
+      (waits_here (AreSeatedBy seated place) heard place held now (get_or visits place None)
+      (λ k d less there. came k d less)
+      (λ was waited at waits. ∥∥₁_map (all place was waited at waits) (λ both. both.0)) how visit wait known waits)
+      (λ since. (
+        since,
+        known_now heard place how held now wait later
+            (subst (λ v. IsKnownBy how wait v) here
+            (known_by (get_or visits place None) how now visit wait known waits)),
+      ))) all
 
   -- and where nobody is there
   pub as_heard_nobody : WaitAsHeard seated heard visits → get_or visits place None ≡ None
@@ -232,9 +298,11 @@ module _ (seated : SeatedBy) (heard : HeardAt) (visits : List (Option Visit)) (p
         sym at ∙ subst (λ n. get_or visits n None ≡ None) (sym same.1) none in absurd cc
     | inr apart ↦
         ∥∥₁_map (all other visit wait at is)
-        (λ since.
-        since_more (AreSeatedBy seated other) heard other wait (((place, how), held), now)
-        (λ here. absurd (apart.1 (sym here))) since)
+        (λ (since, last). (
+          since_more (AreSeatedBy seated other) heard other wait (((place, how), held), now)
+              (λ here. absurd (apart.1 (sym here))) since,
+          known_more heard other wait visit (((place, how), held), now) (λ here. apart.1 (sym here)) last,
+        ))
   ]
 
 -- those that were given places still had been by so much once more was heard
@@ -285,7 +353,7 @@ goes_now places looks read place waits time may out = by out
         → ∥ HasWaited (AreSeatedBy places.seated.items place) places.heard.items looks place ∥₁
     waited visit at why goes =
         let (wait, is) = some_wait visit places.elapsed why in
-        ∥∥₁_map (waits place visit wait at is) (λ since. (visit, wait, is, since, goes))
+        ∥∥₁_map (waits place visit wait at is) (λ known. (visit, wait, known, goes))
 
     by : ∥ IsHeardOut looks ∥₁ ⊎ StandsAt places place (λ visit. HasLeft visit places.elapsed)
         → ∥ HasWaited (AreSeatedBy places.seated.items place) places.heard.items looks place ∥₁
@@ -404,7 +472,8 @@ pub come_next : (nexts : NextsBy Socket) (last : Next Socket) (looks : Log Look 
 come_next nexts last looks old new all gives come place count by front rest peer then is =
     elim (last_or front rest nexts (next.Newcomer place peer, then) (last, looks) is) [
       | inl (none, it, whole) ↦
-          let (heard, same, given, known) = subst (λ said. GivesPlace old said new) (ap (λ two. two.0) (sym it)) gives in
+          let (heard, same, given, known) =
+          subst (λ said. GivesPlace old said new) (ap (λ two. two.0) (sym it)) gives in
           let early = All-pop (λ (one : ℕ × Log Heard ℕ). one.0 ≡ place → length one.1.items ≤ count) new.seated.items
           old.seated.items (Some (place, heard)) given by in
           omega (arith, all, ap turns_by whole, ap length same, early.1 refl)
@@ -427,9 +496,9 @@ pub goes_as_come : (nexts : NextsBy Socket) (last : Next Socket) (old new : Plac
     → GoesRightly (AreSeatedBy new.seated.items) last heard now → GoesRightly (CameBy nexts) last heard now
 goes_as_come nexts (next.Gone place) old new heard now same come goes =
     ∥∥₁_map goes
-    (λ (visit, wait, is, (front, rest, how, held, parts, begins, keeps, came), may).
+    (λ (visit, wait, ((front, rest, how, held, parts, begins, keeps, came), last), may).
     let before = come place (length front) (subst (λ xs. AreSeatedBy xs place (length front)) same came) in
-    (visit, wait, is, (front, rest, how, held, parts, begins, keeps, before), may))
+    (visit, wait, ((front, rest, how, held, parts, begins, keeps, before), last), may))
 goes_as_come nexts (next.Turn place) old new heard now same come goes = goes
 goes_as_come nexts (next.Newcomer place peer) old new heard now same come goes = goes
 goes_as_come nexts next.Answer old new heard now same come goes = goes

@@ -29,8 +29,8 @@ at_once told = map (λ count. (Sockets (Some 0), count)) told
 abbrev pub WereAskedOften : Looks → Type 0
 WereAskedOften looks = (front : Looks) × (told : List ℕ) × (looks ≡ front ++ at_once told) × (most_asked ≤ length told)
 
--- All that had befallen the sockets was heard: after the clock was read last; or right before, where nobody's patience
--- had ended by what it told.
+-- All that had befallen the sockets was heard, or they were asked as often as they are at most: after the clock was
+-- read last; or right before, where by what it told nobody's patience had ended, and nobody might have to make room.
 abbrev pub IsHeardOut : Looks → Type 0
 IsHeardOut looks =
     HaveToldAll looks ⊎ (WereAskedOften looks

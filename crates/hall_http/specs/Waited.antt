@@ -1,5 +1,5 @@
 -- For what a connection waits, and since when, by what was heard of its turns.
-use Rattle.std.specs.Prelude.{◌≡◌, ◌⊎◌, ◌≤◌, ℕ, List, ◌∷◌, ◌++◌, All, Option, Some, None, get_or, length, map, take}
+use Rattle.std.specs.Prelude.{◌≡◌, ◌≢◌, ◌⊎◌, ◌≤◌, ℕ, List, ◌∷◌, ◌++◌, All, Option, Some, None, get_or, length, map, take}
 use Rattle.http_server.specs.declared.log.Log.{Log}
 use Rattle.hall_http.specs.Coming.{Heard, turns_in}
 use Rattle.hall_http.specs.Looks.{AreMore, IsHeardOut, Looks, time_by}
@@ -9,6 +9,7 @@ use Rattle.hall_http.specs.declared.client.Step.TheVariants as step
 use Rattle.hall_http.specs.declared.client.Wish.TheVariants as wish
 use Rattle.hall_http.specs.declared.event_loop.Look.{Look}
 use Rattle.hall_http.specs.declared.places.Visit.{Visit}
+use Rattle.hall_http.specs.declared.places.Visit.TheVariants.{Ready, Waiting, Searching}
 use Rattle.hall_http.specs.declared.places.Wait.{Wait}
 use Rattle.hall_http.specs.declared.server.Next.{Next}
 use Rattle.hall_http.specs.declared.server.Next.TheVariants as next
@@ -38,6 +39,25 @@ WaitsSince HasCome heard place wait =
     × (heard ≡ front ++ (((place, how), held), wait.since) ∷ rest) × IsWaitOf how wait
     × All (λ one. one.0.0.0 ≡ place → KeepsWait one.0.0.1 wait) rest × HasCome (length front)
 
+-- whoever stood so after its turn is known so, where it waits for this, or did before it was ready
+abbrev pub IsKnownBy : Step → Wait → Visit → Type 0
+IsKnownBy how wait (Ready last) = last ≡ Some wait
+IsKnownBy (step.Waits what requests) wait (Waiting other) = other ≡ wait
+IsKnownBy (step.Searches requests) wait (Searching other) = other ≡ wait
+IsKnownBy how wait visit = ⊥
+
+-- by what was heard of its turn last, whoever is at the place is known so
+abbrev pub IsKnownLast : HeardAt → ℕ → Wait → Visit → Type 0
+IsKnownLast heard place wait visit =
+    (front rest : HeardAt) × (how : Step) × (held : Option (Option ℕ)) × (now : ℕ)
+    × (heard ≡ front ++ (((place, how), held), now) ∷ rest) × All (λ one. one.0.0.0 ≢ place) rest
+    × IsKnownBy how wait visit
+
+-- it waits so, and is known so
+abbrev pub IsKnownSince : (ℕ → Type 0) → HeardAt → ℕ → Wait → Visit → Type 0
+IsKnownSince HasCome heard place wait visit =
+    WaitsSince HasCome heard place wait × IsKnownLast heard place wait visit
+
 -- places that were given, in order, each with all that had been heard by then
 abbrev pub SeatedBy : Type 0
 SeatedBy = List (ℕ × Log Heard ℕ)
@@ -46,11 +66,11 @@ SeatedBy = List (ℕ × Log Heard ℕ)
 abbrev pub AreSeatedBy : SeatedBy → ℕ → ℕ → Type 0
 AreSeatedBy seated place count = All (λ one. one.0 ≡ place → length one.1.items ≤ count) seated
 
--- whoever waits at a place, or did before it was ready, began to by what was heard
+-- whoever waits at a place, or did before it was ready, began to by what was heard, and is known by what was last
 abbrev pub WaitAsHeard : SeatedBy → HeardAt → List (Option Visit) → Type 0
 WaitAsHeard seated heard visits =
     (place : ℕ) (visit : Visit) (wait : Wait) → get_or visits place None ≡ Some visit → wait_in visit ≡ Some wait
-    → ∥ WaitsSince (AreSeatedBy seated place) heard place wait ∥₁
+    → ∥ IsKnownSince (AreSeatedBy seated place) heard place wait visit ∥₁
 
 -- By all that was asked until now whoever is known so may go: it has left; or all that befell the sockets was heard,
 -- and it has expired, or may make room.
@@ -63,8 +83,7 @@ MayGoNow visit looks =
 -- go now
 abbrev pub HasWaited : (ℕ → Type 0) → HeardAt → Looks → ℕ → Type 0
 HasWaited HasCome heard looks place =
-    (visit : Visit) × (wait : Wait) × (wait_in visit ≡ Some wait) × WaitsSince HasCome heard place wait
-    × MayGoNow visit looks
+    (visit : Visit) × (wait : Wait) × IsKnownSince HasCome heard place wait visit × MayGoNow visit looks
 
 -- whoever goes has; of anything else that is next nothing is said
 abbrev pub GoesRightly : {P : Type 0} → (ℕ → ℕ → Type 0) → Next P → HeardAt → Looks → Type 0

@@ -1,6 +1,6 @@
 //! The system's sockets: who comes, whose turn it is, and who has waited too long.
 ghost use Rattle.std.specs.Prelude.{◌≡◌, ◌<◌, ◌++◌, ◌⊎◌, ℕ, [], ◌∷◌, IfNone, IfOk, IfSome, Option, None, Some, false, get_or};
-ghost use Rattle.std.specs.Prelude.{All, length, nat_lt, true};
+ghost use Rattle.std.specs.Prelude.{All, length, true};
 ghost use Rattle.hall_http.specs.Looks.{AreMore, IsHeardOut, TellsAll, counted, passed_since, read_after};
 ghost use Rattle.hall_http.specs.Looks.{time_by};
 ghost use Rattle.hall_http.specs.declared.client.Step.TheVariants as Step;
@@ -13,7 +13,7 @@ ghost use Rattle.hall_http.specs.declared.places.Visit.TheVariants.{Waiting};
 ghost use Rattle.hall_http.specs.declared.places.Wait.{Wait};
 ghost use Rattle.hall_http.specs.Places.{HasExpired, HasLeft};
 ghost use Rattle.hall_http.specs.Seats.{AreFresh, AreLetGo, AreStill, HasHeard, HaveAllGone, IsOpen, MayLetGo};
-ghost use Rattle.hall_http.specs.Seats.{IsUnheard, StandsAt, heard_in};
+ghost use Rattle.hall_http.specs.Seats.{IsUnheard, StandsAt, are_full, heard_in};
 ghost use Rattle.hall_http.specs.Fair.{Owes};
 ghost use Rattle.hall_http.specs.Limits.{most_connections};
 ghost use Rattle.hall_http.specs.Waited.{AreSaidRightly, AreSeatedBy, ComeAsSeated, GoesRightly, MayGoRightly};
@@ -61,7 +61,8 @@ const MOST_ANSWERS: usize = 16;
 /// What is asked, and what the clock told.
 #[derive(Clone, Copy)]
 enum Look {
-    /// The clock: its millisecond, where it could be read; and whether nobody's patience had ended by then.
+    /// The clock: its millisecond, where it could be read; and whether nobody's patience had ended by then, and nobody
+    /// might have to make room.
     Clock { read: Option<u64>, is_quiet: bool },
     /// The sockets, for so many milliseconds at most.
     Sockets { patience: Option<u64> },
@@ -603,7 +604,8 @@ impl<'r, N: time::Clock> Schedule<'r, N> {
     }
 
     /// Reads the clock. Of the milliseconds since it was last read, no more than 1,000 count; and so many do where it
-    /// can't be read. What comes of it is whether nobody's patience has ended by then.
+    /// can't be read. What comes of it is whether nobody's patience has ended by then, and nobody may have to make
+    /// room.
     fn count_time(&mut self) -> bool
         requires { self.old.has_heard ≡ false }
         ensures still { AreStill self.old.places self.new.places }
@@ -613,12 +615,14 @@ impl<'r, N: time::Clock> Schedule<'r, N> {
             × (self.new.looks.items ≡ self.old.looks.items ++ (Look.Clock read result, 0) ∷ [])
             × (self.new.places.elapsed ≡ counted self.old.places.elapsed (passed_since self.old.read read))
             × (self.new.read ≡ read_after self.old.read read) }
-        ensures quiet { result ≡ nat_lt self.new.places.elapsed self.new.quiet_until }
+        ensures quiet { result ≡ true → self.new.places.elapsed < self.new.quiet_until }
+        ensures room { result ≡ true → are_full self.new.places ≡ false }
     {
         let read = self.read_clock();
         self.places.count(passed_since(self.read, read));
         self.read = read_after(self.read, read);
-        let is_quiet = self.places.elapsed() < self.quiet_until;
+        let is_quiet =
+            self.places.elapsed() < self.quiet_until && !self.places.are_full();
         self.looks = self.looks.and(&Look::Clock { read, is_quiet }, &0);
         is_quiet
     }
