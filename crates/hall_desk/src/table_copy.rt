@@ -11,8 +11,9 @@ use hall_policy::{AnswerRow, RoundId};
 use hall_store::Change;
 use std::alloc::{AllocError, Global};
 
-/// The most copies that are kept.
-const MOST_COPIES: usize = 8;
+/// The most copies that are kept: as many as there are connections, so that whoever waits for a table is told it at its
+/// next turn, and never finds its copy let go for those of others who wait.
+const MOST_COPIES: usize = 500;
 
 /// The most bytes of their texts, but for a copy that is kept alone.
 const MOST_BYTES: usize = 33_554_432;
