@@ -3,7 +3,8 @@
 
 The file has so many people that a table takes some turns. Many ask for the tables of two published rounds at once,
 and again, while others hand in answers to a round under way and read it, and one asks for the table of a round that
-isn't published. A protest that is made and ruled, and a round that is published then, change no other table.
+isn't published. A protest that is made and ruled, and a round that is published then, change no other table. And
+where more rounds are asked for at once than turns are between a table's first slice and its last, each is told.
 """
 import asyncio
 import subprocess
@@ -19,6 +20,8 @@ from harness.wire import compact, request
 # Five slices of people, of whom each third stays away from the second round.
 PEOPLE, PUZZLES, ASK, ANSWERS, MOST_SECONDS = 900, 3, 8, 30, 600
 ROUNDS = ("first", "second")
+# Two slices of people, and so many rounds that are asked for at once.
+FEW, CROWD = 300, 40
 
 
 def rows():
@@ -48,6 +51,18 @@ def rows():
 @pytest.fixture
 def db(room):
     return database.written(f"{room}/hall.db", database.TABLES, "".join(rows()))
+
+
+def crowd():
+    """Many published rounds."""
+    now = int(time.time())
+    yield "".join(f"INSERT INTO people VALUES ('e{k}', 'key-of-e{k}', 8);" for k in range(FEW))
+    yield "INSERT INTO people VALUES ('bob', 'bob-key-1', 2);"
+    for k in range(CROWD):
+        yield f"INSERT INTO rounds VALUES ('r{k}', 'R', {now - 90_000}, 60, 600, 0, 5, 2, 1, 1);"
+        yield f"INSERT INTO puzzles VALUES ('bob', 'p{k}', '{database.SUDOKU}', 1, '{database.RIGHT}');"
+        yield f"INSERT INTO round_puzzles VALUES ('r{k}', 1, 'bob', 'p{k}', 10);"
+        yield f"INSERT INTO answers VALUES ('e{k}', 'r{k}', 1, 't', 1, {now - 89_000}, '{database.RIGHT}', 0);"
 
 
 def made_at_once(program, path, name):
@@ -102,3 +117,18 @@ def test_tables_in_slices(program, db):
         connected(server, port).close()
         third = asyncio.run(asyncio.wait_for(asked(port, wanted), MOST_SECONDS))
     check("the table of a round that was published meanwhile", third, made_at_once(program, db, "third"))
+
+
+async def asked_in_turn(port):
+    async with many(port, CROWD) as clients:
+        found = await asyncio.gather(
+            *(answered(it, "key-of-e0", "GET", f"/rounds/r{k}/table") for k, it in enumerate(clients)))
+    return [body(it) for it in found if status(it) == 200]
+
+
+def test_tables_of_many_rounds_at_once(program, room):
+    path = database.written(f"{room}/hall.db", database.TABLES, "".join(crowd()))
+    with serving(path, 1_000, program) as (server, port):
+        connected(server, port).close()
+        told = asyncio.run(asyncio.wait_for(asked_in_turn(port), MOST_SECONDS))
+    check("the tables of many rounds", told, [made_at_once(program, path, f"r{k}") for k in range(CROWD)])
