@@ -1,0 +1,10 @@
+pub mod Alike
+pub mod Among
+pub mod Bytes
+pub mod Found
+pub mod HeardSo
+pub mod Kept
+pub mod Left
+pub mod Lived
+pub mod Ordered
+pub mod Standing
