@@ -430,9 +430,11 @@ module _ {P : Type 0} where
           (rw none (All-nil (λ (later : Next P × Log Look ℕ). AreMore one.1.items later.1.items)), here)
       | inr (less, more, split) ↦
           let (others, asked_by) = said.more front less one split in
-          let here = asked_then one.1.items asked now asked_by grown in
-          (rw more (All-push (λ (later : Next P × Log Look ℕ). AreMore one.1.items later.1.items) less (last, looks)
-          others (rw same here)), here)
+          let here = asked_then one.1.items asked now asked_by grown in (
+            rw more (All-push (λ (later : Next P × Log Look ℕ). AreMore one.1.items later.1.items) less (last, looks)
+                others (rw same here)),
+            here,
+          )
     ];
     last = λ front rest place then is few.
         elim (last_or front rest nexts (next.Turn place, then) (last, looks) is) [

@@ -621,8 +621,7 @@ impl<'r, N: time::Clock> Schedule<'r, N> {
         let read = self.read_clock();
         self.places.count(passed_since(self.read, read));
         self.read = read_after(self.read, read);
-        let is_quiet =
-            self.places.elapsed() < self.quiet_until && !self.places.are_full();
+        let is_quiet = self.places.elapsed() < self.quiet_until && !self.places.are_full();
         self.looks = self.looks.and(&Look::Clock { read, is_quiet }, &0);
         is_quiet
     }

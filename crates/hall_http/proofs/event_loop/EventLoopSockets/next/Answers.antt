@@ -12,9 +12,11 @@ pub invariant_of-self-clause-owes : goal.invariant_of-self-clause-owes
 invariant_of-self-clause-owes g c =
     let old = c.args.self.now in
     let now = c.next-next.new.self in
-    rw (logged_more old.nexts c.note-self.result c.next-next.result c.next-next.new.self.looks
-    (rw c.replace-before.ensures.value at c.note-self.ensures),
-    c.next-next.ensures.handed_out.heard)
+    rw (
+      logged_more old.nexts c.note-self.result c.next-next.result c.next-next.new.self.looks
+          (rw c.replace-before.ensures.value at c.note-self.ensures),
+      c.next-next.ensures.handed_out.heard,
+    )
     (∥∥₁_map old.owes
     (λ owes.
     owes_next (logged old.nexts) (heard_in old.schedule.places) old.schedule.ready now.ready c.next-next.result
