@@ -81,6 +81,8 @@ PLACES = {
     # What a request needs before it is answered.
     "hall_desk/src/preparing.rt": [
         "Ok(None) => Prepared::Ready, Err(_) => Prepared::Refused,",
+        "match prepare_table(alloc, store, request, round, copies) {"
+        " Ok(prepared) => prepared, Err(_fault) => Prepared::Refused,",
     ],
     "hall_desk/src/under_way.rt": [
         "match Searches::new(alloc) { Ok(under_way) => under_way, Err(_) => return Prepared::Refused,",

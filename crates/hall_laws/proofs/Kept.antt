@@ -19,7 +19,7 @@ use Rattle.hall_http.proofs.Groups.{groups_stop}
 use Rattle.hall_laws.specs.Accepted.{IsAnswerAccepted, IsProtestAccepted}
 use Rattle.hall_laws.specs.Acknowledged.{AnswersAreKept, BytesAreKept, BytesAreKeptSoFar, EachByteIsKept}
 use Rattle.hall_laws.specs.Acknowledged.{AreRepeatedAlikeMeanwhile, ProtestsAreKept, RecordsAreKept}
-use Rattle.hall_laws.specs.Happened.{IsKeptIn}
+use Rattle.hall_laws.specs.Happened.{HaveHappened, IsKeptIn}
 use Rattle.hall_laws.specs.Sent.{IsByteOfRefusal, IsByteOfReply}
 use Rattle.hall_laws.specs.Servings.{Lasts, Serving, WasSent, at_once, by_list, by_serving}
 use Rattle.hall_laws.proofs.Among.{Has, contains_between, own}
@@ -130,48 +130,65 @@ module _ {H P : Type 0} (content : H → Content) (traffic : P → Traffic) wher
       (group_lives first left serving.served.groups (left_by first left serving may)) life))
 
   -- where what was sent was answered, and the life from there on
-  abbrev Answered : Exchange → World → Type 0
-  Answered x later =
-      (between kept : World) × AnswersAt between x.moment x.request x.reply kept × Life kept later
+  record Answered (world : World) (xs : List Exchange) (x : Exchange) (later : World) : Type 0 where
+    front : List Exchange
+    rest : List Exchange
+    all : xs ≡ front ++ x ∷ rest
+    between : World
+    kept : World
+    led : HaveHappened world front between
+    answered : AnswersAt between x.moment x.request x.reply kept
+    life : Life kept later
 
   sent_answered : (world left later : World) (serving : Serving content traffic world left) (x : Exchange)
-      → WasSent serving x → ¬ (IsUnavailable x.reply) → Lasts content traffic left later → ∥ Answered x later ∥₁
+      → WasSent serving x → ¬ (IsUnavailable x.reply) → Lasts content traffic left later
+      → ∥ Answered world (exchanges_of serving.served.turns) x later ∥₁
   sent_answered world left later serving x sent told more =
       ∥∥₁_elim serving.leaves ∥∥₁_prop (λ may. ∥∥₁_map (lasts left later more) (λ life.
       let it = request_kept world left serving.served.turns serving.served.groups serving.served.grouped
       (left_by world left serving may) (number_past traffic sent.one) x
-      (sent.is_of.before, sent.is_of.after, sent.is_of.all) told in (
-        it.between,
-        it.kept,
-        it.answered,
-        lives_on it.kept left later (life_of it.kept (exchanges_of it.rest) left it.since) life,
-      )))
+      (sent.is_of.before, sent.is_of.after, sent.is_of.all) told in
+      record {
+        front = exchanges_of it.front;
+        rest = exchanges_of it.rest;
+        all = ap exchanges_of it.all
+            ∙ map-append (λ (turn : Turn). turn.1) it.front ((number_past traffic sent.one, x) ∷ it.rest);
+        between = it.between;
+        kept = it.kept;
+        led = it.led;
+        answered = it.answered;
+        life = lives_on it.kept left later (life_of it.kept (exchanges_of it.rest) left it.since) life;
+      }))
 
   pub records_are_kept : RecordsAreKept content traffic
   records_are_kept world left later serving x sent told more =
-      ∥∥₁_map (sent_answered world left later serving x sent told more) (λ (between, kept, answered, life). record {
-        between = between;
-        kept = kept;
-        answered = answered;
-        records = records_stay kept later life.0 life.1;
+      ∥∥₁_map (sent_answered world left later serving x sent told more) (λ it. record {
+        front = it.front;
+        rest = it.rest;
+        all = it.all;
+        between = it.between;
+        kept = it.kept;
+        led = it.led;
+        answered = it.answered;
+        records = records_stay it.kept later it.life.0 it.life.1;
       })
 
   pub answers_are_kept : AnswersAreKept content traffic
   answers_are_kept world left later serving x sent is more =
       ∥∥₁_map (sent_answered world left later serving x sent (not_served x.reply is.granted) more)
-      (λ (between, kept, answered, life).
-      let step = answer_step x is between kept x.moment answered in (
-        answer_stands x is between kept step later life,
-        serving_alike x kept (answer_told_alike x is between kept step) content traffic later life,
+      (λ it.
+      let step = answer_step x is it.between it.kept x.moment it.answered in (
+        answer_stands x is it.between it.kept step later it.life,
+        serving_alike x it.kept (answer_told_alike x is it.between it.kept step) content traffic later it.life,
       ))
 
   pub protests_are_kept : ProtestsAreKept content traffic
   protests_are_kept world left later serving x sent is more =
       ∥∥₁_map (sent_answered world left later serving x sent (not_served x.reply is.granted) more)
-      (λ (between, kept, answered, life).
-      let step = protest_step x is between kept x.moment answered in (
-        protest_stands x is between kept step later life,
-        serving_alike x kept (protest_told_alike x is between kept step) content traffic later life,
+      (λ it.
+      let step = protest_step x is it.between it.kept x.moment it.answered in (
+        protest_stands x is it.between it.kept step later it.life,
+        serving_alike x it.kept (protest_told_alike x is it.between it.kept step) content traffic later it.life,
       ))
 
   -- ---- later in the same serving

@@ -8,7 +8,6 @@ use Rattle.hall_policy.specs.declared.record.ProtestRow.{ProtestRow}
 use Rattle.hall_policy.specs.declared.record.Round.{Round}
 use Rattle.hall_policy.specs.declared.request.Action.TheVariants.{Submit, Protest}
 use Rattle.hall_store.specs.Caller.{caller_of}
-use Rattle.hall_desk.specs.History.{Event, History}
 use Rattle.hall_desk.specs.Promises.{IsSameProtest}
 use Rattle.hall_desk.specs.Shown.{told_verdict}
 use Rattle.hall_desk.specs.declared.reply.Reply.TheVariants as reply
@@ -17,6 +16,7 @@ use Rattle.hall_http.specs.Connection.{Exchange}
 use Rattle.hall_http.specs.Reply.{BytesOf}
 use Rattle.hall_http.specs.Request.{RequestOf}
 use Rattle.hall_http.specs.Serving.{AnswersAt}
+use Rattle.hall_laws.specs.Happened.{HaveHappened}
 
 -- the reply has the status 200
 pub record IsGranted (text : List ℕ) : Type 0 where
@@ -63,11 +63,10 @@ pub record ProtestStands (x : Exchange) (is : IsProtestAccepted x) (world : Worl
   pub stands : protest_of world person.name is.id is.token ≡ Some row
   pub same : IsSameProtest row is.number is.text
 
--- The same bytes were answered by the same reply, or by 503, in a world to which a life of the hall led, and which
--- stayed as it was.
-pub record IsRepeatedAlike (x : Exchange) (world : World) (y : Exchange) : Type 0 where
-  pub events : List Event
+-- After these requests the same bytes were answered by the same reply, or by 503, in the world to which these had led,
+-- which stayed as it was.
+pub record IsRepeatedAlike (x : Exchange) (world : World) (front : List Exchange) (y : Exchange) : Type 0 where
   pub between : World
-  pub led : History world events between
+  pub led : HaveHappened world front between
   pub answered : AnswersAt between y.moment y.request y.reply between
   pub told : (y.reply ≡ x.reply) ⊎ IsUnavailable y.reply

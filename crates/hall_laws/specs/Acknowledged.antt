@@ -47,13 +47,14 @@ BytesAreKeptSoFar {H} {P} content traffic =
 abbrev pub RecordsAreKept : {H P : Type 0} → (H → Content) → (P → Traffic) → Type 0
 RecordsAreKept content traffic =
     (world left later : World) (serving : Serving content traffic world left) (x : Exchange) → WasSent serving x
-    → ¬ (IsUnavailable x.reply) → Lasts content traffic left later → ∥ HasLeftRecords x later ∥₁
+    → ¬ (IsUnavailable x.reply) → Lasts content traffic left later
+    → ∥ HasLeftRecords world (exchanges_of serving.served.turns) x later ∥₁
 
 -- whoever sends these bytes again in a serving that begins with the world is told the same, or 503, and adds nothing
 abbrev pub AreRepeatedAlike : {H P : Type 0} → (H → Content) → (P → Traffic) → Exchange → World → Type 0
 AreRepeatedAlike content traffic x world =
-    (left : World) (serving : Serving content traffic world left) (y : Exchange)
-    → Contains (exchanges_of serving.served.turns) y → y.request ≡ x.request → IsRepeatedAlike x world y
+    (left : World) (serving : Serving content traffic world left) (front rest : List Exchange) (y : Exchange)
+    → exchanges_of serving.served.turns ≡ front ++ y ∷ rest → y.request ≡ x.request → IsRepeatedAlike x world front y
 
 -- An answer of which a byte of the reply 200 was sent stands in each such world; and its bytes, sent again, are told
 -- the same there, or 503, and add nothing.
@@ -74,6 +75,6 @@ ProtestsAreKept content traffic =
 -- told the same, or 503, and added nothing.
 abbrev pub AreRepeatedAlikeMeanwhile : {H P : Type 0} → (H → Content) → (P → Traffic) → (Exchange → Type 0) → Type 0
 AreRepeatedAlikeMeanwhile content traffic IsAccepted =
-    (world left : World) (serving : Serving content traffic world left) (before after : List Exchange) (x y : Exchange)
-    → exchanges_of serving.served.turns ≡ before ++ x ∷ after → IsAccepted x → Contains after y
-    → y.request ≡ x.request → IsRepeatedAlike x world y
+    (world left : World) (serving : Serving content traffic world left) (before between after : List Exchange)
+    (x y : Exchange) → exchanges_of serving.served.turns ≡ (before ++ x ∷ between) ++ y ∷ after → IsAccepted x
+    → y.request ≡ x.request → IsRepeatedAlike x world (before ++ x ∷ between) y

@@ -27,17 +27,22 @@ AreEventsOf (x ∷ xs) events =
     ⊎ ((t : ℕ) × (request : Request) × (given : Reply) × (later : List Event)
     × (events ≡ requested t request given ∷ later) × IsEventOf x t request given × AreEventsOf xs later)
 
--- The request was answered so, and the records that stay, as they were in the world that it left, stand in this one:
--- its people, answers, protests and rulings, released rounds and their puzzles.
-pub record HasLeftRecords (x : Exchange) (later : World) : Type 0 where
-  pub between : World
-  pub kept : World
-  pub answered : AnswersAt between x.moment x.request x.reply kept
-  pub records : KeptRecords kept later
-
 -- these requests lead from one world to another, by a life of the hall that has them and nothing else
 abbrev pub HaveHappened : World → List Exchange → World → Type 0
 HaveHappened world xs last = (events : List Event) × AreEventsOf xs events × History world events last
+
+-- The request is one of all, which is answered as it was in the world to which those before it led; and the records
+-- that stay, as they were in the world that it left, stand in this one: its people, answers, protests and rulings,
+-- released rounds and their puzzles.
+pub record HasLeftRecords (world : World) (xs : List Exchange) (x : Exchange) (later : World) : Type 0 where
+  pub front : List Exchange
+  pub rest : List Exchange
+  pub all : xs ≡ front ++ x ∷ rest
+  pub between : World
+  pub kept : World
+  pub led : HaveHappened world front between
+  pub answered : AnswersAt between x.moment x.request x.reply kept
+  pub records : KeptRecords kept later
 
 -- The request is one of all, which is answered as it was in the world to which those before it led; and those after it
 -- lead from what it left to the last world. So what it changed is there, but for what these changed again.
