@@ -102,7 +102,7 @@ async def asked(port, wanted):
         rule = '{"points":2,"upheld":true}'
         path = "/rounds/third/rulings/e1/w"
         unpublished = await answered(staff, "rex-key-1", "GET", "/rounds/third/table")
-        check("the table of a round that isn't published", status(unpublished), 409)
+        check("the table of a round that isn't published", status(unpublished), 403)
         check("the table of no round", status(await answered(staff, "rex-key-1", "GET", "/rounds/none/table")), 404)
         ruled, _ = await asyncio.gather(answered(staff, "rex-key-1", "PUT", path, rule), both())
         check("a ruling in the midst", status(ruled), 200)
