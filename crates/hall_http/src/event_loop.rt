@@ -1,7 +1,7 @@
 //! The system's sockets: who comes, whose turn it is, and who has waited too long.
 ghost use Rattle.std.specs.Prelude.{◌≡◌, ◌<◌, ◌++◌, ◌⊎◌, ℕ, [], ◌∷◌, IfNone, IfOk, IfSome, Option, None, Some, false, get_or};
 ghost use Rattle.std.specs.Prelude.{All, length, true};
-ghost use Rattle.hall_http.specs.Looks.{AreMore, IsHeardOut, TellsAll, counted, passed_since, read_after};
+ghost use Rattle.hall_http.specs.Looks.{AreMore, IsHeardOut, counted, passed_since, read_after};
 ghost use Rattle.hall_http.specs.Looks.{time_by};
 ghost use Rattle.hall_http.specs.declared.client.Step.TheVariants as Step;
 ghost use Rattle.hall_http.specs.declared.event_loop.Look.TheVariants as Look;
@@ -21,6 +21,7 @@ ghost use Rattle.hall_http.specs.Waited.{AreSaidRightly, AreSeatedBy, ComeAsSeat
 use crate::client::{Step, Wish};
 use crate::clients::MOST_CLIENTS;
 use crate::device::write_all;
+use crate::looks::{MOST_EVENTS, passed_since, place_of, read_after, tells_all};
 use crate::places::{LONGEST_ROUND, Places, Visit};
 use crate::queue::{Motion, Queue};
 use crate::server::{Next, Sockets};
@@ -28,7 +29,6 @@ use crate::socket::Socket;
 use hall_grid::Counted;
 use hall_policy::Moment;
 use http_server::Log;
-use mio::event::Event;
 use mio::net::{TcpListener, TcpStream};
 use mio::{Events, Interest, Poll, Token};
 use std::io::{ErrorKind, Write};
@@ -38,9 +38,6 @@ use std::{io, mem, time};
 
 /// What the listener's events are called. No connection has this place.
 const LISTENER: usize = usize::MAX;
-
-/// The most events that are told at a time.
-const MOST_EVENTS: usize = 256;
 
 /// For how many milliseconds at most none is let in once there was no place, or the system refused one.
 const RETRY: u64 = 1000;
@@ -694,43 +691,6 @@ impl<'r, N: time::Clock> Schedule<'r, N> {
         }
         Ok(count)
     }
-}
-
-/// How many milliseconds passed since this one; as many as count at most where the clock can't be read.
-fn passed_since(last: u64, read: Option<u64>) -> u64
-    ensures { result ≡ passed_since last read }
-{
-    match read {
-        Some(read) => read.saturating_sub(last),
-        None => LONGEST_ROUND,
-    }
-}
-
-/// The millisecond at which the clock was read last.
-fn read_after(last: u64, read: Option<u64>) -> u64
-    ensures { result ≡ read_after last read }
-{
-    match read {
-        Some(read) => read,
-        None => last,
-    }
-}
-
-/// Whether nothing was left over, where so many things were told in a wait of so long at most: a signal ends one too,
-/// and then nothing is told.
-fn tells_all(patience: Option<u64>, told: usize) -> bool
-    ensures { result ≡ true → TellsAll patience told }
-{
-    match patience {
-        Some(0) => told < MOST_EVENTS,
-        Some(_) | None => told > 0 && told < MOST_EVENTS,
-    }
-}
-
-/// Whom the event befell.
-fn place_of(event: &Event) -> usize {
-    let Token(place) = event.token();
-    place
 }
 
 impl<'r, N: time::Clock> Schedule<'r, N> {

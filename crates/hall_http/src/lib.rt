@@ -19,6 +19,7 @@ mod host;
 mod inbox;
 mod joining;
 mod laws;
+mod looks;
 mod notice;
 mod outgoing;
 mod peer;
