@@ -81,8 +81,6 @@ PLACES = {
     # What a request needs before it is answered.
     "hall_desk/src/preparing.rt": [
         "Ok(None) => Prepared::Ready, Err(_) => Prepared::Refused,",
-        "match prepare_table(alloc, store, request, round, copies) {"
-        " Ok(prepared) => prepared, Err(_fault) => Prepared::Refused,",
     ],
     "hall_desk/src/under_way.rt": [
         "match Searches::new(alloc) { Ok(under_way) => under_way, Err(_) => return Prepared::Refused,",
@@ -104,14 +102,21 @@ PLACES = {
     "hall_http/src/reply.rt": [
         "const UNAVAILABLE: &str =",
         "Reply::Unavailable => String::from_str(alloc, UNAVAILABLE),",
+        # More bytes than can be counted.
+        "match head.len().checked_add(size) { Some(_) => Ok(head), None => Err(AllocError), }",
+    ],
+    # A row couldn't be told whole for want of memory, so no text is made of the lines any more.
+    "hall_desk/src/lines.rt": [
+        "let Some(mut told) = self.told.take() else { return Err(AllocError); }",
+        "let Lines { told, rows, .. } = self; let Some(told) = told else { return Err(AllocError); }",
     ],
     "hall_http/src/answer.rt": [
-        "Answer::Unavailable | Answer::Shut => UNAVAILABLE.as_bytes(),",
+        "{ UNAVAILABLE.as_bytes() }",
+        "Answer::Unavailable | Answer::Shut => UNAVAILABLE.len(),",
         "Err(RequestFault::Memory) => Answer::Unavailable,",
         "if is_nobodys(request) { return Answer::Unavailable; }"
         " if serves_on(alloc, desk) { return Answer::Unavailable; } Answer::Shut",
-        "if is_unavailable(text.as_str()) { return Answer::Shut; }",
-        "text.as_bytes() == Answer::Unavailable.as_bytes()",
+        "if is_unavailable(&answer) { return Answer::Shut; }",
     ],
     "hall_http/src/responder.rt": [
         "-> Answer { match moment {"
@@ -155,7 +160,7 @@ ANSWERS = {
         "unavailable(alloc, desk, request)",
         [
             "if let Prepared::Refused = prepared { return ",
-            "match step_bytes(alloc, desk, moment, request) { Ok(text) => answer_of(text, request), Err(_) => ",
+            "match step_answer(alloc, desk, moment, request) { Ok(answer) => answer_of(answer, request), Err(_) => ",
         ],
     ),
 }
@@ -206,8 +211,8 @@ INVENTED = {
         "hall_policy/src/list.rt", "match seen.insert(text.clone()?) {", "match is_new(seen, text) {",
     ),
     "failed_to_one_caller": (
-        "hall_http/src/answer.rt", "let text = reply_bytes(alloc, plan.reply())?;",
-        "if is_of_one(request) { return Err(StoreFault::Failed); } let text = reply_bytes(alloc, plan.reply())?;",
+        "hall_http/src/answer.rt", "let front = front_bytes(alloc, plan.reply())?;",
+        "if is_of_one(request) { return Err(StoreFault::Failed); } let front = front_bytes(alloc, plan.reply())?;",
     ),
     "step_failed_to_one_caller": (
         "hall_desk/src/step.rt", "match made { Ok(plan) =>",
@@ -217,12 +222,12 @@ INVENTED = {
         "hall_http/src/responder.rt", "-> Answer { match moment {", "-> Answer { let moment = None; match moment {",
     ),
     "reply_503_written_out": (
-        "hall_http/src/answer.rt", "match step_bytes(",
-        'if hits(request) { return Answer::Text(of("503")); } match step_bytes(',
+        "hall_http/src/answer.rt", "match step_answer(",
+        'if hits(request) { return Answer::Text(of("503")); } match step_answer(',
     ),
     "reply_503_by_its_status": (
-        "hall_http/src/answer.rt", "match step_bytes(",
-        "if hits(request) { return text_of(Status::Unavailable); } match step_bytes(",
+        "hall_http/src/answer.rt", "match step_answer(",
+        "if hits(request) { return text_of(Status::Unavailable); } match step_answer(",
     ),
     "answered_503_unasked": (
         "hall_http/src/answer.rt", "match read_raw_request(bytes) {",

@@ -9,6 +9,8 @@ from sources import comment_above, read, sentence, variants
 
 REPLY, ROW, BODY = (f"crates/hall_http/src/{name}.rt" for name in ("reply", "row", "body"))
 REQUEST, TOLD = "crates/hall_http/src/request.rt", "crates/hall_desk/src/reply.rt"
+# The rows of a listing of answers, which are told one at a time.
+LINES = "crates/hall_desk/src/lines.rt"
 TEXTS, NUMBERS, ACTIONS = (f"crates/hall_policy/src/{name}.rt" for name in ("text", "number", "request"))
 BYTES = {"Word": "[a-z0-9-]", "Letters": "[A-Za-z0-9-]", "Printable": "[ -~]"}
 PARAMETERS = {"author": "Name", "entrant": "Name", "label": "Label", "round": "RoundId", "token": "Token",
@@ -117,8 +119,9 @@ def object_of(objects, types):
 
 def rows():
     """The schemas of the rows of listings."""
-    for name in re.findall(r"^impl Row for (\w+)", read(ROW), re.M):
-        if objects := list(members(block(ROW, f"impl Row for {name} "))):
+    told = {name: block(ROW, f"impl Row for {name} ") for name in re.findall(r"^impl Row for (\w+)", read(ROW), re.M)}
+    for name, text in {**told, "AnswerLine": block(LINES, r"fn tell_answer\(")}.items():
+        if objects := list(members(text)):
             yield name, object_of(objects, fields(block(TOLD, f"pub struct {name} ")))
 
 
@@ -143,6 +146,8 @@ def replies():
         if kind[1] and f"pub struct {kind[1]} " in read(TOLD):
             types = fields(block(TOLD, f"pub struct {kind[1]} "))
         yield action, object_of(list(members(block(REPLY, rf"fn {function}\("))), types)
+    answers = re.search(r'told\.name\("(\w+)"\)', block(LINES, r"fn open_answers\("))[1]
+    yield "Answers", exact({answers: typed("Rows<AnswerLine>")})
 
 
 def body_types(name):

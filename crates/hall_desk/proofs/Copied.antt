@@ -1,7 +1,7 @@
 -- The copies that a desk keeps stay what its store's world says.
 use Rattle.std.proofs.Common.{◌≡◌, ◌∙◌, ◌⊎◌, ◌+◌, ◌++◌, ℕ, Bool, List, [], ◌∷◌, Option, Some, None, Contains}
 use Rattle.std.proofs.Common.{inl, inr, refl, sym, ap, subst}
-use Rattle.std.specs.Prelude.{IsTrue, OnErr, OnOk, Result, Ok, Err}
+use Rattle.std.specs.Prelude.{IfSome, IsTrue, OnErr, OnOk, Result, Ok, Err, true, false, if◌then◌else◌}
 use Rattle.std.specs.FinMap.{get}
 use Rattle.std.specs.List.{filter}
 use Rattle.std.proofs.lemmas.List.Elements.{Contains-push_cases}
@@ -17,18 +17,22 @@ use Rattle.hall_store.specs.declared.change.Change.TheVariants as change
 use Rattle.hall_store.proofs.Knowing.{carried}
 use Rattle.hall_store.proofs.Tests.{filter-Contains}
 use Rattle.hall_desk.specs.Copies.{AreCopied}
+use Rattle.hall_desk.specs.Listings.{AreLinesUpTo, AreListedIn, AreListings, leaves_listing}
 use Rattle.hall_desk.specs.RoundCopy.{IsShownAt, IsRoundCopied, LeavesRounds}
 use Rattle.hall_desk.specs.Shown.{ShowsPuzzles}
+use Rattle.hall_desk.specs.Slices.{AsksIfAny, kept_where}
 use Rattle.hall_desk.specs.TableCopy.{AreTablesCopied, IsKept, leaves_table}
-use Rattle.hall_desk.specs.Tabling.{IsTallied, IsTalliedIfAny, IsTalliedIn}
+use Rattle.hall_desk.specs.Tabling.{IsTalliedIn}
 use Rattle.hall_desk.specs.Totals.{IsTableAt}
 use Rattle.hall_desk.specs.declared.copies.Copies.{Copies}
 use Rattle.hall_desk.specs.declared.reply.ShownPuzzle.{ShownPuzzle}
 use Rattle.hall_desk.specs.declared.reply.ShownRound.{ShownRound}
 use Rattle.hall_desk.specs.declared.round_copy.RoundCopy.{RoundCopy}
 use Rattle.hall_desk.specs.declared.table_copy.TableCopy.{TableCopy}
-use Rattle.hall_desk.specs.declared.tabling.Tabling.{Tabling}
-use Rattle.hall_desk.proofs.TablesLeft.{same_at, table_left, tally_left}
+use Rattle.hall_desk.specs.declared.listing.Listings.{Listings}
+use Rattle.hall_desk.specs.declared.slices.Slices.{Slices}
+use Rattle.hall_score.specs.declared.tally.Tally.{Tally}
+use Rattle.hall_desk.proofs.TablesLeft.{lines_left, listed_left, same_at, table_left, tally_left}
 
 -- ---- over a call that leaves the world
 pub tables_kept : (old new : Content) (copied : Option (List TableCopy)) → Kept old new → AreTablesCopied old copied
@@ -36,30 +40,41 @@ pub tables_kept : (old new : Content) (copied : Option (List TableCopy)) → Kep
 tables_kept old new copied kept was copy there =
     carried (λ w. IsTableAt w copy.round copy.text) old new kept (was copy there)
 
-pub round_kept : (old new : Content) (copied : Option RoundCopy) → Kept old new → IsRoundCopied old copied
-    → IsRoundCopied new copied
-round_kept old new None kept was = tt
-round_kept old new (Some copy) kept was = carried (λ w. IsShownAt w copy.round copy.shown) old new kept was
+pub any_kept : {X : Type 0} (Holds : World → X → Type 0) (old new : Content) (any : Option X) → Kept old new
+    → AsksIfAny old Holds any → AsksIfAny new Holds any
+any_kept Holds old new None kept was = tt
+any_kept Holds old new (Some x) kept was = carried (λ w. Holds w x) old new kept was
 
-pub tabling_kept : (old new : Content) (tabling : Option Tabling) → Kept old new → IsTalliedIfAny old tabling
-    → IsTalliedIfAny new tabling
-tabling_kept old new None kept was = tt
-tabling_kept old new (Some tabling) kept was = carried (λ w. IsTalliedIn w tabling) old new kept was
+-- and is so now
+pub if_any : {X : Type 0} (content : Content) (Holds : World → X → Type 0) (any : Option X)
+    → AsksIfAny content Holds any → content.honest → content.serves → IfSome any (Holds content.world)
+if_any content Holds None was h s = tt
+if_any content Holds (Some x) was h s = was h s
+
+pub listings_kept : (old new : Content) (listings : Listings) → Kept old new → AreListings old listings
+    → AreListings new listings
+listings_kept old new listings kept was = record {
+  listing = any_kept AreLinesUpTo old new listings.listing kept was.listing;
+  listed = any_kept AreListedIn old new listings.listed kept was.listed;
+}
 
 pub copies_kept : (old new : Content) (copies : Copies) → Kept old new → AreCopied old copies → AreCopied new copies
 copies_kept old new copies kept was =
     record {
       tables = tables_kept old new copies.tables kept was.tables;
-      round = round_kept old new copies.round kept was.round;
-      tabling = tabling_kept old new copies.tabling kept was.tabling;
+      round = any_kept (λ w copy. IsShownAt w copy.round copy.shown) old new copies.round kept was.round;
+      tabling = any_kept IsTalliedIn old new copies.tabling kept was.tabling;
+      listings = listings_kept old new copies.listings kept was.listings;
     }
 
 -- with other tables, and another tally
-pub copies_on : (old new : Content) (copies : Copies) (tables : Option (List TableCopy)) (tabling : Option Tabling)
-    → Kept old new → AreCopied old copies → AreTablesCopied new tables → IsTalliedIfAny new tabling
+pub copies_on : (old new : Content) (copies : Copies) (tables : Option (List TableCopy))
+    (tabling : Option (Slices Tally))
+    → Kept old new → AreCopied old copies → AreTablesCopied new tables → AsksIfAny new IsTalliedIn tabling
     → AreCopied new (record copies { tables = tables; tabling = tabling })
 copies_on old new copies tables tabling kept was are is =
-    record { tables = are; round = round_kept old new copies.round kept was.round; tabling = is }
+    let left : AreCopied new copies = copies_kept old new copies kept was in
+    record { tables = are; round = left.round; tabling = is; listings = left.listings }
 
 -- ---- copies of tables
 -- those that pass a test
@@ -233,23 +248,29 @@ tables_left content old new made result copied left can leads (inr did) nothing 
     (λ h s. table_left copy.round copy.text made (content old).world (stays copy there).1 (can h s)) leads did
     (was copy (stays copy there).0)
 
--- a tally that is left was there, and the change leaves it
-tabling_left : {S R E : Type 0} (content : S → Content) (old new : S) (made : Change) (result : Result R E)
-    (tabling left : Option Tabling) → Asks (content old) (CanMake made) → Leads (content old) (content new)
+-- what there is stays where the change leaves it
+any_left : {S R E X : Type 0} (Holds : World → X → Type 0) (content : S → Content) (old new : S) (made : Change)
+    (result : Result R E) (leaves : X → Bool) (was left : Option X) → Asks (content old) (CanMake made)
+    → Leads (content old) (content new)
     → (made ≡ change.Nothing) ⊎ MakesInWorld made (content old) (content new) result
     → (made ≡ change.Nothing → new ≡ old)
-    → ((one : Tabling) → left ≡ Some one → (tabling ≡ Some one) × IsTrue (leaves_table made one.round))
-    → IsTalliedIfAny (content old) tabling → IsTalliedIfAny (content new) left
-tabling_left content old new made result tabling None can leads did nothing stays was = tt
-tabling_left content old new made result tabling (Some one) can leads (inl idle) nothing stays was =
-    subst (λ s. IsTallied (content s) one) (sym (nothing idle))
-    (subst (IsTalliedIfAny (content old)) (stays one refl).0 was)
-tabling_left content old new made result tabling (Some one) can leads (inr did) nothing stays was =
-    made_alike made (content old) (content new) result (λ w. IsTalliedIn w one)
-    (λ h s. tally_left one.round one made (content old).world refl (stays one refl).1 (can h s)) leads did
-    (subst (IsTalliedIfAny (content old)) (stays one refl).0 was)
+    → ((x : X) (world : World) → leaves x ≡ true → CanMake made world → Holds world x
+    → Holds (changed made world) x)
+    → left ≡ kept_where leaves was → AsksIfAny (content old) Holds was → AsksIfAny (content new) Holds left
+any_left Holds content old new made result leaves None left can leads did nothing stays same was =
+    subst (AsksIfAny (content new) Holds) (sym same) tt
+any_left {S} {R} {E} {X} Holds content old new made result leaves (Some x) left can leads did nothing stays same was =
+    subst (AsksIfAny (content new) Holds) (sym same) (where_it (leaves x) refl did)
+  where
+    where_it : (b : Bool) → leaves x ≡ b → (made ≡ change.Nothing)
+        ⊎ MakesInWorld made (content old) (content new) result
+        → AsksIfAny (content new) Holds (if b then Some x else None)
+    where_it false spoils did = tt
+    where_it true passes (inl idle) = subst (λ s. Asks (content s) (λ w. Holds w x)) (sym (nothing idle)) was
+    where_it true passes (inr did) = made_alike made (content old) (content new) result (λ w. Holds w x)
+        (λ h s. stays x (content old).world passes (can h s)) leads did was
 
--- so each copy that is left is what the store's world says, and the tally is of it
+-- so each copy that is left is what the store's world says, and the tally is of it, as the listings are
 pub copies_left : {S R E : Type 0} (content : S → Content) (old new : S) (made : Change) (result : Result R E)
     (copies taken left : Copies) → taken ≡ copies → Asks (content old) (CanMake made)
     → Leads (content old) (content new)
@@ -258,14 +279,24 @@ pub copies_left : {S R E : Type 0} (content : S → Content) (old new : S) (made
     → ((copy : TableCopy) → IsKept left.tables copy
     → IsKept taken.tables copy × IsTrue (leaves_table made copy.round))
     → (LeavesRounds made × (left.round ≡ taken.round)) ⊎ (left.round ≡ None)
-    → ((one : Tabling) → left.tabling ≡ Some one
-    → (taken.tabling ≡ Some one) × IsTrue (leaves_table made one.round))
+    → left.tabling ≡ kept_where (λ tabling. leaves_table made tabling.round) taken.tabling
+    → left.listings.listing ≡ kept_where (λ listing. leaves_listing made listing.round) taken.listings.listing
+    → left.listings.listed ≡ kept_where (λ listed. leaves_listing made listed.round) taken.listings.listed
     → AreCopied (content old) copies → AreCopied (content new) left
-copies_left content old new made result copies taken left same can leads did nothing stays rounds tallies was =
+copies_left content old new made result copies taken left same can leads did nothing stays rounds tally lines listed
+    was =
     let were : AreCopied (content old) taken = subst (AreCopied (content old)) (sym same) was in
     record {
       tables = tables_left content old new made result taken.tables left.tables can leads did nothing stays were.tables;
       round = round_left content old new made result taken.round left.round leads did nothing rounds were.round;
-      tabling = tabling_left content old new made result taken.tabling left.tabling can leads did nothing tallies
-          were.tabling;
+      tabling = any_left IsTalliedIn content old new made result (λ tabling. leaves_table made tabling.round)
+          taken.tabling left.tabling can leads did nothing (λ tabling. tally_left tabling made) tally were.tabling;
+      listings = record {
+        listing = any_left AreLinesUpTo content old new made result (λ listing. leaves_listing made listing.round)
+            taken.listings.listing left.listings.listing can leads did nothing (λ listing. lines_left listing made)
+            lines were.listings.listing;
+        listed = any_left AreListedIn content old new made result (λ listed. leaves_listing made listed.round)
+            taken.listings.listed left.listings.listed can leads did nothing (λ one. listed_left one made) listed
+            were.listings.listed;
+      };
     }

@@ -1,8 +1,10 @@
 pub mod Answering
 pub mod Releases
-pub mod Telling
+pub mod FactsTold
 pub mod Runs
 pub mod Showing
+pub mod JsonTold
+pub mod LinesTold
 pub mod LinesTaken
 pub mod Submitting
 pub mod Protesting
@@ -12,6 +14,7 @@ mod PlanLemmas
 mod ReadPlans
 pub mod TablePlans
 mod RoundPlans
+mod AnswerPlans
 mod Copied
 pub mod Totalled
 pub mod Truths
@@ -85,4 +88,6 @@ pub mod OwnRows
 pub mod WholeLists
 pub mod SaneTold
 pub mod WholeWorlds
+pub mod Slicing
 pub mod Tablings
+pub mod ListingsOn

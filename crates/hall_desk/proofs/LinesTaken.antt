@@ -4,14 +4,13 @@ use Rattle.std.proofs.lemmas.List.{append_assoc, append-nil}
 use Rattle.hall_policy.specs.declared.record.AnswerRow.{AnswerRow}
 use Rattle.hall_policy.specs.Sink.{HasTaken}
 use Rattle.hall_desk.specs.Shown.{answer_line}
-use Rattle.hall_desk.specs.Lines.{IsLineAdded}
-use Rattle.hall_desk.specs.declared.answers.Lines.{Lines}
+use Rattle.hall_desk.specs.Lines.{LinesSoFar, BeginsLines, IsLineAdded}
 use Rattle.hall_desk.specs.declared.reply.AnswerLine.{AnswerLine}
 
 -- the lines of the rows stand behind those before
-lines_behind : (before after : Lines) (rows : List AnswerRow) → HasTaken IsLineAdded before rows after →
+lines_behind : (before after : LinesSoFar) (rows : List AnswerRow) → HasTaken IsLineAdded before rows after →
     after.lines ≡ before.lines ++ map (answer_line before.shows) rows
-lines_behind before after [] taken = ap (λ (l : Lines). l.lines) taken ∙ sym (append-nil before.lines)
+lines_behind before after [] taken = ap (λ (l : LinesSoFar). l.lines) taken ∙ sym (append-nil before.lines)
 lines_behind before after (row ∷ rows) (next, added, taken) =
     let later : after.lines ≡ next.lines ++ map (answer_line next.shows) rows = lines_behind next after rows taken in
     later
@@ -20,10 +19,10 @@ lines_behind before after (row ∷ rows) (next, added, taken) =
     ∙ append_assoc before.lines (answer_line before.shows row ∷ []) (map (answer_line before.shows) rows)))
 
 -- lines that began with none are those of the rows
-pub lines_of : (before after : Lines) (shows : Bool) (rows : List AnswerRow) → before.lines ≡ [] → before.shows ≡ shows
-    → HasTaken IsLineAdded before rows after →
+pub lines_from_none : (shows : Bool) (fresh after : LinesSoFar) (rows : List AnswerRow) → BeginsLines shows fresh
+    → HasTaken IsLineAdded fresh rows after →
     after.lines ≡ map (answer_line shows) rows
-lines_of before after shows rows empty same taken =
-    lines_behind before after rows taken
-    ∙ (ap (λ (lines : List AnswerLine). lines ++ map (answer_line before.shows) rows) empty
-    ∙ ap (λ (s : Bool). map (answer_line s) rows) same)
+lines_from_none shows fresh after rows begins taken =
+    lines_behind fresh after rows taken
+    ∙ (ap (λ (lines : List AnswerLine). lines ++ map (answer_line fresh.shows) rows) begins.none
+    ∙ ap (λ (s : Bool). map (answer_line s) rows) begins.asked)

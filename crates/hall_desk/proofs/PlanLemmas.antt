@@ -213,38 +213,3 @@ and_true false = refl
 pub filter_alike : {X : Type 0} (p q : X → Bool) → ((x : X) → p x ≡ q x) → (xs : List X) → filter p xs ≡ filter q xs
 filter_alike p q same [] = refl
 filter_alike {X} p q same (x ∷ xs) = λ i. cond (same x i) (x ∷ filter_alike p q same xs i) (filter_alike p q same xs i)
-
--- the plan of a listing of answers
-pub listing_plan : (world : World) (facts : Facts) (id : List ℕ) (t : ℕ) (person : Person) (row : RoundRow)
-    (all shows : Bool) (lines : List AnswerLine) (plan : Plan) →
-    AreTrue facts world (action.Answers id) → facts.caller ≡ Some person → facts.round ≡ Some row →
-    all ≡ sees_all person row.round t → shows ≡ shows_verdict person row.round t →
-    AreLinesOf world (λ answer. same_text answer.key.round id && (all || same_text answer.key.entrant person.name))
-    shows lines →
-    plan ≡ record { reply = reply.Answers lines; change = Nothing; visits = None }
-    → IsMadePlan world facts.caller (action.Answers id) t plan
-listing_plan world facts id t person row all shows lines plan told caller found same_all same listed is =
-    let at : IsRoundAt world id row = subst (λ (o : Option RoundRow). IsRoundFound world (Some id) o) found
-    told.1.1.0 in
-    let rows : List AnswerRow = listed.0 in
-    subst (λ (p : Plan). IsMadePlan world facts.caller (action.Answers id) t p) (sym is) (record {
-      found = state.New;
-      allowed = (
-        person,
-        caller,
-        (
-          (
-            row.round,
-            rows,
-            at.head,
-            subst (λ (a : Bool). IsListing world (λ answer. same_text answer.key.round id &&
-                (a || same_text answer.key.entrant person.name)) rows) same_all listed.1,
-            ap reply.Answers (listed.2 ∙ ap (λ (s : Bool). map (answer_line s) rows) same),
-          ),
-          refl,
-        ),
-      );
-      can = tt;
-      quiet = λ _. refl;
-      made = (tt, tt);
-    })

@@ -21,7 +21,7 @@ use Rattle.hall_desk.specs.declared.plan.Plan.{Plan}
 use Rattle.hall_desk.specs.declared.reply.Reply.TheVariants as reply
 use Rattle.hall_desk.specs.declared.reply.ShownRound.{ShownRound}
 use Rattle.hall_desk.proofs.ReadPlans.{answering, denied_plan, read_plan}
-use Rattle.hall_desk.proofs.Telling.{read_told}
+use Rattle.hall_desk.proofs.FactsTold.{read_told}
 
 module _ (old mid : Content) (facts : Facts) (t : ℕ) (request : Request) (id : List ℕ)
     (is : request.action ≡ ReadRound id)

@@ -20,7 +20,7 @@ use Rattle.hall_desk.specs.Plans.{IsPlanFor, IsMadeBy}
 use Rattle.hall_desk.specs.declared.plan.Plan.{Plan}
 use Rattle.hall_desk.specs.declared.reply.Reply.TheVariants as reply
 use Rattle.hall_desk.proofs.ReadPlans.{answering, denied_plan, read_plan}
-use Rattle.hall_desk.proofs.Telling.{table_told}
+use Rattle.hall_desk.proofs.FactsTold.{table_told}
 
 module _ (old mid : Content) (facts : Facts) (t : ℕ) (request : Request) (id : List ℕ) (is : request.action ≡ Table id)
     (caller : Asks old (λ world. IsCaller world request.key facts.caller)) (kept : Kept old mid)

@@ -1,4 +1,4 @@
--- A table stays where no row of its round changes.
+-- A table, or a listing of answers, stays where no row of its round changes that it is made of.
 use Rattle.std.proofs.Common.{◌≡◌, ◌≢◌, ℕ, Bool, true, false, cond, List, [], ◌∷◌, Option, Some, None, Contains, refl}
 use Rattle.std.proofs.Common.{sym, ap, ◌∙◌, subst}
 use Rattle.std.specs.Prelude.{◌&&◌, not}
@@ -24,18 +24,24 @@ use Rattle.hall_policy.proofs.Maps.{get-insert_other}
 use Rattle.hall_policy.proofs.Orders.{text_total, same_texts, answer_total, protest_total}
 use Rattle.hall_policy.proofs.Texts.{text_decides, and_first}
 use Rattle.hall_policy.specs.Sink.{HasTaken}
-use Rattle.hall_score.specs.Tally.{TakesProtest}
+use Rattle.hall_score.specs.Tally.{TakesAnswer, TakesProtest}
 use Rattle.hall_score.specs.Total.{total_of}
-use Rattle.hall_store.specs.Change.{CanAddAnswers, CanMake, changed, flagged, with_flag, with_state}
-use Rattle.hall_store.specs.Store.{is_between, is_of, is_protest_in, is_up_to}
+use Rattle.hall_score.specs.declared.tally.Tally.{Tally}
+use Rattle.hall_store.specs.Change.{CanAddAnswers, CanMake, changed, flagged, with_flag, with_ruling, with_state}
+use Rattle.hall_store.specs.Store.{IsListing, is_between, is_in, is_of, is_protest_in, is_up_to}
 use Rattle.hall_store.specs.declared.change.Change.{Change}
 use Rattle.hall_store.specs.declared.change.Change.TheVariants as change
 use Rattle.hall_store.specs.declared.change.RoundFlag.{RoundFlag}
 use Rattle.hall_store.proofs.Tests.{not_true}
+use Rattle.hall_desk.specs.Lines.{BeginsLines, IsLineAdded}
+use Rattle.hall_desk.specs.Listings.{AreLinesUpTo, AreListedIn, leaves_listing}
+use Rattle.hall_desk.specs.Slices.{AreTaken, AreUpTo}
 use Rattle.hall_desk.specs.TableCopy.{leaves_table}
-use Rattle.hall_desk.specs.Tabling.{AreUpTo, IsTalliedIn}
+use Rattle.hall_desk.specs.Tabling.{BeginsTally, IsTalliedIn}
 use Rattle.hall_desk.specs.Totals.{round_answers_by, round_protests_by, AreTotals, IsTableAt}
-use Rattle.hall_desk.specs.declared.tabling.Tabling.{Tabling}
+use Rattle.hall_desk.specs.declared.lines.Lines.{Lines}
+use Rattle.hall_desk.specs.declared.listing.Listed.{Listed}
+use Rattle.hall_desk.specs.declared.slices.Slices.{Slices}
 use Rattle.hall_desk.proofs.DraftSane.{relisted_other, retested_other}
 
 -- a value at a new key that doesn't pass a test leaves what the test leaves
@@ -102,24 +108,47 @@ same_at world other rounds places testers id row at = record {
   );
 }
 
--- each row of the round that is kept under the id is kept in the other world too, and no other one is
+-- each answer of the round that is kept under the id is kept in the other world too, and no other one is
+abbrev pub AnswersStay : World → World → List ℕ → Type 0
+AnswersStay world other id =
+    (test : AnswerRow → Bool) → ((row : AnswerRow) → test row ≡ true → row.key.round ≡ id) →
+    filter test (values world.answers) ≡ filter test (values other.answers)
+
+-- so is each row of it
 pub record RowsStay (world other : World) (id : List ℕ) : Type 0 where
   pub round : (row : RoundRow) → IsRoundAt world id row → IsRoundAt other id row
-  pub answers : (test : AnswerRow → Bool) → ((row : AnswerRow) → test row ≡ true → row.key.round ≡ id) →
-      filter test (values world.answers) ≡ filter test (values other.answers)
+  pub answers : AnswersStay world other id
   pub protests : (test : ProtestRow → Bool) → ((row : ProtestRow) → test row ≡ true → row.key.round ≡ id) →
       filter test (values world.protests) ≡ filter test (values other.protests)
 
--- the answers up to a name stay with the rows of the round
-listed_still : (world other : World) (id : List ℕ) (after : Option (List ℕ)) (answers : List AnswerRow)
-    → RowsStay world other id → AreUpTo world id after answers → AreUpTo other id after answers
-listed_still world other id None answers stay none = none
-listed_still world other id (Some name) answers stay listed = record {
-  whole = subst (λ (rows : List AnswerRow). IsPermutation rows answers)
-      (stay.answers (is_between id None (Some name)) (λ row own. (text_decides row.key.round id).0
-      (and_first (same_text row.key.round id) (true && is_up_to (Some name) row.key.entrant) own)))
-      listed.whole;
+-- a listing of answers of the round stays with them
+listing_still : (world other : World) (id : List ℕ) (test : AnswerRow → Bool) (answers : List AnswerRow)
+    → ((row : AnswerRow) → test row ≡ true → row.key.round ≡ id) → AnswersStay world other id
+    → IsListing world test answers → IsListing other test answers
+listing_still world other id test answers own stay listed = record {
+  whole = subst (λ (rows : List AnswerRow). IsPermutation rows answers) (stay test own) listed.whole;
   in_order = listed.in_order;
+}
+
+-- so do the answers up to a name
+listed_still : (world other : World) (id : List ℕ) (after : Option (List ℕ)) (answers : List AnswerRow)
+    → AnswersStay world other id → AreUpTo world id after answers → AreUpTo other id after answers
+listed_still world other id None answers stay none = none
+listed_still world other id (Some name) answers stay listed = listing_still world other id
+    (is_between id None (Some name)) answers (λ row own. (text_decides row.key.round id).0
+    (and_first (same_text row.key.round id) (true && is_up_to (Some name) row.key.entrant) own)) stay listed
+
+-- and what has taken them
+taken_still : {K : Type 0} (Takes : K → AnswerRow → K → Type 0) (Begins : World → List ℕ → K → Type 0)
+    (world other : World) (slices : Slices K) → ((fresh : K) → Begins world slices.round fresh
+    → Begins other slices.round fresh) → AnswersStay world other slices.round
+    → AreTaken Takes Begins world slices → AreTaken Takes Begins other slices
+taken_still Takes Begins world other slices begins stay was = record {
+  fresh = was.fresh;
+  begun = begins was.fresh was.begun;
+  answers = was.answers;
+  listed = listed_still world other slices.round slices.after was.answers stay was.listed;
+  took = was.took;
 }
 
 module _ (id : List ℕ) where
@@ -239,23 +268,58 @@ module _ (id : List ℕ) where
       (λ row own. (text_decides row.key.round id).0
       (and_first (same_text row.key.round id) (same_text row.key.entrant entrant) own)))
 
-  -- and the tally of it
-  pub tally_left : (tabling : Tabling) (made : Change) (world : World) → tabling.round ≡ id
-      → leaves_table made id ≡ true → CanMake made world → IsTalliedIn world tabling
-      → IsTalliedIn (changed made world) tabling
-  tally_left tabling made world of leaves can was =
-      let stay : RowsStay world (changed made world) tabling.round =
-      subst (RowsStay world (changed made world)) (sym of) (rows_stay made world leaves can) in
-      record {
-        row = was.row;
-        at = stay.round was.row was.at;
-        fresh = was.fresh;
-        begun = was.begun;
-        between = was.between;
-        protests = subst (λ (rows : List ProtestRow). HasTaken TakesProtest was.fresh rows was.between)
-            (stay.protests (is_protest_in tabling.round) (λ row own. (text_decides row.key.round tabling.round).0 own))
-            was.protests;
-        answers = was.answers;
-        listed = listed_still world (changed made world) tabling.round tabling.after was.answers stay was.listed;
-        took = was.took;
-      }
+  -- its answers stay over one that adds none to it
+  pub answers_left : (made : Change) (world : World) → leaves_listing made id ≡ true → CanMake made world
+      → AnswersStay world (changed made world) id
+  answers_left (change.SetState key state) world leaves can =
+      (state_stays world key state (get world.puzzles key)).answers
+  answers_left (change.SetRoundFlag round flag) world leaves can = flag_left (get world.rounds round)
+    where
+      flag_left : (found : Option Round) → AnswersStay world (with_flag world round flag found) id
+      flag_left None test own = refl
+      flag_left (Some row) test own = refl
+  answers_left (change.AddAnswer row) world leaves can = (answer_stays world row leaves can.fresh).answers
+  answers_left (change.AddAnswers rows) world leaves can = (answers_stay world rows leaves can).answers
+  answers_left (change.RuleProtest key ruling) world leaves can = ruling_left (get world.protests key)
+    where
+      ruling_left : (found : Option ProtestRow) → AnswersStay world (with_ruling world key ruling found) id
+      ruling_left None test own = refl
+      ruling_left (Some row) test own = refl
+  answers_left change.Nothing world leaves can = λ test own. refl
+  answers_left (change.Import people) world leaves can = λ test own. refl
+  answers_left (change.PutPuzzle row) world leaves can = λ test own. refl
+  answers_left (change.PutRound row) world leaves can = λ test own. refl
+  answers_left (change.AddProtest row) world leaves can = λ test own. refl
+
+-- so the tally of a table stays over a change that leaves the table
+pub tally_left : (tabling : Slices Tally) (made : Change) (world : World) → leaves_table made tabling.round ≡ true
+    → CanMake made world → IsTalliedIn world tabling → IsTalliedIn (changed made world) tabling
+tally_left tabling made world leaves can =
+    let stay : RowsStay world (changed made world) tabling.round = rows_stay tabling.round made world leaves can in
+    taken_still TakesAnswer BeginsTally world (changed made world) tabling
+    (λ tally begun. record {
+      row = begun.row;
+      at = stay.round begun.row begun.at;
+      fresh = begun.fresh;
+      begun = begun.begun;
+      protests = subst (λ (rows : List ProtestRow). HasTaken TakesProtest begun.fresh rows tally)
+          (stay.protests (is_protest_in tabling.round) (λ row own. (text_decides row.key.round tabling.round).0 own))
+          begun.protests;
+    })
+    stay.answers
+
+-- and listings over one that leaves them
+pub lines_left : (listing : Slices Lines) (made : Change) (world : World) → leaves_listing made listing.round ≡ true
+    → CanMake made world → AreLinesUpTo world listing → AreLinesUpTo (changed made world) listing
+lines_left listing made world leaves can = taken_still IsLineAdded (λ w id. BeginsLines true) world (changed made world)
+    listing (λ fresh begun. begun) (answers_left listing.round made world leaves can)
+
+pub listed_left : (listed : Listed) (made : Change) (world : World) → leaves_listing made listed.round ≡ true
+    → CanMake made world → AreListedIn world listed → AreListedIn (changed made world) listed
+listed_left listed made world leaves can (rows, listing, shown) = (
+  rows,
+  listing_still world (changed made world) listed.round (is_in listed.round) rows
+      (λ row own. (text_decides row.key.round listed.round).0 own) (answers_left listed.round made world leaves can)
+      listing,
+  shown,
+)

@@ -1,20 +1,12 @@
 -- A table that is made in slices.
-use Rattle.std.proofs.Common.{◌≡◌, ◌++◌, ◌∷◌, ◌&&◌, ℕ, Bool, true, false, List, [], Option, Some, None, Ok, Contains}
-use Rattle.std.proofs.Common.{IsTrue, IfSome, inl, inr, lit<, refl, sym, ◌∙◌, subst, take, drop}
-use Rattle.std.specs.FinMap.{values}
-use Rattle.std.specs.Ordering.{is_le, is_lt}
-use Rattle.std.specs.declared.cmp.Ordering.{Ordering}
-use Rattle.std.specs.declared.cmp.Ordering.TheVariants.{Less, Equal, Greater}
-use Rattle.std.specs.List.{filter}
+use Rattle.std.proofs.Common.{◌≡◌, ◌&&◌, ℕ, Bool, true, false, List, [], Option, Some, None, IfSome}
+use Rattle.std.proofs.Common.{inl, inr, lit<, refl, sym, ◌∙◌, subst}
 use Rattle.std.specs.Prelude.{ℤ}
-use Rattle.std.proofs.lemmas.List.{take-append-drop}
-use Rattle.std.proofs.lemmas.List.Elements.{Contains-append_left}
 use Rattle.hall_policy.specs.Actions.{last_rule}
 use Rattle.hall_policy.specs.Decided.{IsDecided, IsDecidedUpTo}
 use Rattle.hall_policy.specs.Facts.{IsRoundFound}
 use Rattle.hall_policy.specs.First.{First, Forbids, NoneDecides, Repeated}
 use Rattle.hall_policy.specs.Sink.{HasTaken}
-use Rattle.hall_policy.specs.Text.{text_cmp}
 use Rattle.hall_policy.specs.World.{World, IsRoundAt}
 use Rattle.hall_policy.specs.declared.facts.Facts.{Facts}
 use Rattle.hall_policy.specs.declared.record.AnswerRow.{AnswerRow}
@@ -32,20 +24,15 @@ use Rattle.hall_score.specs.Table.{IsTable}
 use Rattle.hall_score.specs.Tally.{AreTotalsOf, IsTallyOf, TakesAnswer, TakesProtest}
 use Rattle.hall_score.specs.declared.tally.Tally.{Tally}
 use Rattle.hall_store.specs.Caller.{caller_of}
-use Rattle.hall_store.specs.Store.{Content, Fed, IsListing, IsRoundKept, Kept}
-use Rattle.hall_store.specs.Store.{is_after, is_between, is_in, is_up_to, people_after, people_at_once}
-use Rattle.hall_store.specs.declared.fault.StoreFault.{StoreFault}
-use Rattle.hall_store.proofs.Feeds.{fed_now}
+use Rattle.hall_store.specs.Store.{Content, IsRoundKept, Kept}
 use Rattle.hall_store.proofs.Knowing.{carried}
-use Rattle.hall_store.proofs.Slices.{slices_join, slices_whole}
-use Rattle.hall_store.proofs.Tests.{filter-Contains}
-use Rattle.hall_desk.specs.Tabling.{AreUpTo, ComesOn, IsTallied, IsTalliedIn, TablesOn, WaitsForTable}
+use Rattle.hall_desk.specs.Slices.{AreAllTaken}
+use Rattle.hall_desk.specs.Tabling.{BeginsTally, TablesOn, WaitsForTable}
 use Rattle.hall_desk.specs.Totals.{IsTableAt}
 use Rattle.hall_desk.specs.Wanted.{AsksTable}
 use Rattle.hall_desk.specs.declared.copies.Copies.{Copies}
-use Rattle.hall_desk.specs.declared.tabling.Tabling.{Tabling}
 use Rattle.hall_desk.proofs.Finality.{table_rules}
-use Rattle.hall_desk.proofs.Telling.{table_told}
+use Rattle.hall_desk.proofs.FactsTold.{table_told}
 use Rattle.hall_desk.proofs.Totalled.{totals_are}
 
 -- ---- whom a table is told
@@ -112,114 +99,24 @@ table_asked new facts request id t decision (Some row) is read decided allows sa
       ),
     )
 
--- ---- the next name
--- who is among the next people has a later name
-pub later_name : (world : World) (after : Option (List ℕ)) (people : List Person) (person : Person)
-    → people ≡ people_after world after → Contains people person → IsTrue (is_after after person.name)
-later_name world after people person are among =
-    let passing : List Person = filter (λ (p : Person). is_after after p.name) (values world.people) in
-    let there : Contains (take people_at_once passing ++ drop people_at_once passing) person =
-    Contains-append_left (take people_at_once passing) (drop people_at_once passing) person
-    (subst (λ (l : List Person). Contains l person) are among) in
-    (filter-Contains (λ (p : Person). is_after after p.name) (values world.people) person
-    (subst (λ (l : List Person). Contains l person) (take-append-drop people_at_once passing) there)).1
-
--- ---- what was taken
-took_then : {K X : Type 0} (Takes : K → X → K → Type 0) (a b c : K) (xs ys : List X) → HasTaken Takes a xs b
-    → HasTaken Takes b ys c → HasTaken Takes a (xs ++ ys) c
-took_then Takes a b c [] ys same then = subst (λ s. HasTaken Takes s ys c) same then
-took_then Takes a b c (x ∷ xs) ys took then = (took.0, took.1, took_then Takes took.0 b c xs ys took.2 then)
-
-le_of_lt : (r : Ordering) → is_lt r ≡ true → is_le r ≡ true
-le_of_lt Less lt = refl
-le_of_lt Equal lt = let no : false ≡ true = lt in absurd (cc)
-le_of_lt Greater lt = let no : false ≡ true = lt in absurd (cc)
-
--- the name before a later one is up to it
-not_before : (after name : List ℕ) → IsTrue (is_after (Some after) name) → is_up_to (Some name) after ≡ true
-not_before after name later = le_of_lt (text_cmp after name) later
-
--- the answers up to a name and those between it and a later one are those up to the later one
-up_to_later : (world : World) (id : List ℕ) (after : Option (List ℕ)) (name : List ℕ) (first rest : List AnswerRow)
-    → IsTrue (is_after after name) → AreUpTo world id after first
-    → IsListing world (is_between id after (Some name)) rest → AreUpTo world id (Some name) (first ++ rest)
-up_to_later world id None name first rest later are listed =
-    subst (λ (l : List AnswerRow). IsListing world (is_between id None (Some name)) (l ++ rest)) (sym are) listed
-up_to_later world id (Some after) name first rest later are listed =
-    slices_join world id after (Some name) (not_before after name later) first rest are listed
-
--- and those up to a name and all after it are the round's
-up_to_end : (world : World) (id : List ℕ) (after : Option (List ℕ)) (first rest : List AnswerRow)
-    → AreUpTo world id after first → IsListing world (is_between id after None) rest
-    → IsListing world (is_in id) (first ++ rest)
-up_to_end world id None first rest are listed = slices_whole world id (first ++ rest)
-    (subst (λ (l : List AnswerRow). IsListing world (is_between id None None) (l ++ rest)) (sym are) listed)
-up_to_end world id (Some after) first rest are listed = slices_whole world id (first ++ rest)
-    (slices_join world id after None refl first rest are listed)
-
-module _ (old new : Content) (tabling : Tabling) (kept : Kept old new) (tallied : IsTallied old tabling)
-    (after : Tally) where
-  -- the tally, once it has taken the answers up to a later name
-  pub slice_taken : (name : List ℕ) → (old.honest → old.serves → IsTrue (is_after tabling.after name))
-      → Fed {E = StoreFault} TakesAnswer
-      (λ world rows. IsListing world (is_between tabling.round tabling.after (Some name)) rows)
-      old new tabling.tally (Ok tt) after → (on : Tabling)
-      → on ≡ record { round = tabling.round; tally = after; after = Some name } → new.honest → new.serves
-      × (IsTalliedIn new.world on × ComesOn tabling on)
-  slice_taken name later fed on is h =
-      let next : Tabling = record { round = tabling.round; tally = after; after = Some name } in
-      let it = fed_now TakesAnswer
-      (λ world rows. IsListing world (is_between tabling.round tabling.after (Some name)) rows)
-      old new tabling.tally after kept fed h in
-      let was : IsTalliedIn new.world tabling =
-      carried (λ w. IsTalliedIn w tabling) old new kept tallied h it.0 in
-      let is_later : IsTrue (is_after tabling.after name) = later (kept.honest h) (kept.serves h it.0) in
-      let taken : IsTalliedIn new.world next = record {
-        row = was.row;
-        at = was.at;
-        fresh = was.fresh;
-        begun = was.begun;
-        between = was.between;
-        protests = was.protests;
-        answers = was.answers ++ it.1.0;
-        listed = up_to_later new.world tabling.round tabling.after name was.answers it.1.0
-            is_later was.listed it.1.1;
-        took = took_then TakesAnswer was.between tabling.tally after was.answers it.1.0 was.took it.1.2;
-      } in
-      let on_it : ComesOn tabling next = record { same = refl; name = name; up_to = refl; later = is_later } in (
-        it.0,
-        subst (λ (t : Tabling). IsTalliedIn new.world t × ComesOn tabling t) (sym is) (taken, on_it),
-      )
-
-  -- the table of the totals, once it has taken all
-  pub table_made : (totals : List (List ℕ × ℤ)) (text : List ℕ) → Fed {E = StoreFault} TakesAnswer
-      (λ world rows. IsListing world (is_between tabling.round tabling.after None) rows)
-      old new tabling.tally (Ok tt) after →
-      ((round : RoundRow) (protests : List ProtestRow) (answers : List AnswerRow) (fresh between : Tally)
-      → IsTallyOf round [] [] fresh → HasTaken TakesProtest fresh protests between
-      → HasTaken TakesAnswer between answers after → AreTotalsOf round protests answers totals) →
-      IsTable totals text → new.honest → new.serves × IsTableAt new.world tabling.round text
-  table_made totals text fed given written h =
-      let it = fed_now TakesAnswer
-      (λ world rows. IsListing world (is_between tabling.round tabling.after None) rows)
-      old new tabling.tally after kept fed h in
-      let was : IsTalliedIn new.world tabling =
-      carried (λ w. IsTalliedIn w tabling) old new kept tallied h it.0 in
-      let answers : List AnswerRow = was.answers ++ it.1.0 in (
-        it.0,
-        (
-          was.row,
-          was.at,
-          (
-            totals,
-            totals_are new.world tabling.round was.row answers
-                (up_to_end new.world tabling.round tabling.after was.answers it.1.0 was.listed it.1.1) totals
-                (given was.row _ answers was.fresh was.between was.begun was.protests
-                (took_then TakesAnswer was.between tabling.tally after was.answers it.1.0 was.took it.1.2)),
-            written,
-          ),
-        ),
-      )
+-- ---- the table
+-- that of the totals of what was taken
+pub table_made : (world : World) (id : List ℕ) (taken : Tally) (totals : List (List ℕ × ℤ)) (text : List ℕ)
+    → AreAllTaken TakesAnswer BeginsTally world id taken
+    → ((round : RoundRow) (protests : List ProtestRow) (answers : List AnswerRow) (fresh between : Tally)
+    → IsTallyOf round [] [] fresh → HasTaken TakesProtest fresh protests between
+    → HasTaken TakesAnswer between answers taken → AreTotalsOf round protests answers totals)
+    → IsTable totals text → IsTableAt world id text
+table_made world id taken totals text (between, begun, answers, listed, took) given written = (
+  begun.row,
+  begun.at,
+  (
+    totals,
+    totals_are world id begun.row answers listed totals
+        (given begun.row _ answers begun.fresh between begun.begun begun.protests took),
+    written,
+  ),
+)
 
 -- ---- who waits
 -- who asks for the table of a round waits for it, once the tally came on

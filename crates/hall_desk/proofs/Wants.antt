@@ -1,10 +1,13 @@
 -- The search that a request waits for is of the puzzle in the store's world, and the rules allow it.
-use Rattle.std.proofs.Common.{◌≡◌, ◌≢◌, ◌∙◌, ℕ, Option, Some, None, List, sym, ap, subst}
+use Rattle.std.proofs.Common.{◌≡◌, ◌≢◌, ◌∙◌, ℕ, zero, suc, Bool, true, false, Option, Some, None, List, Contains, refl}
+use Rattle.std.proofs.Common.{sym, ap, subst, arith}
+use Rattle.std.proofs.lemmas.Bool.{false≢true}
 use Rattle.std.specs.Prelude.{Ok}
 use Rattle.std.specs.FinMap.{get}
 use Rattle.hall_policy.specs.World.{World}
 use Rattle.hall_policy.specs.Facts.{AreTrue}
-use Rattle.hall_policy.specs.First.{First, NoneDecides}
+use Rattle.hall_policy.specs.Actions.{rules_asked}
+use Rattle.hall_policy.specs.First.{First, Forbids, NoneDecides}
 use Rattle.hall_policy.specs.Decided.{IsDecided}
 use Rattle.hall_policy.specs.declared.facts.Facts.{Facts}
 use Rattle.hall_policy.specs.declared.record.Person.{Person}
@@ -15,6 +18,7 @@ use Rattle.hall_policy.specs.declared.request.Action.TheVariants.{Certify}
 use Rattle.hall_policy.specs.declared.request.Request.{Request}
 use Rattle.hall_policy.specs.declared.rule.Decision.{Decision}
 use Rattle.hall_policy.specs.declared.rule.Decision.TheVariants.{Allow}
+use Rattle.hall_policy.specs.declared.rule.Rule.{Rule}
 use Rattle.hall_policy.specs.declared.rule.Rule.TheVariants as rule
 use Rattle.hall_store.specs.Caller.{caller_of}
 use Rattle.hall_store.specs.Store.{Content, Told}
@@ -26,20 +30,37 @@ use Rattle.hall_policy.proofs.Deciding.{decisions_agree}
 use Rattle.hall_desk.specs.Memo.{MemoView, Remembers}
 use Rattle.hall_desk.specs.Wanted.{IsFoundFor, IsFoundOf, IsPrepared, IsSearchFor}
 
--- no rule that a Certify is asked speaks of the moment, since it names no round
-pub at_any_moment : (world : World) (caller : Option Person) (key : PuzzleKey) (budget t later : ℕ)
-    → NoneDecides world caller (Certify key budget) t → NoneDecides world caller (Certify key budget) later
-at_any_moment world caller key budget t later none rule.NotStarted below =
-    ((λ (among, (director, reads, (id, round, named, kept, is))). absurd cc), (none rule.NotStarted below).1)
-at_any_moment world caller key budget t later none rule.Ended below =
-    ((λ (among, (id, round, named, kept, is)). absurd cc), (none rule.Ended below).1)
-at_any_moment world caller key budget t later none rule.NotEnded below =
-    ((λ (among, (id, round, named, kept, is)). absurd cc), (none rule.NotEnded below).1)
-at_any_moment world caller key budget t later none rule.Closed below =
-    ((λ (among, (id, round, named, kept, is)). absurd cc), (none rule.Closed below).1)
-at_any_moment world caller key budget t later none rule.Started below =
-    ((λ (among, (id, round, named, kept, is)). absurd cc), (none rule.Started below).1)
-at_any_moment world caller key budget t later none r below = none r below
+-- whether the rule speaks of the moment
+abbrev pub is_timed : Rule → Bool
+is_timed rule.NotStarted = true
+is_timed rule.Ended = true
+is_timed rule.NotEnded = true
+is_timed rule.Closed = true
+is_timed rule.Started = true
+is_timed _ = false
+
+-- an action that is asked no such rule is allowed at each moment, where it is at one
+module _ (world : World) (caller : Option Person) (action : Action) (t later : ℕ)
+    (untimed : (r : Rule) → Contains (rules_asked action) r → is_timed r ≡ false)
+    (none : NoneDecides world caller action t) where
+  unasked : (r : Rule) → is_timed r ≡ true → ¬ (Forbids r world caller action later)
+  unasked r timed forbids = false≢true (sym (untimed r forbids.0) ∙ timed)
+
+  pub at_any_moment : NoneDecides world caller action later
+  at_any_moment rule.NotStarted below = (unasked rule.NotStarted refl, (none rule.NotStarted below).1)
+  at_any_moment rule.Ended below = (unasked rule.Ended refl, (none rule.Ended below).1)
+  at_any_moment rule.NotEnded below = (unasked rule.NotEnded refl, (none rule.NotEnded below).1)
+  at_any_moment rule.Closed below = (unasked rule.Closed refl, (none rule.Closed below).1)
+  at_any_moment rule.Started below = (unasked rule.Started refl, (none rule.Started below).1)
+  at_any_moment r below = none r below
+
+certify_untimed : (key : PuzzleKey) (budget : ℕ) (r : Rule) → Contains (rules_asked (Certify key budget)) r
+    → is_timed r ≡ false
+certify_untimed key budget r (zero, within, is) = ap is_timed (sym is)
+certify_untimed key budget r (suc zero, within, is) = ap is_timed (sym is)
+certify_untimed key budget r (suc (suc zero), within, is) = ap is_timed (sym is)
+certify_untimed key budget r (suc (suc (suc zero)), within, is) = ap is_timed (sym is)
+certify_untimed key budget r (suc (suc (suc (suc i))), within, is) = absurd (omega (arith, within))
 
 -- what is remembered of one puzzle and budget is so of the same ones
 remembered : (memo : Option MemoView) (puzzle other : Board) (budget limit : ℕ) → puzzle ≡ other → budget ≡ limit
@@ -59,8 +80,8 @@ module _ (world : World) (request : Request) (facts : Facts) (sender : List ℕ)
   allowed later =
       subst (λ (who : Option Person). First world who request.action later Allow) caller.found
       (subst (λ (a : Action). First world facts.caller a later Allow) (sym asks)
-      (at_any_moment world facts.caller key budget t later (subst (λ (a : Action). First world facts.caller a t Allow)
-      asks decided.first)))
+      (at_any_moment world facts.caller (Certify key budget) t later (certify_untimed key budget)
+      (subst (λ (a : Action). First world facts.caller a t Allow) asks decided.first)))
 
   pub search_asked : (memo : Option MemoView) (found : Option Wanted)
       → IsFoundOf facts.puzzle sender key budget memo found → IsFoundFor world request memo found

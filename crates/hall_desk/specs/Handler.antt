@@ -19,7 +19,6 @@ use Rattle.hall_desk.specs.declared.put_puzzle.PutPuzzle.{PutPuzzle}
 use Rattle.hall_desk.specs.declared.certify_puzzle.Certify.{Certify}
 use Rattle.hall_desk.specs.declared.put_round.PutRound.{PutRound}
 use Rattle.hall_desk.specs.declared.release.Release.{Release}
-use Rattle.hall_desk.specs.declared.answers.Answers.{Answers}
 use Rattle.hall_desk.specs.declared.read_puzzle.ReadPuzzle.{ReadPuzzle}
 use Rattle.hall_desk.specs.declared.list_puzzles.ListPuzzles.{ListPuzzles}
 use Rattle.hall_desk.specs.declared.list_rounds.ListRounds.{ListRounds}
@@ -100,10 +99,6 @@ put_round_action drafted = action.PutRound drafted.round.now drafted.sheet.now
 -- the action that releases the round
 abbrev pub release_action : Release → Action
 release_action released = action.Release released.round.now
-
--- the action that lists the round's answers
-abbrev pub answers_action : Answers → Action
-answers_action listed = action.Answers listed.round.now
 
 -- the action that reads the puzzle
 abbrev pub read_puzzle_action : ReadPuzzle → Action

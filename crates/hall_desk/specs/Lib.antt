@@ -2,10 +2,14 @@ pub mod Census
 pub mod Desk
 pub mod Lookups
 pub mod Shown
+pub mod Telling
+pub mod ListedAnswers
 pub mod Lines
 pub mod Totals
+pub mod Slices
 pub mod TableCopy
 pub mod Tabling
+pub mod Listings
 pub mod RoundCopy
 pub mod Copies
 pub mod Judged

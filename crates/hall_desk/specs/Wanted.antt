@@ -1,12 +1,13 @@
--- What a request waits for: a search, or a table.
-use Rattle.std.specs.Prelude.{◌≡◌, ◌⊎◌, ℕ, List, Option, Some, None, true, IsTrue}
+-- What a request waits for: a search, a table, or a listing of answers.
+use Rattle.std.specs.Prelude.{◌≡◌, ◌⊎◌, ◌||◌, ℕ, List, Option, Some, None, true, IsTrue}
 use Rattle.std.specs.FinMap.{get}
 use Rattle.hall_policy.specs.World.{World}
 use Rattle.hall_policy.specs.First.{First}
+use Rattle.hall_policy.specs.Rules.{TheCaller}
 use Rattle.hall_policy.specs.declared.record.PuzzleKey.{PuzzleKey}
 use Rattle.hall_policy.specs.declared.record.PuzzleRow.{PuzzleRow}
 use Rattle.hall_policy.specs.declared.record.Round.{Round}
-use Rattle.hall_policy.specs.declared.request.Action.TheVariants.{Certify, Table}
+use Rattle.hall_policy.specs.declared.request.Action.TheVariants.{Answers, Certify, Table}
 use Rattle.hall_policy.specs.declared.request.Request.{Request}
 use Rattle.hall_policy.specs.declared.rule.Decision.TheVariants.{Allow}
 use Rattle.hall_desk.specs.Memo.{MemoView, Remembers}
@@ -73,7 +74,20 @@ pub record AsksTable (world : World) (request : Request) : Type 0 where
   pub kept : get world.rounds id ≡ Some round
   pub published : IsTrue round.published
 
--- a request that is to wait needs a search, or asks for a table, over an honest store that serves
+-- The request asks for the answers of a round that the world keeps, and whoever has its key is a director or a referee;
+-- and the rules allow it at whatever moment it is asked.
+pub record AsksListing (world : World) (request : Request) : Type 0 where
+  pub id : List ℕ
+  pub round : Round
+  pub asked : request.action ≡ Answers id
+  pub sender : TheCaller (caller_of world request.key)
+      (λ person. IsTrue (person.roles.director || person.roles.referee))
+  pub allowed : (t : ℕ) → First world (caller_of world request.key) request.action t Allow
+  pub kept : get world.rounds id ≡ Some round
+
+-- a request that is to wait needs a search, or asks for a table or for the answers of a round, over an honest store that
+-- serves
 abbrev pub MayWait : Content → Request → Type 0
 MayWait content request =
-    content.honest → content.serves → NeedsSearch content.world request ⊎ AsksTable content.world request
+    content.honest → content.serves →
+    NeedsSearch content.world request ⊎ AsksTable content.world request ⊎ AsksListing content.world request

@@ -1,67 +1,81 @@
 //! Answers: the answers of a round that the caller sees.
-ghost use Rattle.std.specs.Prelude.{◌≡◌, ◌&&◌, ◌||◌, IfOk, map};
-ghost use Rattle.hall_policy.specs.World.{same_text};
-ghost use Rattle.hall_store.specs.Store.{Kept, Served, Fails, is_in, is_of};
-ghost use Rattle.hall_desk.specs.Shown.{is_sealed, sees_all, shows_verdict, answer_line};
+ghost use Rattle.std.specs.Prelude.{◌≡◌, IfOk, map, true};
+ghost use Rattle.hall_policy.specs.declared.request.Action.TheVariants as action;
+ghost use Rattle.hall_store.specs.Store.{Asks, Kept, Served, Told, Fails, is_in, is_of};
 ghost use Rattle.hall_desk.specs.Lines.{AreLinesOf};
+ghost use Rattle.hall_desk.specs.Listings.{AreListings};
+ghost use Rattle.hall_desk.specs.Lookups.{IsCaller};
+ghost use Rattle.hall_desk.specs.Plans.{FailsIn, IsPlanFor};
+ghost use Rattle.hall_desk.specs.Shown.{is_sealed, sees_all, shows_verdict, answer_line, sees_answer};
 
 use crate::find_round::find_round;
-use crate::handler::Handler;
+use crate::lines::Lines;
+use crate::listing::Listings;
 use crate::plan::Plan;
-use crate::reply::{AnswerLine, Reply};
-use crate::rows::{Rows, push};
-use hall_policy::{
-    Action, AnswerRow, Decision, Facts, Mode, Moment, Name, Person, Round, RoundId, Sink,
-    SinkFault, decide,
-};
+use crate::planning::RequestAt;
+use crate::reply::{AnswersText, Reply};
+use hall_policy::{AnswerRow, Decision, Facts, Mode, Moment, Name, Person, Round, RoundId, decide};
 use hall_store::{ReadStore, StoreFault};
 use std::alloc::{AllocError, Global};
 
-/// What is listed: the answers of the round of this id.
-#[derive(Clone, Copy)]
-pub(crate) struct Answers<'a> {
-    pub(crate) round: &'a RoundId,
+/// The plan for the answers of the round that the caller sees: all of them by the finished listing, where it is this
+/// round's.
+pub(crate) fn plan_answers<S: ReadStore>(
+    asked: &RequestAt,
+    store: &mut S,
+    round: &RoundId,
+    facts: &mut Facts,
+    listings: &mut Listings,
+) -> Result<Plan, StoreFault>
+    requires action { asked.now.request.now.action ≡ action.Answers round.now }
+    requires listed { AreListings (S.content store.old) listings.old }
+    requires caller { Asks (S.content store.old) (λ world. IsCaller world asked.now.request.now.key facts.old.caller) }
+    ensures kept { Kept (S.content store.old) (S.content store.new) }
+    ensures fault { FailsIn (S.content store.new) result }
+    ensures told { Told (S.content store.old) (S.content store.new) result
+        (λ world plan. IsPlanFor world asked.now.t asked.now.request.now plan) }
+    ensures listed { AreListings (S.content store.new) listings.new }
+{
+    facts.round = find_round(asked.alloc, store, round)?;
+    match decide(facts, &asked.request.action, asked.t) {
+        Decision::Deny(rule) => Ok(Plan::of(Reply::Denied(rule))),
+        Decision::Repeat => unreachable!(),
+        Decision::Allow => {
+            let Some(person) = &facts.caller else {
+                unreachable!()
+            };
+            let Some(row) = &facts.round else {
+                unreachable!()
+            };
+            let lines = list_answers(asked, store, round, person, &row.round, listings)?;
+            Ok(Plan::of(Reply::Answers(lines)))
+        }
+    }
 }
 
-impl<'a> Handler for Answers<'a> {
-    ghost use Rattle.hall_desk.specs.Handler.{answers_action};
-
-    ghost action_of = { answers_action };
-
-    fn decision<S: ReadStore>(
-        &self,
-        alloc: Global,
-        store: &mut S,
-        t: Moment,
-        action: &Action,
-        facts: &mut Facts,
-    ) -> Result<Decision, StoreFault> {
-        facts.round = find_round(alloc, store, self.round)?;
-        Ok(decide(facts, action, t))
-    }
-
-    fn first_reply(&self, _facts: &Facts) -> Result<Option<Reply>, AllocError> {
-        Ok(None)
-    }
-
-    /// The rows that the caller sees.
-    fn plan<S: ReadStore>(
-        &self,
-        alloc: Global,
-        store: &mut S,
-        t: Moment,
-        facts: &Facts,
-    ) -> Result<Plan, StoreFault> {
-        let Some(person) = &facts.caller else {
-            unreachable!()
-        };
-        let Some(row) = &facts.round else {
-            unreachable!()
-        };
-        let all = sees_all(person, &row.round, t);
-        let shows = shows_verdict(person, &row.round, t);
-        let lines = list_answers(alloc, store, self.round, &person.name, all, shows)?;
-        Ok(Plan::of(Reply::Answers(lines)))
+/// The answers of the round of this id that the person sees, as they are listed.
+fn list_answers<S: ReadStore>(
+    asked: &RequestAt,
+    store: &mut S,
+    id: &RoundId,
+    person: &Person,
+    round: &Round,
+    listings: &mut Listings,
+) -> Result<AnswersText, StoreFault>
+    requires serves { (S.content store.old).honest → (S.content store.old).serves }
+    requires listed { AreListings (S.content store.old) listings.old }
+    ensures kept { Kept (S.content store.old) (S.content store.new) }
+    ensures fault { FailsIn (S.content store.new) result }
+    ensures served { Served (S.content store.new) result (λ world lines. AreLinesOf world
+        (sees_answer person.now round.now id.now asked.now.t)
+        (shows_verdict person.now round.now asked.now.t) lines) }
+    ensures listed { AreListings (S.content store.new) listings.new }
+{
+    if sees_all(person, round, asked.t) {
+        take_listing(asked.alloc, store, id, listings)
+    } else {
+        let shows = shows_verdict(person, round, asked.t);
+        list_own(asked.alloc, store, id, &person.name, shows)
     }
 }
 
@@ -90,46 +104,24 @@ fn is_sealed(mode: Mode) -> bool
     }
 }
 
-/// Lines of answers, to which a store gives the rows one at a time.
-#[derive(Drop)]
-struct Lines {
-    lines: Rows<AnswerLine>,
-    /// Whether verdicts are told.
-    shows: bool,
-}
-
-impl Sink<AnswerRow> for Lines {
-    ghost use Rattle.hall_desk.specs.Lines.{IsLineAdded};
-
-    ghost takes = { IsLineAdded };
-
-    ghost refuses = { λ _ _. ⊥ };
-
-    fn take(&mut self, row: &AnswerRow) -> Result<(), SinkFault> {
-        let line = show_answer(row, self.shows)?;
-        self.lines.push(line)?;
-        Ok(())
-    }
-}
-
-/// The answers of the round as they are listed: all of them, or those of the entrant.
-fn list_answers<S: ReadStore>(
+/// All answers of the round: the finished listing, where it is this round's, or else one that is made at once.
+fn take_listing<S: ReadStore>(
     alloc: Global,
     store: &mut S,
     round: &RoundId,
-    name: &Name,
-    all: bool,
-    shows: bool,
-) -> Result<Rows<AnswerLine>, StoreFault>
+    listings: &mut Listings,
+) -> Result<AnswersText, StoreFault>
+    requires serves { (S.content store.old).honest → (S.content store.old).serves }
+    requires listed { AreListings (S.content store.old) listings.old }
     ensures kept { Kept (S.content store.old) (S.content store.new) }
     ensures fault { Fails (S.content store.new).can_fail result }
-    ensures served { Served (S.content store.new) result (λ world lines. AreLinesOf world
-        (λ row. same_text row.key.round round.now && (all || same_text row.key.entrant name.now)) shows lines) }
+    ensures served { Served (S.content store.new) result
+        (λ world lines. AreLinesOf world (is_in round.now) true lines) }
+    ensures listed { AreListings (S.content store.new) listings.new }
 {
-    if all {
-        list_all(alloc, store, round, shows)
-    } else {
-        list_own(alloc, store, round, name, shows)
+    match listings.take_listed(round) {
+        Some(lines) => Ok(lines),
+        None => list_all(alloc, store, round),
     }
 }
 
@@ -138,20 +130,15 @@ fn list_all<S: ReadStore>(
     alloc: Global,
     store: &mut S,
     round: &RoundId,
-    shows: bool,
-) -> Result<Rows<AnswerLine>, StoreFault>
+) -> Result<AnswersText, StoreFault>
     ensures kept { Kept (S.content store.old) (S.content store.new) }
     ensures fault { Fails (S.content store.new).can_fail result }
     ensures served { Served (S.content store.new) result
-        (λ world lines. AreLinesOf world (is_in round.now) shows lines) }
+        (λ world lines. AreLinesOf world (is_in round.now) true lines) }
 {
-    let mut lines = Lines {
-        lines: Rows::new(Vec::new(alloc)),
-        shows,
-    };
+    let mut lines = Lines::begin(alloc, true)?;
     store.feed_answers(alloc, round, &None, &None, &mut lines)?;
-    let Lines { lines, .. } = lines;
-    Ok(lines)
+    Ok(lines.end()?)
 }
 
 /// The entrant's answers in the round as they are listed.
@@ -161,7 +148,7 @@ fn list_own<S: ReadStore>(
     round: &RoundId,
     name: &Name,
     shows: bool,
-) -> Result<Rows<AnswerLine>, StoreFault>
+) -> Result<AnswersText, StoreFault>
     ensures kept { Kept (S.content store.old) (S.content store.new) }
     ensures fault { Fails (S.content store.new).can_fail result }
     ensures served { Served (S.content store.new) result
@@ -172,32 +159,12 @@ fn list_own<S: ReadStore>(
 }
 
 /// The answers as they are listed.
-fn show_answers(
-    alloc: Global,
-    rows: &[AnswerRow],
-    shows: bool,
-) -> Result<Rows<AnswerLine>, AllocError>
+fn show_answers(alloc: Global, rows: &[AnswerRow], shows: bool) -> Result<AnswersText, AllocError>
     ensures { IfOk result (λ lines. lines ≡ map (answer_line shows) rows.now) }
 {
-    let mut lines = Vec::new(alloc);
+    let mut lines = Lines::begin(alloc, shows)?;
     for row in rows {
-        push(&mut lines, show_answer(row, shows)?)?;
+        lines.add(row)?;
     }
-    Ok(Rows::new(lines))
-}
-
-/// An answer as it is listed.
-fn show_answer(row: &AnswerRow, shows: bool) -> Result<AnswerLine, AllocError>
-    ensures { IfOk result (λ line. line ≡ answer_line shows row.now) }
-{
-    let verdict = if shows { Some(row.verdict) } else { None };
-    Ok(AnswerLine {
-        answer: row.answer.clone()?,
-        entrant: row.key.entrant.clone()?,
-        moment: row.moment,
-        n: row.n,
-        number: row.key.number,
-        token: row.key.token.clone()?,
-        verdict,
-    })
+    lines.end()
 }

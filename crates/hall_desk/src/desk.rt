@@ -38,7 +38,7 @@ use std::marker::Model;
 /// What answers requests to the hall, one after another, over the world of its store; a contract sees the store.
 ///
 /// It keeps copies of the tables that it made last and of the round that was read last, until what they tell of is
-/// changed, the table and the searches that requests wait for, and what these found last.
+/// changed, the table, the listing and the searches that requests wait for, and what these found last.
 #[derive(Drop)]
 pub struct Desk<S: ReadStore> {
     store: S,
@@ -122,8 +122,8 @@ impl<S: ReadStore> Desk<S> {
     /// An allowed Certify waits until its puzzle has been searched, some visits a time; one that wants the puzzle and
     /// budget of a search under way joins it. At most eight are, one for each key; others wait until one may begin. An
     /// allowed Table waits until the table is made, the answers of some people a time; of tables one is made at once,
-    /// which a question about any other goes on with. No other request waits. Reads only, and of a stranger's request
-    /// the caller alone.
+    /// which a question about any other goes on with. So does an allowed Answers of a director or a referee, for the
+    /// listing of all answers. No other request waits. Reads only, and of a stranger's request the caller alone.
     pub fn prepare(&mut self, alloc: Global, request: &Request) -> Prepared
         ensures kept { Kept (S.content (kept_by self.old)) (S.content (kept_by self.new)) }
         ensures untouched { IsNobodys request.now → kept_by self.new ≡ kept_by self.old }
@@ -237,6 +237,7 @@ impl<S: Store> Desk<S> {
         self.copies.tables = table_copy::left_by(&change, self.copies.tables.take());
         self.copies.round = round_copy::left_by(&change, self.copies.round.take());
         self.copies.tabling = tabling::left_by(&change, self.copies.tabling.take());
+        self.copies.listings.leave(&change);
         let writes = is_change(&change);
         let made = make(alloc, &mut self.store, change);
         if writes {

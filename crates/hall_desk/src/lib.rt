@@ -21,8 +21,10 @@ mod halves;
 mod handler;
 mod import;
 pub mod laws;
+mod lines;
 mod list_puzzles;
 mod list_rounds;
+mod listing;
 mod memo;
 mod memos;
 mod plan;
@@ -53,12 +55,14 @@ mod seed;
 mod sentence;
 mod sentences;
 mod serving;
+mod slices;
 mod solutions;
 mod step;
 mod submit;
 mod table;
 mod table_copy;
 mod tabling;
+mod telling;
 mod together;
 mod under_way;
 mod verdict;
@@ -71,12 +75,13 @@ pub use plan::Plan;
 pub use preparing::Prepared;
 pub use puzzle_states::States;
 pub use reply::{
-    AnswerLine, ProtestLine, PuzzleLine, Reply, RoundLine, ShownPuzzle, ShownRound, StateName,
-    TableText,
+    AnswerLine, AnswersText, ProtestLine, PuzzleLine, Reply, RoundLine, ShownPuzzle, ShownRound,
+    StateName, TableText,
 };
 pub use rows::Rows;
 pub use sanity::{Checked, check};
 pub use search::certify;
 pub use sentence::{Breaches, Sentence, Spot};
+pub use telling::Telling;
 pub use together::take;
 pub use verdict::judge;

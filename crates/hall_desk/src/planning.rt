@@ -3,17 +3,16 @@
 ghost use Rattle.std.specs.Prelude.{◌≡◌, ◌≢◌, ℕ, List, IfSome, IfNone, None};
 ghost use Rattle.hall_policy.specs.World.{World};
 ghost use Rattle.hall_policy.specs.Decided.{IsDecidedUpTo, PassesUpTo};
-ghost use Rattle.hall_policy.specs.declared.request.Action.TheVariants.{ReadRound, Table};
+ghost use Rattle.hall_policy.specs.declared.request.Action.TheVariants.{Answers, ReadRound, Table};
 ghost use Rattle.hall_policy.specs.declared.rule.Decision.TheVariants.{Deny};
 ghost use Rattle.hall_store.specs.Store.{Asks, Kept, Told};
 ghost use Rattle.hall_store.specs.declared.change.Change.{Change};
 ghost use Rattle.hall_desk.specs.Copies.{AreCopied};
-ghost use Rattle.hall_desk.specs.RoundCopy.{IsRoundCopied};
 ghost use Rattle.hall_desk.specs.TableCopy.{AreTablesCopied};
 ghost use Rattle.hall_desk.specs.Lookups.{IsCaller};
 ghost use Rattle.hall_desk.specs.Plans.{IsPlanFor, Planned, FailsIn, IsAvailable, IsNobodys, IsQuietPlan};
 
-use crate::answers::Answers;
+use crate::answers::plan_answers;
 use crate::certify_puzzle::Certify;
 use crate::copies::Copies;
 use crate::handler::Handler;
@@ -31,7 +30,6 @@ use crate::read_puzzle::ReadPuzzle;
 use crate::read_round::plan_round;
 use crate::release::Release;
 use crate::reply::Reply;
-use crate::round_copy::RoundCopy;
 use crate::rows::Rows;
 use crate::rule_protest::RuleProtest;
 use crate::solutions::Solutions;
@@ -52,7 +50,7 @@ pub(crate) struct RequestAt<'a> {
 }
 
 /// What the request will be answered, and what it will change. Reads only, and for a denial nothing that a later rule
-/// asks. A table, or a round that is read, is the copy where the round has one; and what a search would find is what
+/// asks. A table, a round that is read, or a listing of all answers is the one that is kept, where the round has one; and what a search would find is what
 /// is remembered, where that is of the same puzzle and budget.
 pub(crate) fn make_plan<S: ReadStore>(
     alloc: Global,
@@ -81,7 +79,7 @@ pub(crate) fn make_plan<S: ReadStore>(
         Action::Table { round } => {
             plan_for_anyone(&asked, store, round, &mut facts, &mut copies.tables)
         }
-        _ => plan_by_key(&asked, store, &mut facts, &mut copies.round),
+        _ => plan_by_key(&asked, store, &mut facts, copies),
     };
     drop(facts);
     plan
@@ -135,22 +133,22 @@ fn plan_by_key<S: ReadStore>(
     asked: &RequestAt,
     store: &mut S,
     facts: &mut Facts,
-    copied: &mut Option<RoundCopy>,
+    copies: &mut Copies,
 ) -> Result<Plan, StoreFault>
     requires facts { facts.old.caller ≡ None }
-    requires copied { IsRoundCopied (S.content store.old) copied.old }
+    requires copied { AreCopied (S.content store.old) copies.old }
     requires action { (round : List ℕ) → asked.now.request.now.action ≢ Table round }
     ensures kept { Kept (S.content store.old) (S.content store.new) }
     ensures untouched { IsNobodys asked.now.request.now → store.new ≡ store.old }
     ensures keyless { IsNobodys asked.now.request.now → IsQuietPlan result }
     ensures fault { FailsIn (S.content store.new) result }
     ensures planned { Planned (S.content store.new) asked.now.t asked.now.request.now result }
-    ensures copied { IsRoundCopied (S.content store.new) copied.new }
+    ensures copied { AreCopied (S.content store.new) copies.new }
 {
     match &asked.request.key {
         Some(key) => {
             facts.caller = store.person_by_key(asked.alloc, key)?;
-            plan_for_caller(asked, store, facts, copied)
+            plan_for_caller(asked, store, facts, copies)
         }
         None => Ok(deny_without_key(asked, facts)),
     }
@@ -188,27 +186,32 @@ pub(crate) fn plan_for_caller<S: ReadStore>(
     asked: &RequestAt,
     store: &mut S,
     facts: &mut Facts,
-    copied: &mut Option<RoundCopy>,
+    copies: &mut Copies,
 ) -> Result<Plan, StoreFault>
-    requires copied { IsRoundCopied (S.content store.old) copied.old }
+    requires copied { AreCopied (S.content store.old) copies.old }
     requires caller { Asks (S.content store.old) (λ world. IsCaller world asked.now.request.now.key facts.old.caller) }
     requires action { (round : List ℕ) → asked.now.request.now.action ≢ Table round }
     ensures kept { Kept (S.content store.old) (S.content store.new) }
     ensures fault { FailsIn (S.content store.new) result }
     ensures told { Told (S.content store.old) (S.content store.new) result
         (λ world plan. IsPlanFor world asked.now.t asked.now.request.now plan) }
-    ensures copied { IsRoundCopied (S.content store.new) copied.new }
+    ensures copied { AreCopied (S.content store.new) copies.new }
 {
     match caller_rule(facts, &asked.request.action, asked.t) {
         Some(rule) => Ok(Plan::of(Reply::Denied(rule))),
         None => match &asked.request.action {
-            Action::ReadRound { round } => plan_round(asked, store, round, facts, copied),
+            Action::ReadRound { round } => {
+                plan_round(asked, store, round, facts, &mut copies.round)
+            }
+            Action::Answers { round } => {
+                plan_answers(asked, store, round, facts, &mut copies.listings)
+            }
             _ => dispatch(asked, store, facts),
         },
     }
 }
 
-/// The plan of the request's action, by its handler. (A table and a round that is read have none.)
+/// The plan of the request's action, by its handler. (A table, a round that is read and a listing of answers have none.)
 fn dispatch<S: ReadStore>(
     asked: &RequestAt,
     store: &mut S,
@@ -218,6 +221,7 @@ fn dispatch<S: ReadStore>(
     requires passed { PassesUpTo 3 facts.old asked.now.request.now.action asked.now.t }
     requires action { (round : List ℕ) → asked.now.request.now.action ≢ Table round }
     requires reads { (round : List ℕ) → asked.now.request.now.action ≢ ReadRound round }
+    requires lists { (round : List ℕ) → asked.now.request.now.action ≢ Answers round }
     ensures kept { Kept (S.content store.old) (S.content store.new) }
     ensures fault { FailsIn (S.content store.new) result }
     ensures told { Told (S.content store.old) (S.content store.new) result
@@ -240,7 +244,6 @@ fn dispatch<S: ReadStore>(
             token,
             answer,
         } => asked.handle(store, &Submit::of(round, *number, token, answer), facts),
-        Action::Answers { round } => asked.handle(store, &Answers { round }, facts),
         Action::Solutions { round } => asked.handle(store, &Solutions { round }, facts),
         Action::Protest {
             round,
@@ -260,7 +263,7 @@ fn dispatch<S: ReadStore>(
             facts,
         ),
         Action::Publish { round } => asked.handle(store, &Publish { round }, facts),
-        Action::ReadRound { .. } | Action::Table { .. } => unreachable!(),
+        Action::ReadRound { .. } | Action::Answers { .. } | Action::Table { .. } => unreachable!(),
     }
 }
 

@@ -1,7 +1,8 @@
-//! What is worked on before a request is answered: the search, or the table, that its plan would make.
-ghost use Rattle.std.specs.Prelude.{◌≡◌, ◌⊎◌};
+//! What is worked on before a request is answered: the search, the table or the listing that its plan would make.
+ghost use Rattle.std.specs.Prelude.{◌≡◌, ◌⊎◌, Ok};
 ghost use Rattle.hall_store.specs.Store.{Asks, Kept};
 ghost use Rattle.hall_desk.specs.Copies.{AreCopied};
+ghost use Rattle.hall_desk.specs.Listings.{WaitsForListing};
 ghost use Rattle.hall_desk.specs.Plans.{IsNobodys};
 ghost use Rattle.hall_desk.specs.Searches.{WaitsAmong};
 ghost use Rattle.hall_desk.specs.Tabling.{WaitsForTable};
@@ -10,12 +11,13 @@ ghost use Rattle.hall_desk.specs.declared.preparing.Prepared.TheVariants as Prep
 ghost use Rattle.hall_desk.specs.declared.wanted_search.Wanted.{Wanted};
 
 use crate::copies::Copies;
+use crate::listing::prepare_listing;
 use crate::memo::Memo;
 use crate::tabling::prepare_table;
 use crate::under_way::{Searches, search_on};
 use crate::wanted_search::search_for;
 use hall_policy::{Action, Request};
-use hall_store::ReadStore;
+use hall_store::{ReadStore, StoreFault};
 use std::alloc::Global;
 
 /// What came of working on what a request needs.
@@ -23,7 +25,8 @@ use std::alloc::Global;
 pub enum Prepared {
     /// Nothing is left to do for it.
     Ready,
-    /// Its search is under way, or waits for its place; or a table is being made, its own or one before it.
+    /// Its search is under way, or waits for its place; or a table, or a listing of answers, is being made, its own or
+    /// one before it.
     Waits,
     /// Memory or the store failed.
     Refused,
@@ -45,15 +48,31 @@ pub(crate) fn prepare<S: ReadStore>(
     ensures ready { result ≡ Prepared.Ready → Asks (S.content store.new)
         (λ world. IsPrepared world request.now memo.new) }
     ensures waits { result ≡ Prepared.Waits → WaitsForTable (S.content store.new) request.now copies.old copies.new
+        ⊎ WaitsForListing (S.content store.new) request.now copies.old.listings copies.new.listings
         ⊎ ((wanted : Wanted) × WaitsAmong searches.old wanted searches.new
         × Asks (S.content store.new) (λ world. IsSearchFor world request.now wanted)) }
 {
     match &request.action {
-        Action::Table { round } => match prepare_table(alloc, store, request, round, copies) {
-            Ok(prepared) => prepared,
-            Err(_fault) => Prepared::Refused,
-        },
+        Action::Table { round } => {
+            unless_failed(prepare_table(alloc, store, request, round, copies))
+        }
+        Action::Answers { round } => {
+            let listings = &mut copies.listings;
+            unless_failed(prepare_listing(alloc, store, request, round, listings))
+        }
         _ => prepare_search(alloc, store, request, searches, memo),
+    }
+}
+
+/// What came of a slice. Where the store failed, as at a row of people that is no record, the plan asks it again, and
+/// needs no people.
+fn unless_failed(prepared: Result<Prepared, StoreFault>) -> Prepared
+    ensures { result ≡ Prepared.Waits → prepared ≡ Ok Prepared.Waits }
+{
+    match prepared {
+        Ok(prepared) => prepared,
+        Err(StoreFault::Failed) => Prepared::Ready,
+        Err(StoreFault::Memory) => Prepared::Refused,
     }
 }
 

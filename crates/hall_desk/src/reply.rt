@@ -1,12 +1,19 @@
 //! What the hall answers.
-ghost use Rattle.std.specs.Prelude.{◌≡◌, string_bytes};
+ghost use Rattle.std.specs.Prelude.{◌≡◌, IfOk, string_bytes};
+ghost use Rattle.serde_json.specs.Written.{compact_text};
+ghost use Rattle.hall_desk.specs.ListedAnswers.{answers_data};
+ghost use Rattle.hall_desk.specs.Lines.{lines_of, open_tokens};
 
 use crate::rows::Rows;
+use crate::telling::Telling;
 use hall_grid::Broken;
 use hall_policy::{
-    AnswerNumber, AnswerText, Bonus, Minutes, Mode, Moment, Name, Penalty, Points, ProtestMinutes,
-    ProtestText, PuzzleKey, PuzzleNumber, PuzzleText, RoundId, Ruling, Title, Token,
+    AnswerNumber, AnswerRow, AnswerText, Bonus, Minutes, Mode, Moment, Name, Penalty, Points,
+    ProtestMinutes, ProtestText, PuzzleKey, PuzzleNumber, PuzzleText, RoundId, Ruling, Title,
+    Token,
 };
+use http_server::Log;
+use std::alloc::AllocError;
 use std::marker::Model;
 
 /// What is told of a puzzle's state.
@@ -61,7 +68,7 @@ pub struct ShownRound {
     pub title: Title,
 }
 
-/// An answer, as it is listed.
+/// An answer, as it is listed: what a line of an `AnswersText` tells.
 #[derive(Drop)]
 pub struct AnswerLine {
     pub answer: AnswerText,
@@ -115,6 +122,58 @@ impl TableText {
     }
 }
 
+/// The text of a listing of answers; a contract sees its lines.
+#[derive(Drop)]
+pub struct AnswersText {
+    text: String,
+    /// The rows told, each with whether its verdict was.
+    rows: Log<AnswerRow, bool>,
+}
+
+impl Model for AnswersText {
+    ghost use Rattle.std.specs.Prelude.{◌≡◌, List, string_bytes};
+    ghost use Rattle.serde_json.specs.Written.{compact_text};
+    ghost use Rattle.hall_desk.specs.ListedAnswers.{answers_data};
+    ghost use Rattle.hall_desk.specs.Lines.{lines_of};
+    ghost use Rattle.hall_desk.specs.declared.reply.AnswerLine.{AnswerLine};
+
+    ghost Value = { List AnswerLine };
+
+    ghost view = { λ t. lines_of t.rows.items };
+
+    ghost invariant = { λ t. string_bytes t.text ≡ compact_text (answers_data (lines_of t.rows.items)) };
+}
+
+impl AnswersText {
+    /// The text of the rows, whose lines are told.
+    pub(crate) fn new(told: Telling, rows: Log<AnswerRow, bool>) -> Result<AnswersText, AllocError>
+        requires { told ≡ open_tokens (lines_of rows.items) }
+        ensures { IfOk result (λ text. text ≡ lines_of rows.items) }
+    {
+        let mut told = told;
+        told.close_list()?;
+        told.close()?;
+        Ok(AnswersText {
+            text: told.into_text(),
+            rows,
+        })
+    }
+
+    /// The text.
+    pub fn as_str(&self) -> &str
+        ensures { result.now ≡ compact_text (answers_data self.now) }
+    {
+        self.text.as_str()
+    }
+
+    /// The text itself.
+    pub fn into_text(self) -> String
+        ensures { string_bytes result ≡ compact_text (answers_data self) }
+    {
+        self.text
+    }
+}
+
 /// The reply to a request.
 #[derive(Drop)]
 pub enum Reply {
@@ -153,7 +212,7 @@ pub enum Reply {
         verdict: Option<Broken>,
     },
     /// The answers that the caller sees, by entrant, number, then n.
-    Answers(Rows<AnswerLine>),
+    Answers(AnswersText),
     /// The solutions of the round's puzzles, by number.
     Solutions(Rows<AnswerText>),
     /// The token of the protest that was stored.

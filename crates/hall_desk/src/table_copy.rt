@@ -2,6 +2,7 @@
 ghost use Rattle.std.specs.Prelude.{◌≡◌, ◌⊎◌, not, Contains, IfOk, IfSome, IsTrue};
 ghost use Rattle.std.specs.List.{filter, list_all};
 ghost use Rattle.hall_policy.specs.World.{same_text};
+ghost use Rattle.hall_desk.specs.Listings.{leaves_listing};
 ghost use Rattle.hall_desk.specs.TableCopy.{IsKept, leaves_table};
 ghost use Rattle.hall_desk.specs.declared.table_copy.TableCopy.{TableCopy};
 
@@ -131,6 +132,17 @@ fn left_of(change: &Change, copies: Rows<TableCopy>) -> Rows<TableCopy>
     Rows::new(list)
 }
 
+/// Whether the change adds no answer to the round.
+pub(crate) fn leaves_listing(change: &Change, round: &RoundId) -> bool
+    ensures { result ≡ leaves_listing change.now round.now }
+{
+    match change {
+        Change::AddAnswer(row) => row.key.round != *round,
+        Change::AddAnswers(rows) => are_outside(rows.as_slice(), round),
+        _ => true,
+    }
+}
+
 /// Whether the change is of no round, answer or protest that the round's table is made of.
 pub(crate) fn leaves(change: &Change, round: &RoundId) -> bool
     ensures { result ≡ leaves_table change.now round.now }
@@ -140,8 +152,7 @@ pub(crate) fn leaves(change: &Change, round: &RoundId) -> bool
             true,
         Change::PutRound(row) => row.round.id != *round,
         Change::SetRoundFlag { round: other, .. } => *other != *round,
-        Change::AddAnswer(row) => row.key.round != *round,
-        Change::AddAnswers(rows) => are_outside(rows.as_slice(), round),
+        Change::AddAnswer(_) | Change::AddAnswers(_) => leaves_listing(change, round),
         Change::AddProtest(row) => row.key.round != *round,
         Change::RuleProtest { .. } => false,
     }

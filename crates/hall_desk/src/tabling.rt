@@ -1,133 +1,31 @@
-//! The table of a round, made in slices, so that nobody waits for the whole of it.
-ghost use Rattle.std.specs.Prelude.{◌≡◌, IfOk, IfSome, IsTrue, None, Ok, Some};
-ghost use Rattle.hall_policy.specs.World.{IsRoundAt};
+//! The table of a round, made in slices of its answers.
+ghost use Rattle.std.specs.Prelude.{◌≡◌, IfOk, IfSome, Ok, None};
+ghost use Rattle.hall_policy.specs.World.{World, IsRoundAt};
 ghost use Rattle.hall_policy.specs.declared.request.Action.TheVariants.{Table};
-ghost use Rattle.hall_store.specs.Store.{Asks, Kept, Served, is_after};
+ghost use Rattle.hall_score.specs.Tally.{TakesAnswer};
+ghost use Rattle.hall_store.specs.Store.{Asks, Kept, Served};
 ghost use Rattle.hall_desk.specs.Copies.{AreCopied};
+ghost use Rattle.hall_desk.specs.Slices.{AreAllTaken, AreUnderWay, AsksIfAny, kept_where};
 ghost use Rattle.hall_desk.specs.TableCopy.{leaves_table};
-ghost use Rattle.hall_desk.specs.Tabling.{ComesOn, ComesOnOrEnds, IsSliceOf, IsTallied, IsTalliedIfAny, IsTalliedIn};
-ghost use Rattle.hall_desk.specs.Tabling.{IsUnderWay, TablesOn, WaitsForTable};
+ghost use Rattle.hall_desk.specs.Tabling.{BeginsTally, IsTalliedIn, TablesOn, WaitsForTable};
 ghost use Rattle.hall_desk.specs.Totals.{IsTableAt};
 ghost use Rattle.hall_desk.specs.Wanted.{AsksTable};
 ghost use Rattle.hall_desk.specs.declared.preparing.Prepared.TheVariants as Prepared;
-ghost use Rattle.hall_desk.specs.declared.tabling.Tabling.{Tabling};
 
 use crate::copies::Copies;
 use crate::find_round::find_round;
 use crate::planning::no_facts;
 use crate::preparing::Prepared;
 use crate::reply::TableText;
+use crate::slices::{Sliced, Slices};
 use crate::table_copy::{TableCopy, is_copied, keep_copy, leaves};
-use hall_policy::{Decision, Moment, Name, Request, RoundId, RoundRow, decide};
+use hall_policy::{Decision, Moment, Request, RoundId, RoundRow, decide};
 use hall_score::{Tally, table_text};
-use hall_store::{Change, PEOPLE_AT_ONCE, ReadStore, StoreFault};
-use std::alloc::Global;
+use hall_store::{Change, ReadStore, StoreFault};
+use std::alloc::{AllocError, Global};
 
-/// The tally of a round's table, which has taken the round's protests, and its answers by entrants up to the name: none
-/// before the first slice.
-#[derive(Drop)]
-pub(crate) struct Tabling {
-    round: RoundId,
-    tally: Tally,
-    after: Option<Name>,
-}
-
-/// What came of a slice.
-#[derive(Drop)]
-pub(crate) enum Sliced {
-    /// More answers may be left.
-    On(Tabling),
-    /// The table.
-    Made(TableCopy),
-}
-
-impl Tabling {
-    /// Of the round, whose protests it takes. They are few, and are taken at once.
-    fn begin<S: ReadStore>(
-        alloc: Global,
-        store: &mut S,
-        round: &RoundId,
-        row: RoundRow,
-    ) -> Result<Tabling, StoreFault>
-        requires { Asks (S.content store.old) (λ world. IsRoundAt world round.now row) }
-        ensures kept { Kept (S.content store.old) (S.content store.new) }
-        ensures tallied { Served (S.content store.new) result IsTalliedIn }
-        ensures begun { IfOk result (λ tabling. (tabling.round ≡ round.now) × (tabling.after ≡ None)) }
-    {
-        let mut tally = Tally::new(alloc, row);
-        store.feed_protests(alloc, round, &mut tally)?;
-        Ok(Tabling {
-            round: round.clone()?,
-            tally,
-            after: None,
-        })
-    }
-
-    /// Takes the answers by the next people, and makes the table once no more people are left.
-    fn go_on<S: ReadStore>(self, alloc: Global, store: &mut S) -> Result<Sliced, StoreFault>
-        requires { IsTallied (S.content store.old) self }
-        ensures kept { Kept (S.content store.old) (S.content store.new) }
-        ensures sliced { Served (S.content store.new) result (λ world sliced.
-            IsSliceOf world sliced × ComesOnOrEnds self sliced) }
-    {
-        let people = store.people_after(alloc, &self.after)?;
-        match people.get(PEOPLE_AT_ONCE - 1) {
-            Some(person) => {
-                let tabling = self.up_to(alloc, store, person.name.clone()?)?;
-                Ok(Sliced::On(tabling))
-            }
-            None => Ok(Sliced::Made(self.table(alloc, store)?)),
-        }
-    }
-
-    /// Takes the answers by entrants up to the name, which is a later one.
-    fn up_to<S: ReadStore>(
-        self,
-        alloc: Global,
-        store: &mut S,
-        name: Name,
-    ) -> Result<Tabling, StoreFault>
-        requires tallied { IsTallied (S.content store.old) self }
-        requires later { Asks (S.content store.old) (λ _. IsTrue (is_after self.after name)) }
-        ensures kept { Kept (S.content store.old) (S.content store.new) }
-        ensures on { Served (S.content store.new) result (λ world tabling.
-            IsTalliedIn world tabling × ComesOn self tabling) }
-    {
-        let Tabling {
-            round,
-            mut tally,
-            after,
-        } = self;
-        let last = Some(name);
-        store.feed_answers(alloc, &round, &after, &last, &mut tally)?;
-        Ok(Tabling {
-            round,
-            tally,
-            after: last,
-        })
-    }
-
-    /// Takes the answers that are left, and gives the table.
-    fn table<S: ReadStore>(self, alloc: Global, store: &mut S) -> Result<TableCopy, StoreFault>
-        requires { IsTallied (S.content store.old) self }
-        ensures kept { Kept (S.content store.old) (S.content store.new) }
-        ensures table { Served (S.content store.new) result (λ world copy. IsTableAt world copy.round copy.text) }
-        ensures same { IfOk result (λ copy. copy.round ≡ self.round) }
-    {
-        let Tabling {
-            round,
-            mut tally,
-            after,
-        } = self;
-        store.feed_answers(alloc, &round, &after, &None, &mut tally)?;
-        let totals = tally.totals()?;
-        let text = table_text(alloc, totals.as_slice())?;
-        Ok(TableCopy {
-            round,
-            text: TableText::new(text),
-        })
-    }
-}
+/// The tally of a round's table, which has taken the round's protests, and its answers by entrants up to the name.
+pub(crate) type Tabling = Slices<Tally>;
 
 /// Works for a while on the round's table, where one is to be told and no copy is kept: by a slice of the table that is
 /// under way, of whichever round, so that nobody's begins anew. Where no memory is left for a copy, nothing is to be
@@ -200,8 +98,9 @@ fn go_on<S: ReadStore>(
             copies.tabling = Some(tabling);
             Ok(Prepared::Waits)
         }
-        Sliced::Made(copy) => {
-            let is_own = copy.round == *round;
+        Sliced::Whole { round: made, taken } => {
+            let is_own = made == *round;
+            let copy = copy_of(alloc, made, taken)?;
             let kept = keep_copy(alloc, &mut copies.tables, copy);
             Ok(if kept && !is_own {
                 Prepared::Waits
@@ -221,21 +120,55 @@ fn under_way<S: ReadStore>(
     tabling: Option<Tabling>,
 ) -> Result<Tabling, StoreFault>
     requires row { Asks (S.content store.old) (λ world. IsRoundAt world round.now row) }
-    requires tallied { IsTalliedIfAny (S.content store.old) tabling }
+    requires tallied { AsksIfAny (S.content store.old) IsTalliedIn tabling }
     ensures kept { Kept (S.content store.old) (S.content store.new) }
-    ensures tallied { IfOk result (IsTallied (S.content store.new)) }
-    ensures is { IfOk result (IsUnderWay tabling round.now) }
+    ensures tallied { IfOk result (λ tabling. Asks (S.content store.new) (λ world. IsTalliedIn world tabling)) }
+    ensures is { IfOk result (AreUnderWay tabling round.now) }
 {
     match tabling {
         Some(tabling) => Ok(tabling),
-        None => Tabling::begin(alloc, store, round, row),
+        None => begin(alloc, store, round, row),
     }
+}
+
+/// A new tally of the round, whose protests it takes. They are few, and are taken at once.
+fn begin<S: ReadStore>(
+    alloc: Global,
+    store: &mut S,
+    round: &RoundId,
+    row: RoundRow,
+) -> Result<Tabling, StoreFault>
+    requires { Asks (S.content store.old) (λ world. IsRoundAt world round.now row) }
+    ensures kept { Kept (S.content store.old) (S.content store.new) }
+    ensures tallied { Served (S.content store.new) result IsTalliedIn }
+    ensures begun { IfOk result (λ tabling. (tabling.round ≡ round.now) × (tabling.after ≡ None)) }
+{
+    let mut taken = Tally::new(alloc, row);
+    store.feed_protests(alloc, round, &mut taken)?;
+    Ok(Slices {
+        round: round.clone()?,
+        taken,
+        after: None,
+    })
+}
+
+/// The table of the round, all of whose answers were taken.
+fn copy_of(alloc: Global, round: RoundId, taken: Tally) -> Result<TableCopy, AllocError>
+    ensures same { IfOk result (λ copy. copy.round ≡ round) }
+    ensures table { (world : World) → AreAllTaken TakesAnswer BeginsTally world round taken →
+        IfOk result (λ copy. IsTableAt world round copy.text) }
+{
+    let totals = taken.totals()?;
+    let text = table_text(alloc, totals.as_slice())?;
+    Ok(TableCopy {
+        round,
+        text: TableText::new(text),
+    })
 }
 
 /// What is left of the tally by a change: nothing where it changes anything of the round.
 pub(crate) fn left_by(change: &Change, tabling: Option<Tabling>) -> Option<Tabling>
-    ensures { (left : Tabling) → result ≡ Some left →
-        (tabling ≡ Some left) × IsTrue (leaves_table change.now left.round) }
+    ensures { result ≡ kept_where (λ tabling. leaves_table change.now tabling.round) tabling }
 {
     match tabling {
         Some(tabling) if leaves(change, &tabling.round) => Some(tabling),

@@ -5,6 +5,7 @@ ghost use Rattle.hall_store.specs.Store.{Kept};
 ghost use Rattle.hall_desk.specs.Plans.{IsNobodys};
 ghost use Rattle.hall_desk.specs.Together.{IsPlanBeside, IsSubmission, TakesPlan};
 
+use crate::copies::Copies;
 use crate::plan::Plan;
 use crate::planning::{RequestAt, no_facts, plan_for_caller};
 use hall_policy::{Action, AnswerRow, Facts, Key, Moment, Name, Person, Request};
@@ -96,6 +97,6 @@ fn plan_for_key<S: ReadStore>(
     if !may_join(joint, &facts.caller) {
         return Ok(None);
     }
-    let plan = plan_for_caller(asked, store, facts, &mut None)?;
+    let plan = plan_for_caller(asked, store, facts, &mut Copies::none())?;
     Ok(Some(plan))
 }

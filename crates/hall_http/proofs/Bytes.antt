@@ -1,8 +1,9 @@
 -- Bytes that were written so far.
 use Rattle.std.proofs.Common.{◌≡◌, ℕ, ◌++◌, List, [], ◌∷◌, length, take, drop, Option, Some, None, refl}
 use Rattle.std.proofs.Common.{sym, ap, ◌∙◌, subst, arith}
-use Rattle.std.proofs.lemmas.List.{append_assoc, append-nil, take-append-drop}
+use Rattle.std.proofs.lemmas.List.{append_assoc, append-nil, length-append, take-append-drop}
 use Rattle.std.specs.Io.KnownBytes.{Appends}
+use Rattle.hall_http.specs.Device.{WritesPart}
 
 -- a front of the bytes was written, and the rest is left
 pub record HasWritten (old new : Option (List ℕ)) (bytes rest : List ℕ) : Type 0 where
@@ -34,3 +35,25 @@ pub HasWritten-end : (old new : Option (List ℕ)) (bytes rest : List ℕ) → l
     → HasWritten old new bytes rest → Appends old new bytes
 HasWritten-end old new bytes [] e w = subst (λ s. Appends old new s) (sym (w.split ∙ append-nil w.front)) w.appends
 HasWritten-end old new bytes (b ∷ rest) e w = absurd (omega arith)
+
+-- a first part of a front is one of the whole
+pub part_before : (old new : Option (List ℕ)) (front rest : List ℕ) → WritesPart old new front
+    → WritesPart old new (front ++ rest)
+part_before old new front rest (first, left, split, some, appends) = (
+  first,
+  left ++ rest,
+  ap (λ s. s ++ rest) split ∙ append_assoc first left rest,
+  let longer = length-append left rest in omega (arith, some, longer),
+  appends,
+)
+
+-- behind a front that was written, a first part of the rest is one of the whole
+pub part_behind : (old mid new : Option (List ℕ)) (front rest : List ℕ) → Appends old mid front
+    → WritesPart mid new rest → WritesPart old new (front ++ rest)
+part_behind old mid new front rest before (first, left, split, some, appends) = (
+  front ++ first,
+  left,
+  ap (λ s. front ++ s) split ∙ sym (append_assoc front first left),
+  some,
+  Appends-then old mid new front first before appends,
+)

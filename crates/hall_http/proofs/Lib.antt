@@ -5,7 +5,6 @@ pub mod Listed
 pub mod Notices
 pub mod Parts
 pub mod Patterns
-pub mod Tokens
 pub mod Texts
 pub mod Splits
 pub mod Headers

@@ -14,11 +14,11 @@ use Rattle.hall_http.specs.Crowd.{AreAtMoments, AreHandled, AreKept, AreKeptAtTu
 use Rattle.hall_http.specs.Crowd.{AreThose}
 use Rattle.hall_http.specs.Crowd.{AreGone, AnswersNoMore, AllLeave, AreAsSaid, EndUnavailable, HaveGone, IsFor}
 use Rattle.hall_http.specs.Crowd.{HaveGoneSince, HaveBecome, IsHereOrGone, MayWaitAfter, NextMayWait}
-use Rattle.hall_http.specs.Crowd.{WaitsForSearchAfter, WentLater}
+use Rattle.hall_http.specs.Crowd.{WaitsForWorkAfter, WentLater}
 use Rattle.hall_http.specs.Groups.{AreAnsweredTogether, AreAnsweredWhileOpen, IsGroupAnswered}
 use Rattle.hall_http.specs.Peer.{Traffic}
 use Rattle.hall_http.specs.Resting.{AreRests, IsGroup, RestingGroups, still}
-use Rattle.hall_http.specs.Serving.{GoesOn, IsAnsweredOver, RunsOver, WaitsForSearch}
+use Rattle.hall_http.specs.Serving.{GoesOn, IsAnsweredOver, RunsOver, WaitsForWork}
 use Rattle.hall_http.specs.Steps.{AreUnavailable, gated, gated_group}
 use Rattle.hall_http.specs.Turns.{Service, Turn, exchanges_of, service_of}
 use Rattle.hall_http.specs.declared.clients.Clients.{Clients}
@@ -41,7 +41,7 @@ module _ {D H : Type 0} (kept : D → H) (content : H → Content) where
 
   abbrev desk_service : Service (D × Bool)
   desk_service =
-      service_of (IsAnsweredOver over) (AreAnsweredTogether over) (GoesOn over) reads (WaitsForSearch over)
+      service_of (IsAnsweredOver over) (AreAnsweredTogether over) (GoesOn over) reads (WaitsForWork over)
 
   abbrev IsOne : D × Bool → List Exchange → D × Bool → Type 0
   IsOne = IsGroup (gated (IsAnsweredOver over) (GoesOn over)) (gated_group (AreAnsweredTogether over) (GoesOn over))
@@ -212,7 +212,7 @@ module _ {D H C P : Type 0} (kept : D → H) (content : H → Content) (now_give
   -- who may be kept waiting in between
   waits_after : (turns : List Turn) (request : List ℕ)
       → MayWaitAfter (desk_service kept content) (h, true) (i, stays_open why) handled.turns turns request
-      → WaitsForSearchAfter content (kept h) (kept i) handled.turns turns request
+      → WaitsForWorkAfter content (kept h) (kept i) handled.turns turns request
   waits_after turns request (m, rest, is, first, second, waits) = (
     kept m.0,
     rest,
@@ -238,10 +238,10 @@ module _ {D H C P : Type 0} (kept : D → H) (content : H → Content) (now_give
           turns_by (IsFor traffic s.gone.items) (IsFor traffic u.gone.items)
               (NextMayWait (MayWaitAfter (desk_service kept content) (h, true) (i, stays_open why) handled.turns)
               (IsHereOrGone traffic s))
-              (NextMayWait (WaitsForSearchAfter content (kept h) (kept i) handled.turns)
+              (NextMayWait (WaitsForWorkAfter content (kept h) (kept i) handled.turns)
               (WentLater traffic u.gone.items)) (for_grown traffic s.gone.items u.gone.items grows)
               (next_by (MayWaitAfter (desk_service kept content) (h, true) (i, stays_open why) handled.turns)
-              (WaitsForSearchAfter content (kept h) (kept i) handled.turns) (IsHereOrGone traffic s)
+              (WaitsForWorkAfter content (kept h) (kept i) handled.turns) (IsHereOrGone traffic s)
               (WentLater traffic u.gone.items) waits_after
               (λ t was.
               all_went traffic u empty t
@@ -251,7 +251,7 @@ module _ {D H C P : Type 0} (kept : D → H) (content : H → Content) (now_give
         ),
         have_heard_by traffic
             (MayWaitAfter (desk_service kept content) (h, true) (i, stays_open why) handled.turns)
-            (WaitsForSearchAfter content (kept h) (kept i) handled.turns) (HaveBecome traffic s)
+            (WaitsForWorkAfter content (kept h) (kept i) handled.turns) (HaveBecome traffic s)
             (HaveGoneSince traffic u.gone.items) waits_after
             (λ z was.
             all_became traffic z u empty

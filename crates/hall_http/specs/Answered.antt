@@ -9,7 +9,7 @@ use Rattle.hall_desk.specs.declared.reply.Reply.{Reply}
 use Rattle.hall_desk.specs.declared.reply.Reply.TheVariants.{Unavailable as NotServed}
 use Rattle.hall_http.specs.declared.form.FormFault.{FormFault}
 use Rattle.hall_http.specs.declared.answer.Answer.{Answer}
-use Rattle.hall_http.specs.declared.answer.Answer.TheVariants.{Text, Unavailable, Shut}
+use Rattle.hall_http.specs.declared.answer.Answer.TheVariants.{Text, Parts, Unavailable, Shut}
 use Rattle.hall_http.specs.Request.{RequestOf}
 use Rattle.hall_http.specs.Reply.{BytesOf, FaultBytesOf}
 
@@ -22,6 +22,7 @@ unavailable_text =
 -- the bytes of an answer
 abbrev pub answer_text : Answer → List ℕ
 answer_text (Text text) = string_bytes text
+answer_text (Parts parts) = parts
 answer_text Unavailable = unavailable_text
 answer_text Shut = unavailable_text
 

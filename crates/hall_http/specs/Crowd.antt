@@ -20,7 +20,7 @@ use Rattle.hall_http.specs.declared.server.ServeAllEnd.TheVariants as end
 use Rattle.hall_store.specs.Store.{Content, IsSettled, Leads}
 use Rattle.hall_http.specs.Connection.{Exchange, AreReadings, of_groups}
 use Rattle.hall_http.specs.Groups.{AreAnsweredInGroups, AreAnsweredWhileOpen, LeavesRunByGroups}
-use Rattle.hall_http.specs.Serving.{RunsOver, WaitsForSearch}
+use Rattle.hall_http.specs.Serving.{RunsOver, WaitsForWork}
 use Rattle.hall_http.specs.declared.client.Client.{Client}
 use Rattle.hall_http.specs.declared.client.Step.{Step}
 use Rattle.hall_http.specs.declared.client.Step.TheVariants as step
@@ -187,8 +187,8 @@ abbrev pub MayWaitAfter : {H : Type 0} → Service H → H → H → List Turn �
 MayWaitAfter service = MayWaitBetween (GroupedSession service) service.may_wait
 
 -- so it is over a store, for a search
-abbrev pub WaitsForSearchAfter : {H : Type 0} → (H → Content) → H → H → List Turn → List Turn → List ℕ → Type 0
-WaitsForSearchAfter content = MayWaitBetween (AreAnsweredInGroups content) (WaitsForSearch content)
+abbrev pub WaitsForWorkAfter : {H : Type 0} → (H → Content) → H → H → List Turn → List Turn → List ℕ → Type 0
+WaitsForWorkAfter content = MayWaitBetween (AreAnsweredInGroups content) (WaitsForWork content)
 
 -- After some requests those that are held were answered too, in their order, each at its moment, and so each was of the
 -- connection that is there. One is passed over, and isn't answered, only where it may be after those that were answered
@@ -545,9 +545,9 @@ abbrev pub AreServedAtTurns : {H C P : Type 0} → (H → Content) → (C → Op
 AreServedAtTurns content now_gives traffic why (before, old) (after, new) gone =
     (all : AreServed content traffic why before.0 after.0 gone)
     × AreAtMoments (IsFor traffic gone)
-    (NextMayWait (WaitsForSearchAfter content before.0 after.0 all.turns) (WentLater traffic gone)) now_gives before.1
+    (NextMayWait (WaitsForWorkAfter content before.0 after.0 all.turns) (WentLater traffic gone)) now_gives before.1
     (old, new) all.turns after.1
-    × HaveHeard (WaitsForSearchAfter content before.0 after.0 all.turns) traffic (HaveGoneSince traffic gone) old new
+    × HaveHeard (WaitsForWorkAfter content before.0 after.0 all.turns) traffic (HaveGoneSince traffic gone) old new
     all.turns
 
 -- the connections that have gone are those of these numbers

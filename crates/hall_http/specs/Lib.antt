@@ -4,7 +4,6 @@ pub mod Clock
 pub mod Words
 pub mod Body
 pub mod Reply
-pub mod Telling
 pub mod Head
 pub mod Routes
 pub mod Parts

@@ -1,12 +1,11 @@
 -- The replies of the hall: a status and a JSON body, as bytes.
-use Rattle.std.specs.Prelude.{◌≡◌, ⊤, ℕ, ℤ, Bool, ◌==◌, ◌++◌, List, map, if◌then◌else◌, Option, Some, None, codes}
+use Rattle.std.specs.Prelude.{◌≡◌, ◌≤◌, ⊤, ℕ, ℤ, Bool, ◌==◌, ◌++◌, List, [], map, if◌then◌else◌, Option, Some, None, codes}
 use Rattle.std.specs.Prelude.{decimal, length}
-use Rattle.serde_json.specs.Data.{Data, null, boolean, number, string, object, array, unsigned, Members, no_members}
+use Rattle.serde_json.specs.Data.{Data, null, boolean, number, string, object, array, Members, no_members}
 use Rattle.serde_json.specs.Data.{member}
 use Rattle.serde_json.specs.View.{items_of}
 use Rattle.serde_json.specs.Find.{of_integer}
 use Rattle.serde_json.specs.Written.{compact_text}
-use Rattle.hall_grid.specs.Rule.{verdict_text}
 use Rattle.hall_policy.specs.World.{ruling_points}
 use Rattle.hall_policy.specs.declared.record.PuzzleKey.{PuzzleKey}
 use Rattle.hall_policy.specs.declared.record.Mode.{Mode}
@@ -17,12 +16,12 @@ use Rattle.hall_desk.specs.declared.reply.StateName.{StateName}
 use Rattle.hall_desk.specs.declared.reply.StateName.TheVariants as state
 use Rattle.hall_desk.specs.declared.reply.ShownPuzzle.{ShownPuzzle}
 use Rattle.hall_desk.specs.declared.reply.ShownRound.{ShownRound}
-use Rattle.hall_desk.specs.declared.reply.AnswerLine.{AnswerLine}
 use Rattle.hall_desk.specs.declared.reply.ProtestLine.{ProtestLine}
 use Rattle.hall_desk.specs.declared.reply.PuzzleLine.{PuzzleLine}
 use Rattle.hall_desk.specs.declared.reply.RoundLine.{RoundLine}
 use Rattle.hall_desk.specs.declared.reply.Reply.{Reply}
 use Rattle.hall_desk.specs.declared.reply.Reply.TheVariants as reply
+use Rattle.hall_desk.specs.ListedAnswers.{text_member, number_member, verdict_member, answers_data}
 use Rattle.hall_sheet.specs.Fault.{field_name}
 use Rattle.hall_sheet.specs.declared.fault.Refusal.{Refusal}
 use Rattle.hall_sheet.specs.declared.fault.Refusal.TheVariants as refusal
@@ -58,14 +57,6 @@ head_bytes s m = codes "HTTP/1.1 " ++ (status_words s ++ (codes "\r\nContent-Typ
 abbrev pub wire_bytes : Status → MediaType → List ℕ → List ℕ
 wire_bytes s m body =
     head_bytes s m ++ ((codes "\r\nContent-Length: " ++ (decimal (length body) ++ codes "\r\n\r\n")) ++ body)
-
--- a member that is a text, before further members
-abbrev pub text_member : List ℕ → List ℕ → Members → Members
-text_member name text more = member name (string text) more
-
--- a member that is a number, before further members
-abbrev pub number_member : List ℕ → ℕ → Members → Members
-number_member name n more = member name (number (unsigned n)) more
 
 -- what a puzzle's state is called
 abbrev pub state_text : StateName → List ℕ
@@ -157,29 +148,9 @@ read_round_data r = object (
     number_member (codes "start") r.start (
     text_member (codes "title") r.title no_members)))))))))
 
--- the verdict's member, where a verdict is told
-abbrev pub verdict_member : Option ℕ → Members
-verdict_member None = no_members
-verdict_member (Some names) = text_member (codes "verdict") (verdict_text names) no_members
-
 -- {"received":N,"verdict":V}
 abbrev pub submit_data : ℕ → Option ℕ → Data
 submit_data n verdict = object (number_member (codes "received") n (verdict_member verdict))
-
--- an answer's members in the order of their names, the last being its verdict
-abbrev pub listed_answer_data : AnswerLine → Data
-listed_answer_data a = object (
-    text_member (codes "answer") a.answer (
-    text_member (codes "entrant") a.entrant (
-    number_member (codes "moment") a.moment (
-    number_member (codes "n") a.n (
-    number_member (codes "number") a.number (
-    text_member (codes "token") a.token (
-    verdict_member a.verdict)))))))
-
--- {"answers":[A,..]}
-abbrev pub answers_data : List AnswerLine → Data
-answers_data lines = object (member (codes "answers") (array (items_of (map listed_answer_data lines))) no_members)
 
 -- {"solutions":[T,..]}
 abbrev pub solutions_data : List (List ℕ) → Data
@@ -318,9 +289,10 @@ abbrev pub fault_status : FormFault → Status
 fault_status fault.NoRoute = status.NotFound
 fault_status _ = status.BadRequest
 
--- the reply is told in JSON, and made for it: all are but a table, and out of memory, whose bytes stand ready
+-- the reply is told in JSON, and made for it: all are but those whose text or bytes stand ready
 abbrev pub IsJson : Reply → Type 0
 IsJson (reply.Table text) = ⊥
+IsJson (reply.Answers lines) = ⊥
 IsJson reply.Unavailable = ⊥
 IsJson given = ⊤
 
@@ -328,6 +300,16 @@ IsJson given = ⊤
 abbrev pub BytesOf : Reply → List ℕ → Type 0
 BytesOf (reply.Table text) bytes = bytes ≡ wire_bytes status.Ok media.Plain text
 BytesOf given bytes = bytes ≡ wire_bytes (reply_status given) media.Json (compact_text (reply_data given))
+
+-- the text that a reply brings along, to stand behind the front of its bytes: that of a listing of answers
+abbrev pub text_behind : Reply → List ℕ
+text_behind (reply.Answers lines) = compact_text (answers_data lines)
+text_behind _ = []
+
+-- where the reply brings a text along, it has no more bytes behind this front than can be counted
+abbrev pub IsCounted : Reply → List ℕ → Type 0
+IsCounted (reply.Answers lines) front = length (front ++ compact_text (answers_data lines)) ≤ 18446744073709551615
+IsCounted _ front = ⊤
 
 -- the bytes of the reply to bytes that are no request
 abbrev pub FaultBytesOf : FormFault → List ℕ → Type 0

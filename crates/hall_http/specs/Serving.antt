@@ -35,9 +35,10 @@ pub record IsAnsweredOver {H : Type 0} (content : H → Content) (old : H) (mome
       Over (λ before after. AnswersAt before moment request reply after) (content old) (content new)
   pub untouched : AsksNothing request ⊎ (moment ≡ None) → new ≡ old
 
--- the bytes are a request of the hall that needs a search, or asks for a table, so that it may be kept waiting for it
-abbrev pub WaitsForSearch : {H : Type 0} → (H → Content) → H → List ℕ → Type 0
-WaitsForSearch content keeper bytes =
+-- the bytes are a request of the hall that needs a search, or asks for a table or for all answers, so that it may be
+-- kept waiting for it
+abbrev pub WaitsForWork : {H : Type 0} → (H → Content) → H → List ℕ → Type 0
+WaitsForWork content keeper bytes =
     (request : Request) × RequestOf bytes (Ok request) × MayWait (content keeper) request
 
 -- the requests are answered over a store, one after another, each over the store that the one before it left: where a

@@ -1,5 +1,6 @@
 //! Bytes to bytes: a request is read, a step of the hall made, and its reply written.
-ghost use Rattle.std.specs.Prelude.{◌≡◌, ◌≢◌, ◌⊎◌, ℕ, List, Ok, IfOk, OnErr, string_bytes, true, false};
+ghost use Rattle.std.specs.Prelude.{◌≡◌, ◌≢◌, ◌⊎◌, ◌++◌, ℕ, List, Ok, IfOk, OnErr, length};
+ghost use Rattle.std.specs.Prelude.{string_bytes, true, false};
 ghost use Rattle.hall_store.specs.Store.{Fails, Kept, Leads, LeavesOneOf, WritesOnce};
 ghost use Rattle.hall_desk.specs.Desk.{kept_by, SaneThen};
 ghost use Rattle.hall_desk.specs.Plans.{IsNobodys, StepCanFail, WritesIfAny};
@@ -12,17 +13,19 @@ ghost use Rattle.hall_http.specs.Answered.{IsStepReplyOver};
 ghost use Rattle.hall_http.specs.Answered.{IsUnavailable};
 ghost use Rattle.hall_http.specs.Answered.{StopsAt, StopsAtBytes};
 ghost use Rattle.hall_http.specs.Head.{IsLentBy};
+ghost use Rattle.hall_http.specs.Reply.{IsCounted, text_behind};
 ghost use Rattle.hall_http.specs.Request.{AsksNothing, RequestOf};
-ghost use Rattle.hall_http.specs.Serving.{GoesOn, WaitsForSearch};
+ghost use Rattle.hall_http.specs.Serving.{GoesOn, WaitsForWork};
 ghost use Rattle.hall_http.specs.declared.answer.Answer.TheVariants as Answer;
 ghost use Rattle.hall_policy.specs.declared.request.Request.{Request as Asked};
 
 use crate::form::{FormFault, RequestFault};
 use crate::head::{RawRequest, read_raw_request};
-use crate::reply::{UNAVAILABLE, fault_bytes, reply_bytes};
+use crate::reply::{UNAVAILABLE, fault_bytes, front_bytes};
 use crate::request::request_of;
 use crate::routes::Routes;
-use hall_desk::{Desk, Prepared};
+use crate::two_parts::TwoParts;
+use hall_desk::{Desk, Prepared, Reply};
 use hall_policy::{Action, Moment, Request};
 use hall_store::{Store, StoreFault};
 use std::alloc::Global;
@@ -31,6 +34,7 @@ use std::alloc::Global;
 #[derive(Drop)]
 pub enum Answer {
     Text(String),
+    Parts(TwoParts),
     /// 503, which takes no memory.
     Unavailable,
     /// 503 too, by a store that serves no more.
@@ -38,13 +42,25 @@ pub enum Answer {
 }
 
 impl Answer {
-    /// Its bytes.
-    pub fn as_bytes(&self) -> &[u8]
-        ensures { result.now ≡ answer_text self.now }
+    /// Its bytes, in two parts.
+    pub fn parts(&self) -> (&[u8], &[u8])
+        ensures { result.0.now ++ result.1.now ≡ answer_text self.now }
     {
         match self {
-            Answer::Text(text) => text.as_str().as_bytes(),
-            Answer::Unavailable | Answer::Shut => UNAVAILABLE.as_bytes(),
+            Answer::Text(text) => (text.as_str().as_bytes(), &[]),
+            Answer::Parts(parts) => parts.both(),
+            Answer::Unavailable | Answer::Shut => (unavailable_bytes(), &[]),
+        }
+    }
+
+    /// How many bytes it has.
+    pub(crate) fn len(&self) -> usize
+        ensures { result ≡ length (answer_text self.now) }
+    {
+        match self {
+            Answer::Text(text) => text.len(),
+            Answer::Parts(parts) => parts.len(),
+            Answer::Unavailable | Answer::Shut => UNAVAILABLE.len(),
         }
     }
 
@@ -58,6 +74,13 @@ impl Answer {
             _ => true,
         }
     }
+}
+
+/// The bytes of the reply 503.
+fn unavailable_bytes() -> &'static [u8]
+    ensures { result.now ≡ answer_text Answer.Unavailable }
+{
+    UNAVAILABLE.as_bytes()
 }
 
 /// Answers the bytes of one request at the moment, and makes its change.
@@ -131,7 +154,7 @@ pub(crate) fn prepare_raw_request<S: Store>(
 ) -> Prepared
     ensures kept { Kept (S.content (kept_by desk.old)) (S.content (kept_by desk.new)) }
     ensures waits { result ≡ Prepared.Waits → (bytes : List ℕ) → IsLentBy bytes raw.now →
-        WaitsForSearch (λ desk. S.content (kept_by desk)) desk.new bytes }
+        WaitsForWork (λ desk. S.content (kept_by desk)) desk.new bytes }
 {
     match request_of(alloc, routes, raw) {
         Ok(request) => desk.prepare(alloc, &request),
@@ -179,8 +202,8 @@ fn answer_request<S: Store>(
     if let Prepared::Refused = prepared {
         return unavailable(alloc, desk, request);
     }
-    match step_bytes(alloc, desk, moment, request) {
-        Ok(text) => answer_of(text, request),
+    match step_answer(alloc, desk, moment, request) {
+        Ok(answer) => answer_of(answer, request),
         Err(_) => unavailable(alloc, desk, request),
     }
 }
@@ -225,21 +248,22 @@ pub(crate) fn is_nobodys(request: &Request) -> bool
     }
 }
 
-/// The bytes of a request's reply, once its change is made. Unless out of memory, it fails only where its step can.
-fn step_bytes<S: Store>(
+/// A request's reply, once its change is made. Unless out of memory, it fails only where its step can.
+fn step_answer<S: Store>(
     alloc: Global,
     desk: &mut Desk<S>,
     moment: Moment,
     request: &Request,
-) -> Result<String, StoreFault>
+) -> Result<Answer, StoreFault>
     ensures leads { Leads (S.content (kept_by desk.old)) (S.content (kept_by desk.new)) }
     ensures once { WritesOnce (S.content (kept_by desk.old)) (S.content (kept_by desk.new)) }
     ensures quiet { WritesIfAny (S.content (kept_by desk.old)) moment request.now (S.content (kept_by desk.new)) }
-    ensures ok { IfOk result (λ text. (S.content (kept_by desk.new)).honest → IsStepReplyOver
-        (S.content (kept_by desk.old)) moment request.now (string_bytes text) (S.content (kept_by desk.new))) }
+    ensures ok { IfOk result (λ answer. (answer ≢ Answer.Shut) × ((S.content (kept_by desk.new)).honest →
+        IsStepReplyOver (S.content (kept_by desk.old)) moment request.now (answer_text answer)
+        (S.content (kept_by desk.new)))) }
     ensures err { OnErr result ((S.content (kept_by desk.new)).honest → (S.content (kept_by desk.new)).serves →
         (S.content (kept_by desk.new)).world ≡ (S.content (kept_by desk.old)).world) }
-    ensures stops { LeavesOneOf (λ before left. (made : List ℕ) × IfOk result (λ text. made ≡ string_bytes text)
+    ensures stops { LeavesOneOf (λ before left. (made : List ℕ) × IfOk result (λ answer. made ≡ answer_text answer)
         × IsStepReply before moment request.now made left)
         (S.content (kept_by desk.old)) (S.content (kept_by desk.new)) }
     ensures untouched { IsNobodys request.now → desk.new ≡ desk.old }
@@ -247,31 +271,48 @@ fn step_bytes<S: Store>(
         (S.content (kept_by desk.new))) result }
 {
     let plan = desk.plan(alloc, moment, request)?;
-    let text = reply_bytes(alloc, plan.reply())?;
-    let _reply = desk.commit(alloc, plan)?;
-    Ok(text)
+    let front = front_bytes(alloc, plan.reply())?;
+    let reply = desk.commit(alloc, plan)?;
+    Ok(reply_answer(front, reply))
 }
 
-/// The answer of this text to the request. One of 503, which no step of the hall is answered, is taken for a shut
-/// store's where the request asks anything of the store.
-fn answer_of(text: String, request: &Request) -> Answer
-    ensures text { answer_text result ≡ string_bytes text }
+/// The answer that begins so, with the text that the reply brings along behind it.
+fn reply_answer(front: String, reply: Reply) -> Answer
+    requires { IsCounted reply (string_bytes front) }
+    ensures text { answer_text result ≡ string_bytes front ++ text_behind reply }
+    ensures opened { result ≢ Answer.Shut }
+{
+    match reply {
+        Reply::Answers(text) => Answer::Parts(TwoParts::new(front, text.into_text())),
+        _ => Answer::Text(front),
+    }
+}
+
+/// This answer to the request. One of 503, which no step of the hall is answered, is taken for a shut store's where the
+/// request asks anything of the store.
+fn answer_of(answer: Answer, request: &Request) -> Answer
+    requires { answer ≢ Answer.Shut }
+    ensures text { answer_text result ≡ answer_text answer }
     ensures goes_on { result ≢ Answer.Shut → IsNobodys request.now ⊎ (¬ (IsUnavailable (answer_text result))) }
     ensures shut { result ≡ Answer.Shut → ¬ (IsNobodys request.now) }
 {
     if is_nobodys(request) {
-        return Answer::Text(text);
+        return answer;
     }
-    if is_unavailable(text.as_str()) {
+    if is_unavailable(&answer) {
         return Answer::Shut;
     }
-    Answer::Text(text)
+    answer
 }
 
-/// Whether the text is the reply 503.
-pub(crate) fn is_unavailable(text: &str) -> bool
-    ensures yes { result ≡ true → IsUnavailable text.now }
-    ensures no { result ≡ false → ¬ (IsUnavailable text.now) }
+/// Whether the answer is the reply 503.
+pub(crate) fn is_unavailable(answer: &Answer) -> bool
+    ensures yes { result ≡ true → IsUnavailable (answer_text answer.now) }
+    ensures no { result ≡ false → ¬ (IsUnavailable (answer_text answer.now)) }
 {
-    text.as_bytes() == Answer::Unavailable.as_bytes()
+    let (front, rest) = answer.parts();
+    match unavailable_bytes().strip_prefix(front) {
+        Some(left) => left == rest,
+        None => false,
+    }
 }

@@ -10,7 +10,7 @@ ghost use Rattle.hall_http.specs.Feeding.{IsFed};
 ghost use Rattle.hall_http.specs.Served.{IsHandled, IsServed, line};
 
 use crate::connection::{Clock, Connection, ServeEnd, State};
-use crate::device::write_all;
+use crate::device::write_parts;
 use crate::fault::DeviceFault;
 use crate::inbox::Inbox;
 use crate::responder::Responder;
@@ -97,7 +97,7 @@ fn serve_requests<H: Responder, R: Read, W: Write, C: Clock>(
                 Ok(()) => {}
                 Err(_) => return ServeEnd::Device,
             },
-            State::Writing(_) => match write_all(writer, connection.pending()) {
+            State::Writing(_) => match write_parts(writer, connection.pending()) {
                 Ok(()) => connection.sent_all(),
                 Err(_) => return ServeEnd::Device,
             },

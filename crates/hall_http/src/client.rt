@@ -242,7 +242,7 @@ impl<P: Peer> Client<P> {
         ensures moved { IsMoved P.traffic self.old result self.new }
         ensures goes { Goes P.traffic 1 self.old result self.new }
     {
-        if self.connection.pending().is_empty() {
+        if self.connection.has_sent_all() {
             self.connection.sent(0);
             return Step::Again;
         }

@@ -1,6 +1,6 @@
 //! One connection as steps over bytes, with no read and no write of its own: what is heard is handed in, and what is to
 //! be told is handed out.
-ghost use Rattle.std.specs.Prelude.{◌≡◌, ◌≤◌, ◌<◌, ◌+◌, ℕ, List, Option, length, true, false};
+ghost use Rattle.std.specs.Prelude.{◌≡◌, ◌≤◌, ◌<◌, ◌+◌, ◌++◌, ℕ, List, Option, length, true, false};
 ghost use Rattle.hall_desk.specs.declared.preparing.Prepared.TheVariants as Prepared;
 ghost use Rattle.hall_http.specs.Connection.{Exchange};
 ghost use Rattle.hall_http.specs.Head.{IsUnfinishedBelow};
@@ -338,12 +338,21 @@ impl Connection {
         self.answer(alloc, routes, responder, Prepared::Ready, moment)
     }
 
-    /// The bytes that wait to be sent.
-    pub(crate) fn pending(&self) -> &[u8]
+    /// The bytes that wait to be sent, in two parts.
+    pub(crate) fn pending(&self) -> (&[u8], &[u8])
         requires { self.now.sent ≤ length (outgoing_text self.now.reply) }
-        ensures { result.now ≡ pending self.now }
+        ensures { result.0.now ++ result.1.now ≡ pending self.now }
     {
-        &self.reply.as_bytes()[self.sent..]
+        self.reply.parts_from(self.sent)
+    }
+
+    /// Whether none wait.
+    pub(crate) fn has_sent_all(&self) -> bool
+        requires { self.now.sent ≤ length (outgoing_text self.now.reply) }
+        ensures yes { result ≡ true → length (pending self.now) ≡ 0 }
+        ensures no { result ≡ false → 0 < length (pending self.now) }
+    {
+        self.sent == self.reply.len()
     }
 
     /// So many of them were sent.
@@ -351,8 +360,9 @@ impl Connection {
         requires { count ≤ length (pending self.old) }
         ensures { IsAfterSending self.old count self.new }
     {
+        let size = self.reply.len();
         self.sent += count;
-        if self.sent < self.reply.as_bytes().len() {
+        if self.sent < size {
             return;
         }
         self.sent = 0;
@@ -370,24 +380,24 @@ impl Connection {
         requires { self.old.sent ≤ length (outgoing_text self.old.reply) }
         ensures { IsAfterSending self.old (length (pending self.old)) self.new }
     {
-        let count = self.pending().len();
+        let count = self.reply.len() - self.sent;
         self.sent(count);
     }
 }
 
 /// Whether the bytes begin with a method by which nothing is asked that needs work before it is answered, or ask for
-/// anything but a table. It spares most requests a look at their heads.
+/// anything but what is long. It spares most requests a look at their heads.
 fn needs_nothing(bytes: &[u8]) -> bool {
     match bytes.strip_prefix(b"GET ") {
-        Some(target) => !asks_table(target),
+        Some(target) => !asks_long(target),
         None => bytes.starts_with(b"PUT "),
     }
 }
 
-/// Whether the target that the bytes begin with is a table's.
-fn asks_table(bytes: &[u8]) -> bool {
+/// Whether the target that the bytes begin with is a table's, or that of a listing of answers.
+fn asks_long(bytes: &[u8]) -> bool {
     match bytes.iter().position(|byte| *byte == b' ') {
-        Some(end) => bytes[..end].ends_with(b"/table"),
+        Some(end) => bytes[..end].ends_with(b"/table") || bytes[..end].ends_with(b"/answers"),
         None => false,
     }
 }

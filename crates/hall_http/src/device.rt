@@ -1,5 +1,5 @@
 //! Whole output.
-ghost use Rattle.std.specs.Prelude.{◌≡◌, OnOk, OnErr};
+ghost use Rattle.std.specs.Prelude.{◌≡◌, ◌++◌, OnOk, OnErr};
 ghost use Rattle.std.specs.Io.KnownBytes.{Appends};
 ghost use Rattle.hall_grid.specs.Device.{Rises};
 ghost use Rattle.hall_http.specs.Device.{WritesPart};
@@ -24,4 +24,21 @@ pub fn write_all<W: Write>(writer: &mut Counted<W>, bytes: &[u8]) -> Result<(), 
         }
     }
     Ok(())
+}
+
+/// Writes all the bytes of both parts, one after the other, as `write_all` does.
+pub(crate) fn write_parts<W: Write>(
+    writer: &mut Counted<W>,
+    parts: (&[u8], &[u8]),
+) -> Result<(), DeviceFault>
+    ensures written { OnOk result (Appends (W.contents writer.old.device) (W.contents writer.new.device)
+        (parts.entry.0.now ++ parts.entry.1.now)) }
+    ensures same { OnOk result (writer.new.failures ≡ writer.old.failures) }
+    ensures device { OnErr result (Rises writer.old.failures writer.new.failures) }
+    ensures part { OnErr result (WritesPart (W.contents writer.old.device) (W.contents writer.new.device)
+        (parts.entry.0.now ++ parts.entry.1.now)) }
+{
+    let (head, body) = parts;
+    write_all(writer, head)?;
+    write_all(writer, body)
 }

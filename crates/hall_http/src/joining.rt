@@ -73,11 +73,12 @@ fn take_reply(alloc: Global, joint: &mut JointAnswers, plan: Plan) -> Option<Ans
     let Ok(text) = reply_bytes(alloc, plan.reply()) else {
         return None;
     };
-    if is_unavailable(text.as_str()) {
+    let answer = Answer::Text(text);
+    if is_unavailable(&answer) {
         return None;
     }
     match take(joint, plan) {
-        Ok(()) => Some(Answer::Text(text)),
+        Ok(()) => Some(answer),
         Err(_) => None,
     }
 }

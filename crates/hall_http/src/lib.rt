@@ -35,7 +35,7 @@ mod server;
 mod session;
 mod socket;
 mod status;
-mod telling;
+mod two_parts;
 mod words;
 
 pub use answer::{Answer, answer_bytes};
@@ -57,3 +57,4 @@ pub use routes::Routes;
 pub use server::{Next, ServeAllEnd, Sockets, serve_all};
 pub use session::replay;
 pub use socket::Socket;
+pub use two_parts::TwoParts;

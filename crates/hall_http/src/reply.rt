@@ -7,19 +7,17 @@ ghost use Rattle.hall_http.specs.Reply.{list_puzzles_data, put_round_data, relea
 ghost use Rattle.hall_http.specs.Reply.{list_rounds_data, solutions_data, sheet_fault_data};
 ghost use Rattle.hall_http.specs.Reply.{protest_data, protests_data};
 ghost use Rattle.hall_http.specs.Reply.{rule_protest_data, publish_data};
-ghost use Rattle.hall_http.specs.Reply.{read_round_data, submit_data, answers_data, denied_data};
+ghost use Rattle.hall_http.specs.Reply.{read_round_data, submit_data, denied_data};
 ghost use Rattle.hall_http.specs.Reply.{reply_data, reply_status, denied_status, field_text};
 ghost use Rattle.hall_http.specs.Reply.{form_data, field_data, place_data, puzzle_fault_data, fault_data, fault_status};
-ghost use Rattle.hall_http.specs.Reply.{head_bytes, wire_bytes, IsJson, BytesOf, FaultBytesOf};
-ghost use Rattle.hall_http.specs.Telling.{Adds, tokens_of};
+ghost use Rattle.hall_desk.specs.Telling.{Adds, tokens_of};
+ghost use Rattle.hall_http.specs.Reply.{head_bytes, text_behind, wire_bytes, IsCounted, IsJson, BytesOf};
+ghost use Rattle.hall_http.specs.Reply.{FaultBytesOf};
 
 use crate::form::{Field, FormFault, PuzzleFault};
-use crate::row::{end_with_verdict, mode_at, points_at, rows_at, rows_room, ruling_at, state_at};
+use crate::row::{mode_at, points_at, rows_at, rows_room, ruling_at, state_at};
 use crate::status::{MediaType, Status};
-use crate::telling::Telling;
-use hall_desk::{
-    AnswerLine, ProtestLine, PuzzleLine, Reply, RoundLine, Rows, ShownRound, StateName,
-};
+use hall_desk::{ProtestLine, PuzzleLine, Reply, RoundLine, Rows, ShownRound, StateName, Telling};
 use hall_grid::Broken;
 use hall_policy::{AnswerNumber, AnswerText, PuzzleKey, PuzzleText, RoundId, Ruling, Token};
 use hall_sheet::Refusal;
@@ -39,8 +37,27 @@ pub(crate) fn reply_bytes(alloc: Global, reply: &Reply) -> Result<String, AllocE
 {
     match reply {
         Reply::Unavailable => String::from_str(alloc, UNAVAILABLE),
+        Reply::Answers(text) => write_reply(alloc, Status::Ok, MediaType::Json, text.as_str()),
         Reply::Table(text) => write_reply(alloc, Status::Ok, MediaType::Plain, text.as_str()),
         _ => told_bytes(alloc, reply),
+    }
+}
+
+/// The front of a reply's bytes: all but the text that it brings along, where both together can be counted.
+pub(crate) fn front_bytes(alloc: Global, reply: &Reply) -> Result<String, AllocError>
+    ensures written { IfOk result (λ front. BytesOf reply.now (string_bytes front ++ text_behind reply.now)) }
+    ensures counted { IfOk result (λ front. IsCounted reply.now (string_bytes front)) }
+{
+    match reply {
+        Reply::Answers(text) => {
+            let size = text.as_str().len();
+            let head = head_text(alloc, Status::Ok, MediaType::Json, size)?;
+            match head.len().checked_add(size) {
+                Some(_) => Ok(head),
+                None => Err(AllocError),
+            }
+        }
+        _ => reply_bytes(alloc, reply),
     }
 }
 
@@ -61,7 +78,7 @@ pub(crate) fn fault_bytes(alloc: Global, fault: FormFault) -> Result<String, All
     with_head(alloc, fault_status(fault), MediaType::Json, body)
 }
 
-/// The bytes of a reply.
+/// The bytes of a reply whose body stands ready. The head goes first, so that a large body is copied once.
 fn write_reply(
     alloc: Global,
     status: Status,
@@ -70,9 +87,11 @@ fn write_reply(
 ) -> Result<String, AllocError>
     ensures { IfOk result (λ bytes. string_bytes bytes ≡ wire_bytes status media body.now) }
 {
-    let mut bytes = String::with_capacity(alloc, body.len().saturating_add(HEAD_ROOM))?;
+    let head = head_text(alloc, status, media, body.len())?;
+    let mut bytes = String::with_capacity(alloc, head.len().saturating_add(body.len()))?;
+    bytes.push_str(head.as_str())?;
     bytes.push_str(body)?;
-    with_head(alloc, status, media, bytes)
+    Ok(bytes)
 }
 
 /// The bytes of a reply with this body. They are the body's own, moved on behind the head: a large one is there once.
@@ -135,13 +154,12 @@ fn reply_status(reply: &Reply) -> Status
         | Reply::ListRounds(_)
         | Reply::ReadRound(_)
         | Reply::Submit { .. }
-        | Reply::Answers(_)
         | Reply::Solutions(_)
         | Reply::Protest(_)
         | Reply::Protests(_)
         | Reply::RuleProtest(_)
         | Reply::Publish(_) => Status::Ok,
-        Reply::Table(_) => unreachable!(),
+        Reply::Answers(_) | Reply::Table(_) => unreachable!(),
     }
 }
 
@@ -187,7 +205,6 @@ fn reply_room(reply: &Reply) -> usize {
         Reply::ListPuzzles(lines) => rows_room(lines.as_slice()),
         Reply::ListRounds(lines) => rows_room(lines.as_slice()),
         Reply::ReadRound(round) => rows_room(round.puzzles.as_slice()).saturating_add(256),
-        Reply::Answers(lines) => rows_room(lines.as_slice()),
         Reply::Solutions(texts) => rows_room(texts.as_slice()),
         Reply::Protests(lines) => rows_room(lines.as_slice()),
         _ => 0,
@@ -213,7 +230,7 @@ fn tell_reply(alloc: Global, told: &mut Telling, reply: &Reply) -> Result<(), Al
         Reply::ListRounds(lines) => tell_list_rounds(alloc, told, lines),
         Reply::ReadRound(round) => tell_read_round(alloc, told, round),
         Reply::Submit { n, verdict } => tell_submit(alloc, told, *n, *verdict),
-        Reply::Answers(lines) => tell_answers(alloc, told, lines),
+        Reply::Answers(_) => unreachable!(),
         Reply::Solutions(texts) => tell_solutions(alloc, told, texts),
         Reply::Protest(token) => tell_protest(told, token),
         Reply::Protests(lines) => tell_protests(alloc, told, lines),
@@ -342,19 +359,7 @@ fn tell_submit(
 {
     told.open()?;
     told.within_at("received", n)?;
-    end_with_verdict(alloc, told, verdict)
-}
-
-fn tell_answers(
-    alloc: Global,
-    told: &mut Telling,
-    lines: &Rows<AnswerLine>,
-) -> Result<(), AllocError>
-    ensures { OnOk result (Adds told.old told.new (tokens_of (answers_data lines.now))) }
-{
-    told.open()?;
-    rows_at(alloc, told, "answers", lines)?;
-    told.close()
+    told.end_with_verdict(alloc, verdict)
 }
 
 fn tell_solutions(

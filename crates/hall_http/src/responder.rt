@@ -8,7 +8,7 @@ ghost use Rattle.hall_http.specs.Groups.{AreAnsweredTogether};
 ghost use Rattle.hall_http.specs.Head.{IsLentBy};
 ghost use Rattle.hall_http.specs.Joining.{HaveJoined, JoinsOne, told_at_end};
 ghost use Rattle.hall_http.specs.Request.{ReachesStore};
-ghost use Rattle.hall_http.specs.Serving.{GoesOn, IsAnsweredOver, WaitsForSearch};
+ghost use Rattle.hall_http.specs.Serving.{GoesOn, IsAnsweredOver, WaitsForWork};
 ghost use Rattle.hall_http.specs.Steps.{gated_group};
 ghost use Rattle.hall_http.specs.declared.answer.Answer.TheVariants as Answer;
 ghost use Rattle.hall_http.specs.declared.responder.GroupEnd.TheVariants as GroupEnd;
@@ -130,7 +130,7 @@ impl<S: Store> Responder for Desk<S> {
 
     ghost rests = { λ old new. Kept (S.content (kept_by old)) (S.content (kept_by new)) };
 
-    ghost may_wait = { WaitsForSearch (λ desk. S.content (kept_by desk)) };
+    ghost may_wait = { WaitsForWork (λ desk. S.content (kept_by desk)) };
 
     fn prepare(&mut self, alloc: Global, routes: &Routes, request: &RawRequest<'_>) -> Prepared {
         prepare_raw_request(alloc, routes, self, request)

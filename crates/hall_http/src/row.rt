@@ -1,18 +1,15 @@
 //! The rows of listings in JSON.
 ghost use Rattle.std.specs.Prelude.{◌≡◌, ◌∷◌, [], OnOk, codes, map};
 ghost use Rattle.json.specs.Token.{key, string, number};
-ghost use Rattle.json.specs.Tree.{members_tokens};
 ghost use Rattle.serde_json.specs.Data.{array};
 ghost use Rattle.serde_json.specs.Find.{of_integer};
 ghost use Rattle.serde_json.specs.View.{items_of};
-ghost use Rattle.serde_json.specs.Written.{members_outline, number_text};
+ghost use Rattle.serde_json.specs.Written.{number_text};
 ghost use Rattle.hall_policy.specs.World.{ruling_points};
-ghost use Rattle.hall_http.specs.Reply.{state_text, mode_text, ruling_text, verdict_member};
-ghost use Rattle.hall_http.specs.Telling.{Adds, tokens_of};
+ghost use Rattle.hall_http.specs.Reply.{state_text, mode_text, ruling_text};
+ghost use Rattle.hall_desk.specs.Telling.{Adds, tokens_of};
 
-use crate::telling::Telling;
-use hall_desk::{AnswerLine, ProtestLine, PuzzleLine, RoundLine, Rows, ShownPuzzle, StateName};
-use hall_grid::Broken;
+use hall_desk::{ProtestLine, PuzzleLine, RoundLine, Rows, ShownPuzzle, StateName, Telling};
 use hall_policy::{AnswerText, Mode, Ruling, ruling_points};
 use std::alloc::{AllocError, Global};
 
@@ -20,7 +17,7 @@ use std::alloc::{AllocError, Global};
 pub(crate) trait Row {
     ghost use Rattle.std.specs.Prelude.{OnOk};
     ghost use Rattle.serde_json.specs.Data.{Data};
-    ghost use Rattle.hall_http.specs.Telling.{Adds, tokens_of};
+    ghost use Rattle.hall_desk.specs.Telling.{Adds, tokens_of};
 
     // What is told of it.
     ghost data_of: { Self → Data };
@@ -134,24 +131,6 @@ pub(crate) fn points_at(told: &mut Telling, ruling: &Option<Ruling>) -> Result<(
     told.integer_at("points", i64::from(ruling_points(ruling)))
 }
 
-/// Ends an object by its verdict, where one is told.
-pub(crate) fn end_with_verdict(
-    alloc: Global,
-    told: &mut Telling,
-    verdict: Option<Broken>,
-) -> Result<(), AllocError>
-    ensures { OnOk result (Adds told.old told.new (members_tokens (members_outline (verdict_member verdict)))) }
-{
-    match verdict {
-        None => told.close(),
-        Some(names) => {
-            let verdict = format!(in alloc; "{names}")?;
-            told.text_at("verdict", verdict.as_str())?;
-            told.close()
-        }
-    }
-}
-
 impl Row for PuzzleLine {
     ghost use Rattle.hall_http.specs.Reply.{listed_puzzle_data};
 
@@ -207,36 +186,6 @@ impl Row for ShownPuzzle {
 
     fn room(&self) -> usize {
         self.text.as_str().len().saturating_add(40)
-    }
-}
-
-impl Row for AnswerLine {
-    ghost use Rattle.hall_http.specs.Reply.{listed_answer_data};
-
-    ghost data_of = { listed_answer_data };
-
-    fn tell(&self, alloc: Global, told: &mut Telling) -> Result<(), AllocError> {
-        told.open()?;
-        told.checked_at("answer", &self.answer)?;
-        told.checked_at("entrant", &self.entrant)?;
-        told.within_at("moment", self.moment)?;
-        told.within_at("n", self.n)?;
-        told.within_at("number", self.number)?;
-        told.checked_at("token", &self.token)?;
-        end_with_verdict(alloc, told, self.verdict)
-    }
-
-    fn room(&self) -> usize {
-        let texts = self
-            .entrant
-            .as_str()
-            .len()
-            .saturating_add(self.token.as_str().len());
-        self.answer
-            .as_str()
-            .len()
-            .saturating_add(texts)
-            .saturating_add(104)
     }
 }
 

@@ -10,7 +10,7 @@ ghost use Rattle.hall_http.specs.Answered.{answer_text};
 ghost use Rattle.hall_http.specs.Replay.{IsReplayed};
 
 use crate::answer::{Answer, answer_bytes};
-use crate::device::write_all;
+use crate::device::write_parts;
 use crate::fault::{DeviceFault, ReplayFault};
 use crate::inbox::{Inbox, ReadFault};
 use crate::record::{RecordCut, cut_record};
@@ -33,7 +33,7 @@ pub(crate) fn send<W: Write>(writer: &mut Counted<W>, answer: Answer) -> Result<
         (WritesPart (W.contents writer.old.device) (W.contents writer.new.device) (answer_text answer)) }
     ensures device { OnErr result (Rises writer.old.failures writer.new.failures) }
 {
-    write_all(writer, answer.as_bytes())
+    write_parts(writer, answer.parts())
 }
 
 /// The routes, and an inbox without bytes: what a session takes before its first read.

@@ -67,7 +67,7 @@ impl Peer for Socket {
     }
 
     fn send(&mut self, bytes: &Outgoing, from: usize) -> Moved {
-        let told = match (&self.stream).write(&bytes.as_bytes()[from..]) {
+        let told = match (&self.stream).write(bytes.from(from)) {
             Ok(count) if count > 0 => {
                 self.writes = self.writes.and(bytes, &(from, count));
                 Moved::Some(count)

@@ -5,7 +5,7 @@ use Rattle.std.proofs.lemmas.List.{append-nil}
 use Rattle.std.proofs.lemmas.List.Elements.{Contains-push_cases}
 use Rattle.hall_store.specs.Store.{Content}
 use Rattle.hall_http.specs.Coming.{Heard, Nexts, since}
-use Rattle.hall_http.specs.Crowd.{AreHeard, HaveGoneSince, IsToldRightly, Past, WaitsForSearchAfter}
+use Rattle.hall_http.specs.Crowd.{AreHeard, HaveGoneSince, IsToldRightly, Past, WaitsForWorkAfter}
 use Rattle.hall_http.specs.Crowd.{heard_first, heard_other, heard_answer, heard_turn}
 use Rattle.hall_http.specs.Peer.{Traffic}
 use Rattle.hall_http.specs.Turns.{Turn}
@@ -24,7 +24,7 @@ module _ {H P : Type 0} (content : H → Content) (traffic : P → Traffic) (ove
     pub turns : List Turn
     pub later : List Turn
     pub first : some ≡ turns ++ later
-    pub rightly : IsToldRightly (WaitsForSearchAfter content over.0.0 over.0.1 all) traffic few
+    pub rightly : IsToldRightly (WaitsForWorkAfter content over.0.0 over.0.1 all) traffic few
         (HaveGoneSince traffic over.1) steps turns told
 
   -- more requests were answered since
@@ -38,7 +38,7 @@ module _ {H P : Type 0} (content : H → Content) (traffic : P → Traffic) (ove
   }
 
   heard_so : (steps : Nexts P) (some : List Turn) (heard : List Heard) (one : Heard)
-      → AreHeard (WaitsForSearchAfter content over.0.0 over.0.1 all) traffic few (HaveGoneSince traffic over.1) steps
+      → AreHeard (WaitsForWorkAfter content over.0.0 over.0.1 all) traffic few (HaveGoneSince traffic over.1) steps
       some heard → Contains heard one → IsToldAt some one.0
   heard_so steps some heard one heard_first there = absurd (none_in one there)
   heard_so steps some heard one (heard_other before turns told other quiet more) there =

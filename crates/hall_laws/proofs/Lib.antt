@@ -4,7 +4,14 @@ pub mod Bytes
 pub mod Found
 pub mod HeardSo
 pub mod Kept
+pub mod Keys
 pub mod Left
 pub mod Lived
 pub mod Ordered
+pub mod OtherKeys
+pub mod Roles
+pub mod RolesAlike
+pub mod RolesDecided
+pub mod RolesRuns
+pub mod RolesSealed
 pub mod Standing

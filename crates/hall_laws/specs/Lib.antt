@@ -2,6 +2,8 @@ pub mod Accepted
 pub mod Acknowledged
 pub mod Found
 pub mod Happened
+pub mod Keys
 pub mod Order
+pub mod Roles
 pub mod Sent
 pub mod Servings

@@ -4,7 +4,7 @@ use Rattle.hall_store.specs.Store.{Content}
 use Rattle.hall_http.specs.Coming.{Heard, Nexts, Said}
 use Rattle.hall_http.specs.Connection.{Exchange, requests_of}
 use Rattle.hall_http.specs.Crowd.{HaveGoneSince, HaveHeard, IsHereOrGone, IsToldRightly, Past}
-use Rattle.hall_http.specs.Crowd.{WaitsForSearchAfter, WasAt, traffic_past}
+use Rattle.hall_http.specs.Crowd.{WaitsForWorkAfter, WasAt, traffic_past}
 use Rattle.hall_http.specs.Peer.{IsLater, Traffic}
 use Rattle.hall_http.specs.Turns.{Turn, of}
 use Rattle.hall_http.specs.declared.client.Step.{Step}
@@ -18,14 +18,14 @@ pub record IsHeardAt {H P : Type 0} (content : H → Content) (traffic : P → T
   pub turns : List Turn
   pub later : List Turn
   pub first : all ≡ turns ++ later
-  pub rightly : IsToldRightly (WaitsForSearchAfter content over.0.0 over.0.1 all) traffic few
+  pub rightly : IsToldRightly (WaitsForWorkAfter content over.0.0 over.0.1 all) traffic few
       (HaveGoneSince traffic over.1) steps turns told
 
 -- so it was of each turn of which the sockets heard
 abbrev pub EachIsHeardSo : {H P : Type 0} → (H → Content) → (P → Traffic) → Type 0
 EachIsHeardSo {H} {P} content traffic =
     (over : (H × H) × List (Past P)) (old new : Said P) (all : List Turn) (one : Heard)
-    → (so : HaveHeard (WaitsForSearchAfter content over.0.0 over.0.1 all) traffic (HaveGoneSince traffic over.1) old new
+    → (so : HaveHeard (WaitsForWorkAfter content over.0.0 over.0.1 all) traffic (HaveGoneSince traffic over.1) old new
     all) → Contains so.0 one → IsHeardAt content traffic over old.count all one.0
 
 -- a byte of the reply to this request was sent

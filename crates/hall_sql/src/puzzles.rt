@@ -12,7 +12,7 @@ ghost use Rattle.sqlite.specs.Values.{bound};
 ghost use Rattle.hall_sql.specs.Fill.{AddsPuzzle};
 ghost use Rattle.hall_sql.specs.FillCause.{RefusesToAddPuzzle};
 ghost use Rattle.hall_sql.specs.Inside.{LeadsUncommitted, DoesInside};
-ghost use Rattle.hall_sql.specs.PuzzleText.{HasPuzzleRow};
+ghost use Rattle.hall_sql.specs.PuzzleText.{HasPuzzleRow, HasPuzzleState};
 ghost use Rattle.hall_sql.specs.Columns.{puzzle_params, HasSoMany, state_code, solution_of};
 ghost use Rattle.hall_sql.specs.Standing.{IsHall, KeptTables};
 ghost use Rattle.hall_sql.specs.Content.{MakesInTables};
@@ -281,6 +281,8 @@ fn put_state<S: Alter>(
     ensures wrote { MakesInTables (PutPuzzle (record row { state = known })) (state S.Store conn.old)
         (state S.Store conn.new)
         result }
+    ensures text { HasCleanDisk (state S.Store conn.new)
+        → OnOk result (HasPuzzleRow (record row { state = known }) (state S.Store conn.new).now) }
     ensures cause { HasCleanDisk (state S.Store conn.new) → Fails (PutPuzzleFails
         (record row { state = known }) (state S.Store conn.old) (state S.Store conn.new)) result }
 {
@@ -301,6 +303,8 @@ pub(crate) fn set_state<S: Alter>(
 ) -> Result<(), StoreFault>
     requires hall { IsHall (state S.Store conn.old) }
     ensures wrote { MakesInTables (SetState key.now known) (state S.Store conn.old) (state S.Store conn.new) result }
+    ensures text { HasCleanDisk (state S.Store conn.new) → OnOk result
+        (HasPuzzleState key.now known (state S.Store conn.old).now (state S.Store conn.new).now) }
     ensures cause { HasCleanDisk (state S.Store conn.new) → Fails (SetStateFails key.now known
         (state S.Store conn.old) (state S.Store conn.new)) result }
 {

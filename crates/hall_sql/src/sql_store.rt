@@ -559,7 +559,7 @@ impl<S: Alter + Drop> Store for SqlStore<S> {
     ghost use Rattle.hall_sql.specs.declared.answers.TheConstants.{ADD_ANSWER};
     ghost use Rattle.hall_sql.specs.declared.protests.TheConstants.{ADD_PROTEST};
     ghost use Rattle.hall_sql.specs.Columns.{answer_params, protest_params};
-    ghost use Rattle.hall_sql.specs.PuzzleText.{HasPuzzleRow};
+    ghost use Rattle.hall_sql.specs.PuzzleText.{HasPuzzleRow, HasPuzzleState};
     ghost use Rattle.hall_sql.specs.WriteCause.{ImportFails, PutPuzzleFails, PutRoundFails, RuleFails, RunFails};
     ghost use Rattle.hall_sql.specs.WriteCause.{SetFlagFails, SetStateFails};
     ghost use Rattle.hall_sql.specs.RoundPuts.{PutsRows};
@@ -594,6 +594,8 @@ impl<S: Alter + Drop> Store for SqlStore<S> {
     ) -> Result<(), StoreFault>
         ensures wrote { MakesInTables (SetState key.now known) (state S.Store self.old) (state S.Store self.new)
             result }
+        ensures text { HasCleanDisk (state S.Store self.new) → OnOk result
+            (HasPuzzleState key.now known (state S.Store self.old).now (state S.Store self.new).now) }
         ensures fault { Fails (CanRefuse (SetState key.now known) (state S.Store self.new)) result }
         ensures cause { HasCleanDisk (state S.Store self.new) → Fails
             (SetStateFails key.now known (state S.Store self.old) (state S.Store self.new)) result }

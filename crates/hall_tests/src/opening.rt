@@ -53,7 +53,7 @@ pub(crate) fn put(
     let put = request_text(rt.alloc(), key, line, body).expect(rt, "memory");
     let t = Moment::new(0).expect(rt, "moment");
     let answer = answer_bytes(rt.alloc(), routes, desk, t, put.as_bytes());
-    assert!(rt; answer.as_bytes().starts_with(b"HTTP/1.1 200 OK"), "{line}");
+    assert!(rt; answer.parts().0.starts_with(b"HTTP/1.1 200 OK"), "{line}");
 }
 
 /// A hall in ordered maps.

@@ -194,7 +194,7 @@ impl Peer for Scripted<'_> {
         if seen.waits(manner) {
             return self.noted(Call::Send, Moved::Wait);
         }
-        let bytes = &outgoing.as_bytes()[from..];
+        let bytes = outgoing.from(from);
         let left = manner.takes.saturating_sub(seen.count());
         let mut count = bytes.len();
         if count > manner.most {

@@ -51,12 +51,14 @@ fn calls_to_seed(alloc: Global, store: &mut MapStore, list: &str) -> Result<Stri
     Err(Fault::Row)
 }
 
-/// The status and the body of a reply.
-fn shown(alloc: Global, bytes: &[u8]) -> Result<String, Fault> {
-    let Ok(text) = str::from_utf8(bytes) else {
+/// The status and the body of a reply, which comes in two parts.
+fn shown(alloc: Global, parts: (&[u8], &[u8])) -> Result<String, Fault> {
+    let (Ok(front), Ok(rest)) = (str::from_utf8(parts.0), str::from_utf8(parts.1)) else {
         return Err(Fault::Row);
     };
-    let (head, body) = text.split_once("\r\n\r\n").ok_or(Fault::Row)?;
+    let mut text = String::from_str(alloc, front)?;
+    text.push_str(rest)?;
+    let (head, body) = text.as_str().split_once("\r\n\r\n").ok_or(Fault::Row)?;
     let line = head.strip_prefix("HTTP/1.1 ").ok_or(Fault::Row)?;
     let (status, _) = line.split_once(' ').ok_or(Fault::Row)?;
     Ok(format!(in alloc; "{status} {body}")?)
@@ -68,7 +70,7 @@ fn reply(alloc: Global, store: &mut MapStore, left: u64, asked: &Asked) -> Resul
     let mut desk = Desk::new(LimitedStore { store, left });
     let request = asked.request.as_bytes();
     let answer = answer_bytes(alloc, &routes, &mut desk, asked.moment, request);
-    shown(alloc, answer.as_bytes())
+    shown(alloc, answer.parts())
 }
 
 /// How many calls the request takes, and its reply: over a store that answers fewer it is answered by 503, and leaves

@@ -96,7 +96,7 @@ pub(crate) fn is_done<S: Store>(
     asked: &Asked<'_>,
 ) -> bool {
     let answer = answered(rt, routes, desk, asked);
-    answer.as_bytes().starts_with(b"HTTP/1.1 200 OK")
+    answer.parts().0.starts_with(b"HTTP/1.1 200 OK")
 }
 
 pub(crate) fn routes(rt: &(impl AllocGlobal + Abort)) -> Routes {

@@ -1,9 +1,8 @@
-use Rattle.std.proofs.Common.{None, refl, ◌∙◌}
+use Rattle.std.proofs.Common.{None}
 use Rattle.hall_store.specs.Store.{IsListing, is_between}
 use Rattle.hall_store.proofs.Slices.{slices_whole}
 use Rattle.hall_store.proofs.Feeds.{fed_now}
 use Rattle.hall_desk.specs.Lines.{IsLineAdded}
-use Rattle.hall_desk.proofs.LinesTaken.{lines_of}
 use Rattle.hall_desk.proofs.answers.list_all.Goals as goal
 
 pub returns-clause-served : goal.returns-clause-served
@@ -17,6 +16,6 @@ returns-clause-served g c = λ h.
       (
         rows,
         slices_whole _ c.args.round.now rows fed.1.1,
-        lines_of _ _ c.args.shows rows (c.new-2.ensures ∙ c.new.ensures.items) refl fed.1.2,
+        c.in_ok-end.ensures _ _ rows c.in_ok-lines.ensures fed.1.2,
       ),
     )

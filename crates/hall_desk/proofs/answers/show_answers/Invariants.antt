@@ -1,7 +1,8 @@
-use Rattle.std.proofs.Common.{◌≡◌, map, take}
-use Rattle.hall_desk.specs.Shown.{answer_line}
+use Rattle.std.proofs.Common.{drop}
+use Rattle.hall_store.proofs.Feeds.{Feeding}
+use Rattle.hall_desk.specs.Lines.{IsLineAdded}
 use Rattle.hall_desk.proofs.answers.show_answers.Given as goal
 
--- the lines so far show the rows so far
+-- the lines took the rows so far
 abbrev pub invariant-loop-row : goal.invariant-loop-row
-invariant-loop-row l = l.lines.items ≡ map (answer_line l.shows) (take l.row-index l.rows)
+invariant-loop-row l = Feeding IsLineAdded l.initial.lines l.rows (drop l.row-index l.rows) l.lines

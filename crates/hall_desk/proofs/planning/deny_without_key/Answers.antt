@@ -9,7 +9,7 @@ use Rattle.hall_desk.specs.declared.plan.Plan.{Plan}
 use Rattle.hall_desk.specs.declared.reply.Reply.TheVariants as reply
 use Rattle.hall_store.specs.declared.change.Change.TheVariants as change
 use Rattle.hall_desk.proofs.PlanLemmas.{planned}
-use Rattle.hall_desk.proofs.Telling.{caller_told, table_without_caller}
+use Rattle.hall_desk.proofs.FactsTold.{caller_told, table_without_caller}
 use Rattle.hall_desk.proofs.planning.deny_without_key.Goals as goal
 
 pub returns-clause-planned : goal.returns-clause-planned

@@ -5,8 +5,9 @@ use Rattle.hall_store.specs.declared.change.Change.TheVariants as change
 use Rattle.hall_desk.specs.Plans.{IsPlanFor}
 use Rattle.hall_desk.specs.declared.plan.Plan.{Plan}
 use Rattle.hall_desk.specs.declared.reply.Reply.TheVariants as reply
+use Rattle.hall_desk.proofs.Copied.{copies_kept}
 use Rattle.hall_desk.proofs.PlanLemmas.{planned}
-use Rattle.hall_desk.proofs.Telling.{caller_told}
+use Rattle.hall_desk.proofs.FactsTold.{caller_told}
 use Rattle.hall_desk.proofs.planning.plan_for_caller.Goals as goal
 
 pub returns-in-Some-clause-told : goal.returns-in-Some-clause-told
@@ -21,3 +22,26 @@ returns-in-Some-clause-told g c =
           (c.in-Some.ensures.some world (caller_told facts world request.action)) state.GaveUp (refl, refl) tt
           (λ _. refl) (λ allowed. absurd (cc)))),
     )
+
+pub returns-in-ReadRound-clause-copied : goal.returns-in-ReadRound-clause-copied
+returns-in-ReadRound-clause-copied g c =
+    let left = copies_kept _ _ c.args.copies.now c.plan_round.ensures.kept c.requires.copied in
+    record {
+      tables = left.tables;
+      round = c.plan_round.ensures.copied;
+      tabling = left.tabling;
+      listings = left.listings;
+    }
+
+pub returns-in-Answers-clause-copied : goal.returns-in-Answers-clause-copied
+returns-in-Answers-clause-copied g c =
+    let left = copies_kept _ _ c.args.copies.now c.plan_answers.ensures.kept c.requires.copied in
+    record {
+      tables = left.tables;
+      round = left.round;
+      tabling = left.tabling;
+      listings = c.plan_answers.ensures.listed;
+    }
+
+pub returns-in_default-clause-copied : goal.returns-in_default-clause-copied
+returns-in_default-clause-copied g c = copies_kept _ _ c.args.copies.now c.dispatch.ensures.kept c.requires.copied

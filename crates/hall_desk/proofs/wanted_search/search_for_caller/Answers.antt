@@ -3,7 +3,7 @@ use Rattle.hall_policy.specs.declared.record.Person.{Person}
 use Rattle.hall_policy.specs.declared.rule.Decision.TheVariants.{Deny}
 use Rattle.hall_store.proofs.Knowing.{carried}
 use Rattle.hall_desk.specs.Lookups.{IsCaller}
-use Rattle.hall_desk.proofs.Telling.{caller_told}
+use Rattle.hall_desk.proofs.FactsTold.{caller_told}
 use Rattle.hall_desk.proofs.Wants.{none_denied, told_asked}
 use Rattle.hall_desk.proofs.wanted_search.search_for_caller.Goals as goal
 

@@ -2,7 +2,6 @@ use Rattle.std.proofs.Common.{◌≡◌, ◌⊎◌, ◌∙◌, ℕ, List, refl, 
 use Rattle.hall_desk.specs.declared.reply.Reply.TheVariants.{Unavailable as NotServed}
 use Rattle.hall_http.specs.Reply.{BytesOf}
 use Rattle.hall_http.proofs.Stops.{leaves_turn}
-use Rattle.std.specs.String.{string_bytes}
 use Rattle.hall_desk.specs.Desk.{kept_by}
 use Rattle.hall_http.specs.Answered.{AnswersRequest, IsStepReply, answer_text}
 use Rattle.hall_http.proofs.Refusals.{unavailable_reply}
@@ -25,12 +24,12 @@ pub returns-in-Ok-clause-answers : goal.returns-in-Ok-clause-answers
 returns-in-Ok-clause-answers g c =
     let t = c.args.moment in
     let request = c.args.request.now in
-    let text = string_bytes c.in-Ok.text in
+    let text = answer_text c.in-Ok.answer in
     rw c.answer_of.ensures.text
     (λ h. over_turn (λ before after. IsStepReply before t request text after)
     (λ before after. AnswersRequest before t request text after)
-    (g.S.ReadStore.content (kept_by c.args.desk.now)) (g.S.ReadStore.content (kept_by c.step_bytes.new.desk))
-    (λ before after step. inl step) (c.in-Ok.ensures.ok h))
+    (g.S.ReadStore.content (kept_by c.args.desk.now)) (g.S.ReadStore.content (kept_by c.step_answer.new.desk))
+    (λ before after step. inl step) (c.in-Ok.ensures.ok.1 h))
 
 pub returns-in-Refused-clause-answers : goal.returns-in-Refused-clause-answers
 returns-in-Refused-clause-answers g c =
@@ -39,7 +38,7 @@ returns-in-Refused-clause-answers g c =
 
 pub returns-in-Err-clause-leads : goal.returns-in-Err-clause-leads
 returns-in-Err-clause-leads g c =
-    let mid = g.S.ReadStore.content (kept_by c.step_bytes.new.desk) in
+    let mid = g.S.ReadStore.content (kept_by c.step_answer.new.desk) in
     let new = g.S.ReadStore.content (kept_by c.unavailable-in-Err.new.desk) in
     leads_then (g.S.ReadStore.content (kept_by c.args.desk.now)) mid new c.in-Err.ensures.leads
     (kept_leads mid new c.unavailable-in-Err.ensures.kept)
@@ -81,18 +80,18 @@ returns-in-Ok-clause-goes_on g c = λ stays told.
 
 pub returns-in-Ok-clause-stops : goal.returns-in-Ok-clause-stops
 returns-in-Ok-clause-stops g c =
-    let text = string_bytes c.in-Ok.text in
+    let text = answer_text c.in-Ok.answer in
     rw c.answer_of.ensures.text (leaves_turn (λ before left. (made : List ℕ) × (made ≡ text)
     × IsStepReply before c.args.moment c.args.request.now made left)
     (λ before left. (made : List ℕ) × ((made ≡ text) ⊎ BytesOf NotServed text)
     × IsStepReply before c.args.moment c.args.request.now made left)
-    (g.S.ReadStore.content (kept_by c.args.desk.now)) (g.S.ReadStore.content (kept_by c.step_bytes.new.desk))
+    (g.S.ReadStore.content (kept_by c.args.desk.now)) (g.S.ReadStore.content (kept_by c.step_answer.new.desk))
     (λ before left it. (it.0, inl it.1, it.2)) c.in-Ok.ensures.stops)
 
 pub returns-in-Err-clause-stops : goal.returns-in-Err-clause-stops
 returns-in-Err-clause-stops g c =
     let text : List ℕ = answer_text c.unavailable-in-Err.result in
-    let mid = g.S.ReadStore.content (kept_by c.step_bytes.new.desk) in
+    let mid = g.S.ReadStore.content (kept_by c.step_answer.new.desk) in
     let kept = c.unavailable-in-Err.ensures.kept in
     let stops = leaves_turn
     (λ before left. (made : List ℕ) × Unit {0} × IsStepReply before c.args.moment c.args.request.now made left)
@@ -101,3 +100,6 @@ returns-in-Err-clause-stops g c =
     (g.S.ReadStore.content (kept_by c.args.desk.now)) mid
     (λ before left it. (it.0, inr (rw c.unavailable-in-Err.ensures.text unavailable_reply), it.2)) c.in-Err.ensures.stops in
     λ h left may. stops (kept.honest h) left (kept.stops h left may)
+
+pub answer_of-requires : goal.answer_of-requires
+answer_of-requires g c = c.in-Ok.ensures.ok.0

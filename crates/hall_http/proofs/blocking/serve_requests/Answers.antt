@@ -43,18 +43,18 @@ returns-in-Err g c =
 pub loop-connection-preserved : goal.loop-connection-preserved
 loop-connection-preserved g c = record {
   reader = c.loop-connection.invariant.reader;
-  writer = c.in-Ok-write_all.ensures.same ∙ c.loop-connection.invariant.writer;
+  writer = c.in-Ok-write_parts.ensures.same ∙ c.loop-connection.invariant.writer;
   kept = kept_written _ _ _ _ _ _ _ _ _ _ _ _ _ c.loop-connection.invariant.kept c.in-Writing.field-0 _ _
       (sym c.state.ensures ∙ c.in-Writing.is)
-      (rw c.pending.ensures at c.in-Ok-write_all.ensures.written) c.sent_all.ensures;
+      (rw c.pending.ensures at c.in-Ok-write_parts.ensures.written) c.sent_all.ensures;
 }
 
-pub returns-in-Err-write_all : goal.returns-in-Err-write_all
-returns-in-Err-write_all g c =
+pub returns-in-Err-write_parts : goal.returns-in-Err-write_parts
+returns-in-Err-write_parts g c =
     write_failed _ _ _ _ _ _ _ _ _ _ _ _ _ c.loop-connection.invariant.kept _ _ _ _ _ c.in-Writing.field-0
     (sym c.state.ensures ∙ c.in-Writing.is)
-    (rw c.pending.ensures at c.in-Err-write_all.ensures.part)
-    (c.loop-connection.invariant.reader, rw c.loop-connection.invariant.writer at c.in-Err-write_all.ensures.device)
+    (rw c.pending.ensures at c.in-Err-write_parts.ensures.part)
+    (c.loop-connection.invariant.reader, rw c.loop-connection.invariant.writer at c.in-Err-write_parts.ensures.device)
 
 pub returns-in-Ended : goal.returns-in-Ended
 returns-in-Ended g c =

@@ -1,6 +1,6 @@
 use Rattle.std.proofs.Common.{◌∙◌}
 use Rattle.hall_http.specs.Reply.{fault_data}
-use Rattle.hall_http.proofs.Tokens.{prints}
+use Rattle.hall_desk.proofs.JsonTold.{prints}
 use Rattle.hall_http.proofs.reply.fault_text.Goals as goal
 
 pub returns : goal.returns

@@ -1,4 +1,8 @@
-use Rattle.std.proofs.Common.{sym, ◌∙◌}
+use Rattle.std.proofs.Common.{sym, ◌∙◌, ◌≡◌, Some, subst}
+use Rattle.std.proofs.lemmas.Result.{on_ok_weaker}
+use Rattle.sqlite.specs.Effect.{Database}
+use Rattle.hall_sql.specs.PuzzleText.{HasPuzzleRow}
+use Rattle.hall_sql.specs.Rows.{world_of}
 use Rattle.sqlite.specs.Held.{state}
 use Rattle.hall_store.specs.declared.change.Change.TheVariants.{PutPuzzle, SetState}
 use Rattle.hall_sql.proofs.PuzzleWrites.{put_sets}
@@ -34,3 +38,18 @@ returns-in-Some-clause-cause g c =
     c.put_state.result c.puzzle.ensures.rested c.put_state.ensures.wrote.makes.leads.honest
     (λ was. let it = c.in_ok-row.ensures.served was in (it.0, sym it.1 ∙ c.in-Some.is))
     (puzzle_served (put c.in-Some.row) old mid new) c.put_state.ensures.cause
+
+pub returns-in-Some-clause-text : goal.returns-in-Some-clause-text
+returns-in-Some-clause-text g c clean =
+    let mid = state g.S.Store c.puzzle.new.conn in
+    let new = state g.S.Store c.put_state.new.conn in
+    let it = c.in_ok-row.ensures.served (c.put_state.ensures.wrote.makes.leads.honest clean) in
+    let same = c.puzzle.ensures.rested.same (c.put_state.ensures.wrote.makes.leads.honest clean) it.0 in
+    let there : get (world_of (state g.S.Store c.args.conn.now).now.trees).puzzles c.args.key.now ≡ Some c.in-Some.row =
+    subst (λ (d : Database). get (world_of d.trees).puzzles c.args.key.now ≡ Some c.in-Some.row) same
+    (sym it.1 ∙ c.in-Some.is) in
+    on_ok_weaker c.put_state.result (λ stands row found.
+    let both : Some row ≡ Some c.in-Some.row = sym found ∙ there in
+    let is : row ≡ c.in-Some.row = cc in
+    subst (λ (r : PuzzleRow). HasPuzzleRow (record r { state = c.args.known }) new.now) (sym is) stands)
+    (c.put_state.ensures.text clean)

@@ -1,4 +1,4 @@
-use Rattle.hall_desk.proofs.Telling.{certify_told}
+use Rattle.hall_desk.proofs.FactsTold.{certify_told}
 use Rattle.hall_desk.proofs.certify_puzzle.CertifyHandler.decision.Goals as goal
 
 pub returns-clause-told : goal.returns-clause-told

@@ -1,7 +1,7 @@
 use Rattle.std.proofs.Common.{◌↔◌, List, IsTrue, Contains, subst}
 use Rattle.hall_policy.specs.Rules.{Conflicts}
 use Rattle.hall_policy.specs.declared.record.Person.{Person}
-use Rattle.hall_desk.proofs.Telling.{import_told}
+use Rattle.hall_desk.proofs.FactsTold.{import_told}
 use Rattle.hall_desk.proofs.import.ImportHandler.decision.Goals as goal
 
 pub returns-clause-told : goal.returns-clause-told

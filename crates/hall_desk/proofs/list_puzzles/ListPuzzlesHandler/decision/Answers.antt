@@ -1,4 +1,4 @@
-use Rattle.hall_desk.proofs.Telling.{puzzles_list_told}
+use Rattle.hall_desk.proofs.FactsTold.{puzzles_list_told}
 use Rattle.hall_desk.proofs.list_puzzles.ListPuzzlesHandler.decision.Goals as goal
 
 pub returns-clause-told : goal.returns-clause-told

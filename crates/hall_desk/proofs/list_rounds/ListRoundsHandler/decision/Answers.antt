@@ -1,4 +1,4 @@
-use Rattle.hall_desk.proofs.Telling.{rounds_list_told}
+use Rattle.hall_desk.proofs.FactsTold.{rounds_list_told}
 use Rattle.hall_desk.proofs.list_rounds.ListRoundsHandler.decision.Goals as goal
 
 pub returns-clause-told : goal.returns-clause-told

@@ -3,7 +3,7 @@ use Rattle.hall_policy.specs.Facts.{IsRoundFound}
 use Rattle.hall_store.specs.Store.{Kept}
 use Rattle.hall_desk.specs.Handler.{IsProtestOf}
 use Rattle.hall_store.proofs.Knowing.{carried, kept_then}
-use Rattle.hall_desk.proofs.Telling.{protest_place_told, protest_token_told, protest_told}
+use Rattle.hall_desk.proofs.FactsTold.{protest_place_told, protest_token_told, protest_told}
 use Rattle.hall_desk.proofs.protest.ProtestHandler.decision.Goals as goal
 
 pub returns-in-Some-clause-told : goal.returns-in-Some-clause-told

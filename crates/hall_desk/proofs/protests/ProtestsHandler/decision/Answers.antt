@@ -1,4 +1,4 @@
-use Rattle.hall_desk.proofs.Telling.{protests_list_told}
+use Rattle.hall_desk.proofs.FactsTold.{protests_list_told}
 use Rattle.hall_desk.proofs.protests.ProtestsHandler.decision.Goals as goal
 
 pub returns-clause-told : goal.returns-clause-told

@@ -1,7 +1,7 @@
 use Rattle.std.proofs.Common.{Some}
 use Rattle.hall_policy.specs.Facts.{IsRoundFound}
 use Rattle.hall_store.proofs.Knowing.{carried}
-use Rattle.hall_desk.proofs.Telling.{ended_told, publish_told}
+use Rattle.hall_desk.proofs.FactsTold.{ended_told, publish_told}
 use Rattle.hall_desk.proofs.publish.PublishHandler.decision.Goals as goal
 
 pub returns-in-Some-clause-told : goal.returns-in-Some-clause-told

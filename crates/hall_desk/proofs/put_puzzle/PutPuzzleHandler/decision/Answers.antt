@@ -4,7 +4,7 @@ use Rattle.hall_policy.specs.Rules.{StandsReleased}
 use Rattle.hall_store.specs.Store.{Kept}
 use Rattle.hall_desk.specs.Lookups.{HasAuthor}
 use Rattle.hall_store.proofs.Knowing.{carried, kept_then}
-use Rattle.hall_desk.proofs.Telling.{author_told, release_told, put_told}
+use Rattle.hall_desk.proofs.FactsTold.{author_told, release_told, put_told}
 use Rattle.hall_desk.proofs.put_puzzle.PutPuzzleHandler.decision.Goals as goal
 
 pub returns-in-Some-clause-told : goal.returns-in-Some-clause-told

@@ -2,7 +2,7 @@ use Rattle.std.proofs.Common.{◌↔◌, IsTrue}
 use Rattle.hall_policy.specs.World.{World}
 use Rattle.hall_policy.specs.Rules.{SheetLacks}
 use Rattle.hall_store.proofs.Knowing.{carried}
-use Rattle.hall_desk.proofs.Telling.{sheet_told, replaced_told}
+use Rattle.hall_desk.proofs.FactsTold.{sheet_told, replaced_told}
 use Rattle.hall_desk.proofs.put_round.PutRoundHandler.decision.Goals as goal
 
 pub returns-in-Some-clause-told : goal.returns-in-Some-clause-told

@@ -1,4 +1,4 @@
-use Rattle.hall_desk.proofs.Telling.{puzzle_read_told}
+use Rattle.hall_desk.proofs.FactsTold.{puzzle_read_told}
 use Rattle.hall_desk.proofs.read_puzzle.ReadPuzzleHandler.decision.Goals as goal
 
 pub returns-clause-told : goal.returns-clause-told

@@ -4,7 +4,7 @@ use Rattle.hall_store.specs.Store.{Kept}
 use Rattle.hall_desk.specs.Lookups.{HasFaultyEntry}
 use Rattle.hall_desk.specs.declared.release_faults.EntryFault.TheVariants.{Shared}
 use Rattle.hall_store.proofs.Knowing.{carried, kept_then}
-use Rattle.hall_desk.proofs.Telling.{draft_told, shared_told, faults_told}
+use Rattle.hall_desk.proofs.FactsTold.{draft_told, shared_told, faults_told}
 use Rattle.hall_desk.proofs.release.ReleaseHandler.decision.Goals as goal
 
 pub returns-in-Some-clause-told : goal.returns-in-Some-clause-told

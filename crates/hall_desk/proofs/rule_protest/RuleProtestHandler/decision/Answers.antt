@@ -4,7 +4,7 @@ use Rattle.hall_policy.specs.Facts.{IsRoundFound}
 use Rattle.hall_store.specs.Store.{Kept}
 use Rattle.hall_desk.specs.Handler.{ruled_key}
 use Rattle.hall_store.proofs.Knowing.{carried, kept_then}
-use Rattle.hall_desk.proofs.Telling.{protest_there_told, rule_told}
+use Rattle.hall_desk.proofs.FactsTold.{protest_there_told, rule_told}
 use Rattle.hall_desk.proofs.rule_protest.RuleProtestHandler.decision.Goals as goal
 
 pub returns-in-Some-clause-told : goal.returns-in-Some-clause-told

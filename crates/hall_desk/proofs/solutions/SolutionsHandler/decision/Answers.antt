@@ -1,4 +1,4 @@
-use Rattle.hall_desk.proofs.Telling.{solutions_told}
+use Rattle.hall_desk.proofs.FactsTold.{solutions_told}
 use Rattle.hall_desk.proofs.solutions.SolutionsHandler.decision.Goals as goal
 
 pub returns-clause-told : goal.returns-clause-told

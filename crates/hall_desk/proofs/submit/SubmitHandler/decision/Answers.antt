@@ -3,7 +3,7 @@ use Rattle.hall_policy.specs.Facts.{IsRoundFound}
 use Rattle.hall_store.specs.Store.{Kept}
 use Rattle.hall_desk.specs.Handler.{IsAnswerOf}
 use Rattle.hall_store.proofs.Knowing.{carried, kept_then}
-use Rattle.hall_desk.proofs.Telling.{place_told, token_told, submit_told}
+use Rattle.hall_desk.proofs.FactsTold.{place_told, token_told, submit_told}
 use Rattle.hall_desk.proofs.submit.SubmitHandler.decision.Goals as goal
 
 pub returns-in-Some-clause-told : goal.returns-in-Some-clause-told

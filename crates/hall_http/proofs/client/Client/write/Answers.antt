@@ -1,5 +1,4 @@
-use Rattle.std.proofs.Common.{◌≡◌, ◌∙◌, ℕ, List, ◌-◌, ap, arith, inl, length, refl, sym}
-use Rattle.std.proofs.lemmas.Bool.{eqb-false, eqb-true}
+use Rattle.std.proofs.Common.{◌∙◌, arith, inl, refl, sym}
 use Rattle.std.proofs.lemmas.List.{append-nil, length-drop}
 use Rattle.hall_http.specs.Outgoing.{outgoing_text}
 use Rattle.hall_http.proofs.Going.{goes_sent}
@@ -9,17 +8,14 @@ use Rattle.hall_http.proofs.client.Client.write.Goals as goal
 pub send-requires-clause-from : goal.send-requires-clause-from
 send-requires-clause-from g c =
     let k = c.args.self.now.connection in
-    let some : length c.pending.result.now ≡ 0 → ⊥ = eqb-false _ _ (sym c.is_empty.ensures ∙ c.if-is_empty.false) in
-    let left : length c.pending.result.now ≡ length (outgoing_text k.reply) - k.sent =
-    ap (λ (s : List ℕ). length s) c.pending.ensures ∙ length-drop k.sent (outgoing_text k.reply) in
-    omega (arith, some, left)
+    omega (arith, c.has_sent_all.ensures.no c.if-has_sent_all.false, length-drop k.sent (outgoing_text k.reply))
 
 pub send-requires-clause-hung_up : goal.send-requires-clause-hung_up
 send-requires-clause-hung_up g c =
     may_send g.P.Peer.traffic _ _ _ _ c.requires.kept.0 c.requires.kept.1 c.requires.at.0 c.requires.at.1
 
-pub returns-then-is_empty-clause-moved : goal.returns-then-is_empty-clause-moved
-returns-then-is_empty-clause-moved g c = (
+pub returns-then-has_sent_all-clause-moved : goal.returns-then-has_sent_all-clause-moved
+returns-then-has_sent_all-clause-moved g c = (
   record {
     later = later_same _;
     kept = λ xs is.
@@ -60,8 +56,7 @@ returns-clause-moved g c = (
   tt,
 )
 
-pub returns-then-is_empty-clause-goes : goal.returns-then-is_empty-clause-goes
-returns-then-is_empty-clause-goes g c =
-    let none : length c.pending.result.now ≡ 0 = eqb-true _ _ (sym c.is_empty.ensures ∙ c.if-is_empty.true) in
+pub returns-then-has_sent_all-clause-goes : goal.returns-then-has_sent_all-clause-goes
+returns-then-has_sent_all-clause-goes g c =
     goes_sent g.P.Peer.traffic _ _ _ _ _ c.requires.at.0 c.requires.at.1
-    (sym (ap (λ (s : List ℕ). length s) c.pending.ensures) ∙ none) c.sent.ensures
+    (c.has_sent_all.ensures.yes c.if-has_sent_all.true) c.sent.ensures

@@ -1,5 +1,5 @@
 use Rattle.std.proofs.lemmas.Result.{on_ok_weaker}
-use Rattle.hall_http.proofs.Tokens.{after}
+use Rattle.hall_desk.proofs.JsonTold.{after}
 use Rattle.hall_http.proofs.row.RoundLineRow.tell.Goals as goal
 
 pub returns : goal.returns

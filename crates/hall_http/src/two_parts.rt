@@ -1,0 +1,49 @@
+//! A text in two parts.
+ghost use Rattle.std.specs.Prelude.{◌≡◌, ◌≤◌, ◌++◌, length, string_bytes};
+
+use std::marker::Model;
+
+/// A text in two parts, of which the second is kept as it was made: a long one isn't copied. A contract sees its bytes.
+#[derive(Drop)]
+pub struct TwoParts {
+    front: String,
+    rest: String,
+}
+
+impl Model for TwoParts {
+    ghost use Rattle.std.specs.Prelude.{◌≤◌, ◌++◌, ℕ, List, length, string_bytes};
+
+    ghost Value = { List ℕ };
+
+    ghost view = { λ p. string_bytes p.front ++ string_bytes p.rest };
+
+    // So that a place in it can be counted.
+    ghost invariant = { λ p. length (string_bytes p.front ++ string_bytes p.rest) ≤ 18446744073709551615 };
+}
+
+impl TwoParts {
+    /// These.
+    pub(crate) fn new(front: String, rest: String) -> TwoParts
+        requires { length (string_bytes front ++ string_bytes rest) ≤ 18446744073709551615 }
+        ensures { result ≡ string_bytes front ++ string_bytes rest }
+    {
+        TwoParts { front, rest }
+    }
+
+    /// How many bytes it has.
+    pub(crate) fn len(&self) -> usize
+        ensures { result ≡ length self.now }
+    {
+        self.front.len() + self.rest.len()
+    }
+
+    /// Both, one after the other.
+    pub(crate) fn both(&self) -> (&[u8], &[u8])
+        ensures { result.0.now ++ result.1.now ≡ self.now }
+    {
+        (
+            self.front.as_str().as_bytes(),
+            self.rest.as_str().as_bytes(),
+        )
+    }
+}
