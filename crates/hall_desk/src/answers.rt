@@ -9,7 +9,7 @@ ghost use Rattle.hall_desk.specs.Plans.{FailsIn, IsPlanFor};
 ghost use Rattle.hall_desk.specs.Shown.{is_sealed, sees_all, shows_verdict, answer_line, sees_answer};
 
 use crate::find_round::find_round;
-use crate::lines::Lines;
+use crate::lines::{Lines, ROOM};
 use crate::listing::Listings;
 use crate::plan::Plan;
 use crate::planning::RequestAt;
@@ -136,7 +136,7 @@ fn list_all<S: ReadStore>(
     ensures served { Served (S.content store.new) result
         (λ world lines. AreLinesOf world (is_in round.now) true lines) }
 {
-    let mut lines = Lines::begin(alloc, true)?;
+    let mut lines = Lines::begin(alloc, true, ROOM)?;
     store.feed_answers(alloc, round, &None, &None, &mut lines)?;
     Ok(lines.end()?)
 }
@@ -162,7 +162,7 @@ fn list_own<S: ReadStore>(
 fn show_answers(alloc: Global, rows: &[AnswerRow], shows: bool) -> Result<AnswersText, AllocError>
     ensures { IfOk result (λ lines. lines ≡ map (answer_line shows) rows.now) }
 {
-    let mut lines = Lines::begin(alloc, shows)?;
+    let mut lines = Lines::begin(alloc, shows, ROOM)?;
     for row in rows {
         lines.add(row)?;
     }

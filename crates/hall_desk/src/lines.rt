@@ -18,7 +18,7 @@ use std::alloc::{AllocError, Global};
 use std::marker::Model;
 
 /// Room for the lines of a short listing.
-const ROOM: usize = 256;
+pub(crate) const ROOM: usize = 256;
 
 /// Lines of answers, to which a store gives the rows one at a time. Each is told at once; only the text is kept.
 #[derive(Drop)]
@@ -44,11 +44,11 @@ impl Model for Lines {
 }
 
 impl Lines {
-    /// No lines yet.
-    pub(crate) fn begin(alloc: Global, shows: bool) -> Result<Lines, AllocError>
+    /// No lines yet, with room for so many bytes.
+    pub(crate) fn begin(alloc: Global, shows: bool, room: usize) -> Result<Lines, AllocError>
         ensures { IfOk result (BeginsLines shows) }
     {
-        let told = open_answers(alloc)?;
+        let told = open_answers(alloc, room)?;
         Ok(Lines {
             alloc,
             told: Some(told),
@@ -98,10 +98,10 @@ impl Sink<AnswerRow> for Lines {
 }
 
 /// Tells what stands before the lines.
-fn open_answers(alloc: Global) -> Result<Telling, AllocError>
+fn open_answers(alloc: Global, room: usize) -> Result<Telling, AllocError>
     ensures { IfOk result (λ told. told ≡ begin_object ∷ key (codes "answers") ∷ begin_array ∷ []) }
 {
-    let mut told = Telling::new(alloc, ROOM)?;
+    let mut told = Telling::new(alloc, room)?;
     told.open()?;
     told.name("answers")?;
     told.open_list()?;

@@ -15,7 +15,7 @@ ghost use Rattle.hall_desk.specs.declared.listing.Listed.{Listed};
 ghost use Rattle.hall_desk.specs.declared.preparing.Prepared.TheVariants as Prepared;
 
 use crate::find_round::find_round;
-use crate::lines::Lines;
+use crate::lines::{Lines, ROOM};
 use crate::planning::no_facts;
 use crate::preparing::Prepared;
 use crate::reply::AnswersText;
@@ -24,6 +24,9 @@ use crate::table_copy::leaves_listing;
 use hall_policy::{Decision, Facts, Key, Moment, Person, Request, RoundId, decide};
 use hall_store::{Change, ReadStore, StoreFault};
 use std::alloc::{AllocError, Global};
+
+/// Room for the lines of a long listing. What isn't written there takes no memory, and lines that come aren't copied.
+const LONG_ROOM: usize = 1 << 28;
 
 /// The lines of the round's answers by entrants up to the name, with their verdicts: whoever sees all answers sees them.
 pub(crate) type Listing = Slices<Lines>;
@@ -259,13 +262,23 @@ fn under_way(
     match listing {
         Some(listing) => Ok(listing),
         None => {
-            let taken = Lines::begin(alloc, true)?;
+            let taken = long_lines(alloc)?;
             Ok(Slices {
                 round: round.clone()?,
                 taken,
                 after: None,
             })
         }
+    }
+}
+
+/// No lines yet, with room for many where there is so much.
+fn long_lines(alloc: Global) -> Result<Lines, AllocError>
+    ensures { IfOk result (BeginsLines true) }
+{
+    match Lines::begin(alloc, true, LONG_ROOM) {
+        Ok(lines) => Ok(lines),
+        Err(_) => Lines::begin(alloc, true, ROOM),
     }
 }
 

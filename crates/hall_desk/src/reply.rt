@@ -1,5 +1,5 @@
 //! What the hall answers.
-ghost use Rattle.std.specs.Prelude.{◌≡◌, IfOk, string_bytes};
+ghost use Rattle.std.specs.Prelude.{◌≡◌, IfOk, length, string_bytes};
 ghost use Rattle.serde_json.specs.Written.{compact_text};
 ghost use Rattle.hall_desk.specs.ListedAnswers.{answers_data};
 ghost use Rattle.hall_desk.specs.Lines.{lines_of, open_tokens};
@@ -122,16 +122,17 @@ impl TableText {
     }
 }
 
-/// The text of a listing of answers; a contract sees its lines.
+/// The text of a listing of answers, as bytes; a contract sees its lines.
 #[derive(Drop)]
 pub struct AnswersText {
-    text: String,
+    bytes: Vec<u8>,
     /// The rows told, each with whether its verdict was.
     rows: Log<AnswerRow, bool>,
 }
 
 impl Model for AnswersText {
-    ghost use Rattle.std.specs.Prelude.{◌≡◌, List, string_bytes};
+    ghost use Rattle.std.specs.Prelude.{◌≡◌, List};
+    ghost use Rattle.std.specs.Str.{IsUtf8};
     ghost use Rattle.serde_json.specs.Written.{compact_text};
     ghost use Rattle.hall_desk.specs.ListedAnswers.{answers_data};
     ghost use Rattle.hall_desk.specs.Lines.{lines_of};
@@ -141,7 +142,8 @@ impl Model for AnswersText {
 
     ghost view = { λ t. lines_of t.rows.items };
 
-    ghost invariant = { λ t. string_bytes t.text ≡ compact_text (answers_data (lines_of t.rows.items)) };
+    ghost invariant = { λ t. (t.bytes.items ≡ compact_text (answers_data (lines_of t.rows.items)))
+        × IsUtf8 t.bytes.items };
 }
 
 impl AnswersText {
@@ -154,23 +156,33 @@ impl AnswersText {
         told.close_list()?;
         told.close()?;
         Ok(AnswersText {
-            text: told.into_text(),
+            bytes: told.into_bytes(),
             rows,
         })
     }
 
-    /// The text.
+    /// How many bytes it has.
+    pub fn len(&self) -> usize
+        ensures { result ≡ length (compact_text (answers_data self.now)) }
+    {
+        self.bytes.len()
+    }
+
+    /// The text. All of it is looked at.
     pub fn as_str(&self) -> &str
         ensures { result.now ≡ compact_text (answers_data self.now) }
     {
-        self.text.as_str()
+        match str::from_utf8(&self.bytes) {
+            Ok(text) => text,
+            Err(_) => unreachable!(),
+        }
     }
 
-    /// The text itself.
-    pub fn into_text(self) -> String
-        ensures { string_bytes result ≡ compact_text (answers_data self) }
+    /// The bytes themselves.
+    pub fn into_bytes(self) -> Vec<u8>
+        ensures { result.items ≡ compact_text (answers_data self) }
     {
-        self.text
+        self.bytes
     }
 }
 

@@ -2,6 +2,7 @@
 ghost use Rattle.std.specs.Prelude.{◌≡◌, ◌∷◌, [], IfOk, OnOk, decimal, string_bytes};
 ghost use Rattle.json.specs.Token.{begin_object, end_object, begin_array, end_array, key, string, number, boolean};
 ghost use Rattle.json.specs.Print.{print};
+ghost use Rattle.std.specs.Str.{IsUtf8};
 ghost use Rattle.serde_json.specs.Find.{of_integer};
 ghost use Rattle.json.specs.Tree.{members_tokens};
 ghost use Rattle.serde_json.specs.Written.{members_outline, number_text};
@@ -44,11 +45,19 @@ impl Telling {
         })
     }
 
+    /// The bytes of its text.
+    pub fn into_bytes(self) -> Vec<u8>
+        ensures bytes { result.items ≡ print self }
+        ensures utf8 { IsUtf8 (print self) }
+    {
+        self.out.into_inner()
+    }
+
     /// Its text.
     pub fn into_text(self) -> String
         ensures { string_bytes result ≡ print self }
     {
-        match String::from_utf8(self.out.into_inner()) {
+        match String::from_utf8(self.into_bytes()) {
             Ok(text) => text,
             Err(_) => unreachable!(),
         }

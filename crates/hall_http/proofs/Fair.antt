@@ -1,5 +1,6 @@
 -- Nobody has two turns while another waits for one.
-use Rattle.std.proofs.Common.{◌≡◌, ◌≢◌, ◌∙◌, sym, ap, subst, refl, arith, ℕ, ◌+◌, ◌<◌, ◌≤◌, ◌==◌, inl, inr, ◌⊎◌, List, []}
+use Rattle.std.proofs.Common.{◌≡◌, ◌≢◌, ◌∙◌, sym, ap, subst, refl, arith, ℕ, ◌+◌, ◌<◌, ◌≤◌, ◌==◌, inl, inr, ◌⊎◌, List}
+use Rattle.std.proofs.Common.{[]}
 use Rattle.std.proofs.Common.{suc, zero, map, ◌∷◌, ◌++◌, length, take, append_assoc, length-append, true, false, Some}
 use Rattle.std.specs.Prelude.{All, Bool, Option, ◌||◌}
 use Rattle.std.specs.List.{AllByRecursion, IsDistinct}

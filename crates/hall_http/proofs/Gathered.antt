@@ -1,5 +1,6 @@
 -- Requests that are answered together: what is noted while they are told, one after another, is what was answered.
-use Rattle.std.proofs.Common.{◌≡◌, ◌≢◌, ◌∙◌, ap, refl, sym, subst, inl, inr, ℕ, List, [], ◌∷◌, ◌++◌, append_assoc, length}
+use Rattle.std.proofs.Common.{◌≡◌, ◌≢◌, ◌∙◌, ap, refl, sym, subst, inl, inr, ℕ, List, [], ◌∷◌, ◌++◌, append_assoc}
+use Rattle.std.proofs.Common.{length}
 use Rattle.std.proofs.Common.{arith, get_or, length-append, take, Option, Some, None}
 use Rattle.std.specs.Prelude.{All, MatchOption, map}
 use Rattle.std.proofs.lemmas.List.{append-nil, map-append}

@@ -1,5 +1,6 @@
 -- Requests that are held, and how they are answered.
-use Rattle.std.proofs.Common.{◌≡◌, ◌∙◌, sym, ap, subst, refl, arith, inl, inr, ℕ, ◌==◌, List, [], ◌∷◌, ◌++◌, append_assoc}
+use Rattle.std.proofs.Common.{◌≡◌, ◌∙◌, sym, ap, subst, refl, arith, inl, inr, ℕ, ◌==◌, List, [], ◌∷◌, ◌++◌}
+use Rattle.std.proofs.Common.{append_assoc}
 use Rattle.std.proofs.Common.{get_or, length, Option, None, Some, true, false}
 use Rattle.std.specs.Prelude.{All, Bool, cond, not, map}
 use Rattle.std.proofs.lemmas.Option.{same_Some}

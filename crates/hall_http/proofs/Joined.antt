@@ -1,5 +1,6 @@
 -- Requests that are answered together: what has joined stays planned, and what each is told in the end it is answered.
-use Rattle.std.proofs.Common.{◌≡◌, ◌⊎◌, ◌∙◌, ◌+◌, ◌≤◌, ap, sym, subst, refl, arith, inl, inr, ℕ, List, [], ◌∷◌, ◌++◌, map}
+use Rattle.std.proofs.Common.{◌≡◌, ◌⊎◌, ◌∙◌, ◌+◌, ◌≤◌, ap, sym, subst, refl, arith, inl, inr, ℕ, List, [], ◌∷◌, ◌++◌}
+use Rattle.std.proofs.Common.{map}
 use Rattle.std.specs.Prelude.{◌≢◌, All, Bool, Option, Some, None, Ok, Err, true, false}
 use Rattle.std.proofs.lemmas.List.Elements.{All-cons, All-head, All-map, All-nil, All-push, All-tail, All-weaker}
 use Rattle.hall_policy.specs.World.{World}

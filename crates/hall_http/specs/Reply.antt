@@ -1,5 +1,6 @@
 -- The replies of the hall: a status and a JSON body, as bytes.
-use Rattle.std.specs.Prelude.{◌≡◌, ◌≤◌, ⊤, ℕ, ℤ, Bool, ◌==◌, ◌++◌, List, [], map, if◌then◌else◌, Option, Some, None, codes}
+use Rattle.std.specs.Prelude.{◌≡◌, ◌≤◌, ⊤, ℕ, ℤ, Bool, ◌==◌, ◌++◌, List, [], map, if◌then◌else◌, Option, Some, None}
+use Rattle.std.specs.Prelude.{codes}
 use Rattle.std.specs.Prelude.{decimal, length}
 use Rattle.serde_json.specs.Data.{Data, null, boolean, number, string, object, array, Members, no_members}
 use Rattle.serde_json.specs.Data.{member}

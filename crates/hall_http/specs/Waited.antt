@@ -1,5 +1,6 @@
 -- For what a connection waits, and since when, by what was heard of its turns.
-use Rattle.std.specs.Prelude.{◌≡◌, ◌≢◌, ◌⊎◌, ◌≤◌, ℕ, List, ◌∷◌, ◌++◌, All, Option, Some, None, get_or, length, map, take}
+use Rattle.std.specs.Prelude.{◌≡◌, ◌≢◌, ◌⊎◌, ◌≤◌, ℕ, List, ◌∷◌, ◌++◌, All, Option, Some, None, get_or, length, map}
+use Rattle.std.specs.Prelude.{take}
 use Rattle.http_server.specs.declared.log.Log.{Log}
 use Rattle.hall_http.specs.Coming.{Heard, turns_in}
 use Rattle.hall_http.specs.Looks.{AreMore, IsHeardOut, Looks, time_by}

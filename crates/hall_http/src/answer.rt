@@ -283,7 +283,7 @@ fn reply_answer(front: String, reply: Reply) -> Answer
     ensures opened { result ≢ Answer.Shut }
 {
     match reply {
-        Reply::Answers(text) => Answer::Parts(TwoParts::new(front, text.into_text())),
+        Reply::Answers(text) => Answer::Parts(TwoParts::new(front, text.into_bytes())),
         _ => Answer::Text(front),
     }
 }

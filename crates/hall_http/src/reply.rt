@@ -50,7 +50,7 @@ pub(crate) fn front_bytes(alloc: Global, reply: &Reply) -> Result<String, AllocE
 {
     match reply {
         Reply::Answers(text) => {
-            let size = text.as_str().len();
+            let size = text.len();
             let head = head_text(alloc, Status::Ok, MediaType::Json, size)?;
             match head.len().checked_add(size) {
                 Some(_) => Ok(head),

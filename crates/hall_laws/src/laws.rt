@@ -63,8 +63,9 @@ pub fn law_order<S: ReadStore, P: Peer>()
 /// what differs, stands in no such list. The law begins anew after it, where the worlds still differ only so.
 ///
 /// Nor of a verdict (`sealed`): where two texts are exchanged in all answers to a sealed round, which is released and
-/// had none before, the replies to such a person, who stands in the hall, stay the very same in a run up to its end, but
-/// that the two are exchanged too where answers to the round are listed. Anybody may ask in that run, a director too.
+/// had none before, the replies to such a person, who stands in the hall, stay the very same in a run up to its end,
+/// but that the two are exchanged too where answers to the round are listed. Anybody may ask in that run, a director
+/// too.
 ///
 /// Of an entrant alone who has no puzzle, `puzzles` says more than `law_before_start` of `hall_desk`; `verdicts` and
 /// `sealed` say what the clauses `verdicts` and `answered` of `law_sealed` do. What `law_others` says is said of
@@ -78,8 +79,8 @@ pub fn law_roles()
 
 /// Keys are told to nobody, not even to a director. Where two worlds differ only in the keys of people, and whoever
 /// asks shows the own one in each, the replies are the same, and so are the worlds after them but for the keys
-/// (`replies`). An import alone tells more: that its list is denied, since it gives a known name another key, or a key of
-/// another person (`imports`). So it is in whole runs (`runs`), and in the bytes of their replies (`bytes`).
+/// (`replies`). An import alone tells more: that its list is denied, since it gives a known name another key, or a key
+/// of another person (`imports`). So it is in whole runs (`runs`), and in the bytes of their replies (`bytes`).
 pub fn law_keys()
     ensures replies { KeysHidden }
     ensures imports { ImportsTellConflicts }

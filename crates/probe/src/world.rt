@@ -51,14 +51,20 @@ fn calls_to_seed(alloc: Global, store: &mut MapStore, list: &str) -> Result<Stri
     Err(Fault::Row)
 }
 
-/// The status and the body of a reply, which comes in two parts.
-fn shown(alloc: Global, parts: (&[u8], &[u8])) -> Result<String, Fault> {
-    let (Ok(front), Ok(rest)) = (str::from_utf8(parts.0), str::from_utf8(parts.1)) else {
+/// Both parts of a reply.
+fn joined(alloc: Global, parts: (&[u8], &[u8])) -> Result<Vec<u8>, Fault> {
+    let mut bytes = Vec::with_capacity(alloc, parts.0.len().saturating_add(parts.1.len()))?;
+    bytes.extend_from_slice(parts.0)?;
+    bytes.extend_from_slice(parts.1)?;
+    Ok(bytes)
+}
+
+/// The status and the body of a reply.
+fn shown(alloc: Global, bytes: &[u8]) -> Result<String, Fault> {
+    let Ok(text) = str::from_utf8(bytes) else {
         return Err(Fault::Row);
     };
-    let mut text = String::from_str(alloc, front)?;
-    text.push_str(rest)?;
-    let (head, body) = text.as_str().split_once("\r\n\r\n").ok_or(Fault::Row)?;
+    let (head, body) = text.split_once("\r\n\r\n").ok_or(Fault::Row)?;
     let line = head.strip_prefix("HTTP/1.1 ").ok_or(Fault::Row)?;
     let (status, _) = line.split_once(' ').ok_or(Fault::Row)?;
     Ok(format!(in alloc; "{status} {body}")?)
@@ -70,7 +76,8 @@ fn reply(alloc: Global, store: &mut MapStore, left: u64, asked: &Asked) -> Resul
     let mut desk = Desk::new(LimitedStore { store, left });
     let request = asked.request.as_bytes();
     let answer = answer_bytes(alloc, &routes, &mut desk, asked.moment, request);
-    shown(alloc, answer.parts())
+    let bytes = joined(alloc, answer.parts())?;
+    shown(alloc, bytes.as_slice())
 }
 
 /// How many calls the request takes, and its reply: over a store that answers fewer it is answered by 503, and leaves

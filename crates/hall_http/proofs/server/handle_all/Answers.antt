@@ -5,7 +5,8 @@ use Rattle.hall_http.specs.Turns.{service_of}
 use Rattle.hall_http.specs.declared.clients.Departure.TheVariants as departure
 use Rattle.hall_http.specs.declared.server.Next.TheVariants as next
 use Rattle.hall_http.specs.declared.server.ServeAllEnd.TheVariants as end
-use Rattle.hall_http.proofs.Comings.{counted_since, counted_turn, done_all, done_answer, done_last, done_start, done_step}
+use Rattle.hall_http.proofs.Comings.{counted_since, counted_turn, done_all, done_answer, done_last, done_start}
+use Rattle.hall_http.proofs.Comings.{done_step}
 use Rattle.hall_http.proofs.Comings.{heard_one, heard_still, same_count, since_more, since_none}
 use Rattle.hall_http.proofs.Heard.{handled_admits, handled_answer, handled_keeps, handled_none, handled_same}
 use Rattle.hall_http.proofs.Heard.{handled_turn, may_rest, stand_first}
@@ -13,7 +14,8 @@ use Rattle.hall_http.proofs.Holdings.{AreHeldSo, so_answer, so_comes, so_first, 
 use Rattle.hall_http.proofs.Ready.{left_ready, ready_held, ready_there, ready_without}
 use Rattle.hall_http.proofs.Became.{loses_passes, onward, passes_none, receives_passes}
 use Rattle.hall_http.proofs.Rested.{rests_still}
-use Rattle.hall_http.proofs.SoFar.{grows_none, keeps_all, loses_grows, loses_none, receives_grows, said_comes, said_gone}
+use Rattle.hall_http.proofs.SoFar.{grows_none, keeps_all, loses_grows, loses_none, receives_grows, said_comes}
+use Rattle.hall_http.proofs.SoFar.{said_gone}
 use Rattle.hall_http.proofs.SoFar.{said_none, said_still, said_turn, still_same, turn_said}
 use Rattle.hall_http.proofs.server.handle_all.Goals as goal
 use Rattle.hall_http.proofs.server.handle_all.Goals.{in-Newcomer, in-Turn, in-Answer+else-not-answer_held, in-Gone}

@@ -1,7 +1,9 @@
 use Rattle.std.proofs.Common.{◌≡◌, ◌∙◌, ◌≤◌, ℕ, arith, subst, sym, Some}
 use Rattle.std.proofs.lemmas.Option.{same_Some}
 use Rattle.hall_http.proofs.Room.{first_of_all, none_sooner, one_until, up_to}
-use Rattle.hall_http.proofs.event_loop.Schedule.first_to_go.Goals.{in-Some+then-until-first, in_default, in_default-via-in-None-1, in_default-via-in-Some+else-until-first}
+use Rattle.hall_http.proofs.event_loop.Schedule.first_to_go.Goals.{in-Some+then-until-first, in_default}
+use Rattle.hall_http.proofs.event_loop.Schedule.first_to_go.Goals.{in_default-via-in-None-1}
+use Rattle.hall_http.proofs.event_loop.Schedule.first_to_go.Goals.{in_default-via-in-Some+else-until-first}
 use Rattle.hall_http.proofs.event_loop.Schedule.first_to_go.Goals as goal
 
 pub loop-place-preserved : goal.loop-place-preserved

@@ -5,7 +5,8 @@ use Rattle.hall_http.specs.Queue.{ComeBehind}
 use Rattle.hall_http.proofs.Fair.{behind_then}
 use Rattle.hall_http.proofs.Looked.{all_told, all_told_before}
 use Rattle.hall_http.proofs.Waited.{asked_then}
-use Rattle.hall_http.proofs.event_loop.Schedule.poll_once.Goals.{then-not-tells_all+in_ok-hear_all, else-not-tells_all+else-not-is_quiet}
+use Rattle.hall_http.proofs.event_loop.Schedule.poll_once.Goals.{then-not-tells_all+in_ok-hear_all}
+use Rattle.hall_http.proofs.event_loop.Schedule.poll_once.Goals.{else-not-tells_all+else-not-is_quiet}
 use Rattle.hall_http.proofs.event_loop.Schedule.poll_once.Goals as goal
 
 pub invariant_of-self-2 : goal.invariant_of-self-2
