@@ -17,6 +17,6 @@ pub use deduce::{Deduce, Finding, Look, Pass, settle, sweep};
 pub use explore::search;
 pub use outcome::Outcome;
 pub use partial::{Mark, Partial};
-pub use paused::{Search, Searching, search_by_turns};
+pub use paused::{Search, Searching};
 pub use rules::{Rules, Step};
-pub use searched::{Searched, Visits, search_counted};
+pub use searched::{Searched, Visits};

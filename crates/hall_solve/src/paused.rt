@@ -1,8 +1,6 @@
 //! A search that pauses, and goes on from there.
-ghost use Rattle.std.specs.Prelude.{◌≡◌, ◌≤◌, ◌<◌, ◌+◌, IfOk};
+ghost use Rattle.std.specs.Prelude.{◌≡◌, ◌≤◌, ◌+◌, IfOk};
 ghost use Rattle.hall_solve.specs.Question.{IsPartial, IsSameQuestion, plain_tree, open_places};
-ghost use Rattle.hall_solve.specs.Answer.{OutcomeOf, fewest_visits};
-ghost use Rattle.hall_solve.specs.Searched.{visits_made, outcome_of, visits_of, IsSpent};
 ghost use Rattle.hall_solve.specs.Paused.{started_at, budget_of, IsSearchAt, HasGoneOn};
 
 use crate::explore::{Progress, Walk, begin, go_on};
@@ -91,41 +89,6 @@ impl Search {
                 budget,
                 walk,
             })),
-        }
-    }
-}
-
-/// Searches as [`search_counted`](crate::search_counted) does, with a pause after each so many visits.
-pub fn search_by_turns<R: Rules>(
-    alloc: Global,
-    rules: &mut R,
-    start: Partial,
-    budget: u64,
-    most: u64,
-) -> Result<Searched, AllocError>
-    requires fresh { R.visits rules.old ≡ 0 }
-    requires not_asked { R.asked rules.old ≡ 0 }
-    requires start { IsPartial (R.question rules.old) start.places }
-    requires most { 0 < most }
-    ensures outcome { IfOk result
-        (λ searched. OutcomeOf (R.question rules.old) start.places budget (outcome_of searched)) }
-
-    // How many visits it made.
-    ensures counted { IfOk result (λ searched. visits_made (visits_of searched) ≡ R.visits rules.new) }
-    ensures spent { IfOk result (IsSpent budget) }
-    ensures took { IfOk result (λ searched. fewest_visits (outcome_of searched) ≤ R.visits rules.new) }
-    ensures frugal { IfOk result
-        (λ _. R.visits rules.new ≤ plain_tree (R.question rules.old).values (open_places start.places)) }
-    ensures within { R.visits rules.new ≤ budget }
-    ensures at_visits { R.asked rules.new ≤ R.visits rules.new }
-
-    ensures same { IsSameQuestion (R.question rules.old) (R.question rules.new) }
-{
-    let mut search = Search::new(alloc, rules, start, budget)?;
-    'turns: loop {
-        match search.go_on(alloc, rules, most)? {
-            Searching::Ended(searched) => return Ok(searched),
-            Searching::Paused(paused) => search = paused,
         }
     }
 }

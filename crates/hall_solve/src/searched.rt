@@ -1,14 +1,8 @@
-//! A search that tells how many visits it made.
-ghost use Rattle.std.specs.Prelude.{◌≡◌, ◌≤◌, IfOk};
-ghost use Rattle.hall_solve.specs.Question.{IsPartial, IsSameQuestion, plain_tree, open_places};
-ghost use Rattle.hall_solve.specs.Answer.{OutcomeOf, fewest_visits};
-ghost use Rattle.hall_solve.specs.Searched.{visits_made, outcome_of, visits_of, IsSpent};
+//! What a search found, and how many visits it made.
+ghost use Rattle.std.specs.Prelude.{◌≡◌};
+ghost use Rattle.hall_solve.specs.Searched.{visits_made, outcome_of, visits_of};
 
-use crate::explore::search;
 use crate::outcome::Outcome;
-use crate::partial::Partial;
-use crate::rules::Rules;
-use std::alloc::{AllocError, Global};
 
 /// How many visits a search made. A search alone makes one of these, so who has one has searched.
 #[derive(Clone, Copy)]
@@ -58,32 +52,4 @@ impl Searched {
     {
         self.visits
     }
-}
-
-/// Searches as [`search`] does, and tells the visits.
-pub fn search_counted<R: Rules>(
-    alloc: Global,
-    rules: &mut R,
-    start: &Partial,
-    budget: u64,
-) -> Result<Searched, AllocError>
-    requires fresh { R.visits rules.old ≡ 0 }
-    requires not_asked { R.asked rules.old ≡ 0 }
-    requires start { IsPartial (R.question rules.old) start.now.places }
-    ensures outcome { IfOk result
-        (λ searched. OutcomeOf (R.question rules.old) start.now.places budget (outcome_of searched)) }
-
-    // How many visits it made.
-    ensures counted { IfOk result (λ searched. visits_made (visits_of searched) ≡ R.visits rules.new) }
-    ensures spent { IfOk result (IsSpent budget) }
-    ensures took { IfOk result (λ searched. fewest_visits (outcome_of searched) ≤ R.visits rules.new) }
-    ensures frugal { IfOk result
-        (λ _. R.visits rules.new ≤ plain_tree (R.question rules.old).values (open_places start.now.places)) }
-    ensures within { R.visits rules.new ≤ budget }
-    ensures at_visits { R.asked rules.new ≤ R.visits rules.new }
-
-    ensures same { IsSameQuestion (R.question rules.old) (R.question rules.new) }
-{
-    let outcome = search(alloc, rules, start, budget)?;
-    Ok(Searched::of(outcome, rules.visits()))
 }
