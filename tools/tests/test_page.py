@@ -12,8 +12,8 @@ import pytest
 NEEDED = {"chromium": "/usr/bin/chromium", "chromium-driver": "/usr/bin/chromedriver", "haproxy": "/usr/sbin/haproxy"}
 # Each is a module of page_tests with trial(program, pictures); the longest first.
 TRIALS = ("course", "hands", "troubles", "slips", "firefox", "webkit", "eyes", "helps", "languages", "reader",
-          "offline", "narrow", "texts", "tabs", "files", "mends", "staff_author", "staff_director", "staff_referee",
-          "broken")
+          "offline", "narrow", "still", "texts", "tabs", "files", "mends", "staff_author", "staff_director",
+          "staff_referee", "broken")
 
 
 @pytest.fixture

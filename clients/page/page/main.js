@@ -182,8 +182,9 @@ const KEPT = `${phrase("kept")} `;
 let fromStore = "";
 app.addEventListener("kept", () => {
   fromStore = KEPT;
-  if (!banner.textContent) banner.textContent = KEPT;
-  else if (!banner.textContent.startsWith(KEPT)) banner.prepend(KEPT);
+  const told = banner.querySelector("span");
+  if (!told) banner.replaceChildren(html("span", {}, KEPT));
+  else if (!told.textContent.startsWith(KEPT)) told.prepend(KEPT);
 });
 network.addEventListener("well", () => {
   fromStore = "";
@@ -195,7 +196,7 @@ network.addEventListener("trouble", ({ detail: { status, again } }) => {
     html("button", { class: "quiet", onclick: () => network.dispatchEvent(new Event("now")) }, phrase("tryNow")));
 });
 keeping.addEventListener("trouble", ({ detail }) => {
-  store.textContent = phrase(detail === "short" ? "storeShort" : "storeShut");
+  store.replaceChildren(html("span", {}, phrase(detail === "short" ? "storeShort" : "storeShut")));
 });
 
 // --- Ctrl+P prints a round, a puzzle a page

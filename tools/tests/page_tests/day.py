@@ -182,15 +182,19 @@ def open_puzzle(day, who, number):
 
 
 def draw(day, at, number, but=0):
-    """Draws the solution: a loop by clicks, walls by drags, numbers by keys; and leaves so many places out."""
+    """Draws the solution: a loop by clicks, walls by drags, numbers by keys; and leaves so many places out. What was
+    missed is told here, and not drawn again: the page had shown something else than it took."""
     text, answer = day.puzzles[number - 1]
     if number == 3:
         for row in range(9):
             at.keys(*(key for sign in answer[9 * row:9 * row + 9] for key in (sign, RIGHT)), DOWN, *[LEFT] * 8)
         return
-    runs = [[it] for it in drawn.sides(text, answer)[but:]] if number == 1 else drawn.runs(
-        drawn.walls(text, answer)[but:])
+    ink, places = (".line", drawn.sides(text, answer)) if number == 1 else (".wall", drawn.walls(text, answer))
+    runs = [[it] for it in places[but:]] if number == 1 else drawn.runs(places[but:])
     at.drags([spots(at, run) for run in runs])
+    wanted = len(places) - but
+    there = until(lambda: at.count(f".board {ink}") == wanted, 10)
+    holds(f"{NAMES[number]}: {wanted} places were clicked, and so many are drawn", there, at.count(f".board {ink}"))
 
 
 def told(day, at, who, number, right):
