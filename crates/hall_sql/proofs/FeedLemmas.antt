@@ -2,6 +2,7 @@
 use Rattle.std.proofs.Common.{◌≡◌, ◌⊎◌, inl, inr, ℕ, List, [], ◌∷◌, ◌++◌, map, flat_map, false, Option, Some, None}
 use Rattle.std.proofs.Common.{Result, Ok, Err, IfOk, IsTrue, option_to_list, refl, sym, ap, subst, ◌∙◌, arith}
 use Rattle.std.proofs.lemmas.Grind.{flat_map-append}
+use Rattle.std.proofs.lemmas.List.{map-append}
 use Rattle.std.specs.Result.{IsErrAnd}
 use Rattle.sqlite_trees.specs.declared.store.Store.{Ghosts}
 use Rattle.sqlite.specs.declared.types.Value.TheVariants.{Null}
@@ -22,11 +23,11 @@ use Rattle.hall_policy.specs.World.{World}
 use Rattle.hall_policy.specs.Sink.{HasTaken}
 use Rattle.hall_store.specs.Store.{Fed}
 use Rattle.sqlite.specs.Schema.{Schema}
-use Rattle.hall_sql.specs.Tables.{IsHallSchema}
+use Rattle.hall_sql.specs.Tables.{IsHallSchema, IsLike}
 use Rattle.hall_sql.proofs.Wordings.{Wording, hall_in, worded}
 use Rattle.hall_sql.specs.Rows.{world_of}
 use Rattle.hall_sql.specs.Statements.{plain_query}
-use Rattle.hall_sql.specs.Standing.{AreAllKeyed, IsHall, KeptOrRolledBack, KeptTables, IsSelection}
+use Rattle.hall_sql.specs.Standing.{AreAllKeyed, IsHall, IsTabled, KeptOrRolledBack, KeptTables, IsSelection}
 use Rattle.hall_sql.specs.Content.{content_of}
 use Rattle.hall_sql.specs.Feed.{HasRead, AreAll, AreFirst, FedRows}
 use Rattle.hall_sql.specs.Whole.{AreRecords}
@@ -75,9 +76,12 @@ begun_open g sql params old new (inr h) = shown_was_open sql params (state g old
 
 -- ---- what the sink has taken
 
-mapped_more : {A B : Type 0} (f : A → B) (xs : List A) (x : A) → map f (xs ++ x ∷ []) ≡ map f xs ++ f x ∷ []
-mapped_more f [] x = refl
-mapped_more f (y ∷ xs) x = ap (λ l. f y ∷ l) (mapped_more f xs x)
+-- one row more that is read as a record
+pub reads_more : {X : Type 0} (read : Row → Option X) (rows : List Row) (row : Row) (taken : List X) (x : X)
+    → map read rows ≡ map Some taken → read row ≡ Some x → map read (rows ++ row ∷ []) ≡ map Some (taken ++ x ∷ [])
+reads_more read rows row taken x so is =
+    map-append read rows (row ∷ []) ∙ ap (λ l. l ++ read row ∷ []) so ∙ ap (λ o. map Some taken ++ o ∷ []) is
+    ∙ sym (map-append Some taken (x ∷ []))
 
 pub taken_more : {K X : Type 0} (Takes : K → X → K → Type 0) (a b c : K) (xs : List X) (x : X) → HasTaken Takes a xs b
     → Takes b x c → HasTaken Takes a (xs ++ x ∷ []) c
@@ -86,8 +90,8 @@ taken_more Takes a b c (y ∷ xs) x more t = (more.0, more.1, taken_more Takes m
 
 module _ {S X : Type 0} (g : Ghosts S) (read : Row → Option X) (sql : List ℕ) (params : Row) where
   -- a query that has begun has given no row
-  pub read_none : (old new : Held S) → ((schema : Schema) → IsHallSchema schema → IsPlain (understood schema sql))
-      → IsHall (state g old)
+  pub read_none : {schema : Schema} (old new : Held S)
+      → ((found : Schema) → IsLike schema found → IsPlain (understood found sql)) → IsTabled schema (state g old)
       → HasCleanDisk (state g old) → HasBegun g sql params old new → HasRead g read sql params (state g old) new []
   read_none old new plain hall clean begun =
       let has = (hall.settled clean (begun_open g sql params old new begun)).1 in
@@ -102,14 +106,12 @@ module _ {S X : Type 0} (g : Ghosts S) (read : Row → Option X) (sql : List ℕ
       same = unchanged_then first (state g old) (state g new) so.same same;
       rows = so.rows ++ row ∷ [];
       given = advances sql params so.rows so.given;
-      reads = mapped_more read so.rows row ∙ ap (λ l. l ++ read row ∷ []) so.reads
-          ∙ ap (λ o. map Some taken ++ o ∷ []) is ∙ sym (mapped_more Some taken x);
+      reads = reads_more read so.rows row taken x so.reads is;
     }
 
     -- there is no row more
-    pub read_all : ((schema : Schema) → IsHallSchema schema → IsPlain (understood schema sql)) → IsHall first
-        → HasCleanDisk first → Advances g old new None
-        → AreAll read sql params first (state g new) taken
+    pub read_all : {schema : Schema} → ((found : Schema) → IsLike schema found → IsPlain (understood found sql))
+        → IsTabled schema first → HasCleanDisk first → Advances g old new None → AreAll read sql params first (state g new) taken
     read_all plain hall clean advances =
         let has = (hall.settled clean so.same.0.was_open).1 in
         record {

@@ -1,5 +1,6 @@
 pub mod Selections
 pub mod LastLemmas
+pub mod LookedLemmas
 pub mod CallLemmas
 pub mod CauseLemmas
 pub mod WriteCauseLemmas

@@ -8,11 +8,11 @@ use Rattle.sqlite.specs.Order.{Row}
 use Rattle.sqlite.specs.State.{State, HasCleanDisk, IsUnchanged, Begins, Shown}
 use Rattle.sqlite.proofs.Callers.{given_begin, unchanged_then}
 use Rattle.hall_policy.specs.Sink.{HasTaken}
-use Rattle.hall_sql.specs.Asked.{IsAsked}
+use Rattle.hall_sql.specs.Asked.{IsAsked, IsAskedIn}
 use Rattle.hall_sql.specs.Cause.{FeedFails, ReadFails}
 use Rattle.hall_sql.specs.Feed.{HasRead, StepFails}
-use Rattle.hall_sql.specs.Standing.{IsHall, LeadsConnection}
-use Rattle.hall_sql.specs.Tables.{IsHallSchema}
+use Rattle.hall_sql.specs.Standing.{IsOver, LeadsConnection}
+use Rattle.hall_sql.specs.Tables.{IsHallSchema, IsLike}
 use Rattle.hall_sql.proofs.AskedLemmas.{open_cause}
 use Rattle.hall_sql.proofs.CallLemmas.{shown_unchanged}
 use Rattle.hall_sql.proofs.FeedLemmas.{shown_since}
@@ -56,20 +56,20 @@ begins_at sql params a b rows same h = (
 -- a row that is not given, after those that the sink has taken
 pub feed_cause : {S K X : Type 0} (g : Ghosts S) (read : Row → Option X) (Takes : K → X → K → Type 0)
     (Refuses : K → X → Type 0) (sql : List ℕ)
-    (params : Row) → IsAsked sql params → (old : State) → IsHall old → (h next : Held S) (before sink : K)
+    (params : Row) (old : State) → IsOver (IsAskedIn sql params) old → (h next : Held S) (before sink : K)
     → LeadsConnection old (state g h)
     → HasCleanDisk (state g h) → LeadsConnection (state g h) (state g next) → (taken : List X)
     → HasTaken Takes before taken sink
     → HasRead g read sql params old h taken → StepFails g read Refuses h next sink
     → FeedFails read Takes Refuses sql params old (state g next) before sink
-feed_cause g read Takes Refuses sql params asks old hall h next before sink lasts clean more taken took so (inl it) =
+feed_cause g read Takes Refuses sql params old over h next before sink lasts clean more taken took so (inl it) =
     let was : HasCleanDisk old = omega (arith, lasts.clean, clean) in
-    let has : IsHallSchema (state g h).now.schema = subst (λ (d : Database). IsHallSchema d.schema)
-    (sym so.same.0.now_is) (hall.settled was so.same.0.was_open).1 in
+    let has : IsLike over.schema (state g h).now.schema = subst (λ (d : Database). IsLike over.schema d.schema)
+    (sym so.same.0.now_is) (over.tabled.settled was so.same.0.was_open).1 in
     inl (cause_over old (state g h) (state g next) lasts clean more
-    (open_cause sql params (state g h) (state g next) it.0 (asks (state g h).now.schema has)
-    (lasts.limit ∙ hall.unlimited) it.1 refl (it.2 sql params so.rows so.given)))
-feed_cause g read Takes Refuses sql params asks old hall h next before sink lasts clean more taken took so (inr it) =
+    (open_cause sql params (state g h) (state g next) it.0 (over.fits (state g h).now.schema has)
+    (lasts.limit ∙ over.tabled.unlimited) it.1 refl (it.2 sql params so.rows so.given)))
+feed_cause g read Takes Refuses sql params old over h next before sink lasts clean more taken took so (inr it) =
     let row = it.1 in
     let same = unchanged_then old (state g h) (state g next) so.same it.0 in
     inr (record {

@@ -1,5 +1,5 @@
 -- Rows that are given to a sink one after another.
-use Rattle.std.specs.Prelude.{◌≡◌, ◌≢◌, ◌⊎◌, ℕ, Bool, true, false, List, [], map, Option, Some, None}
+use Rattle.std.specs.Prelude.{◌≡◌, ◌≢◌, ◌⊎◌, ◌++◌, ◌∷◌, ℕ, Bool, true, false, List, [], map, Option, Some, None}
 use Rattle.std.specs.Prelude.{Result, Ok, Err, IsTrue}
 use Rattle.sqlite_trees.specs.declared.store.Store.{Ghosts}
 use Rattle.sqlite.specs.declared.error.Error.{Error}
@@ -75,3 +75,13 @@ FedRows {S} {K} {X} g read Takes sql params old new before (Ok done) after =
 FedRows {S} {K} {X} g read Takes sql params old new before (Err fault) after =
     (taken : List X) × HasTaken Takes before taken after
     × ((taken ≡ []) ⊎ (HasCleanDisk new → AreFirst g read sql params old taken))
+
+-- ---- what looks at all rows
+
+-- the rows that were noted
+abbrev pub looked_at : List (Row × Unit {0}) → List Row
+looked_at noted = map (λ (it : Row × Unit {0}). it.0) noted
+
+-- the row stands behind those before
+abbrev pub IsAdded : List Row → Row → List Row → Type 0
+IsAdded before row after = after ≡ before ++ row ∷ []

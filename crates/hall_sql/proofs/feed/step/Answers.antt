@@ -1,24 +1,11 @@
-use Rattle.std.proofs.Common.{inl, inr, sym, subst}
+use Rattle.std.proofs.Common.{inr, sym, subst}
 use Rattle.sqlite.specs.Given.{Advances}
 use Rattle.hall_sql.proofs.CauseLemmas.{fails_as}
 use Rattle.hall_sql.proofs.feed.step.Goals as goal
-
-pub returns-in_err-from_row-clause-cause : goal.returns-in_err-from_row-clause-cause
-returns-in_err-from_row-clause-cause g c clean =
-    let moves = subst (Advances g.S.Store c.args.rows.now.conn.now c.advance.new.self.conn.now) (sym c.in-Some.ensures)
-    (c.in_default.ensures.ok clean) in
-    fails_as c.from_residual.result _ _ c.from_residual.ensures.1 (λ failed.
-    inr (c.in_default.ensures.same clean, c.in-Some.row.now, moves, inl (c.in_err-from_row.ensures.unread failed)))
 
 pub returns-in_err-give-clause-cause : goal.returns-in_err-give-clause-cause
 returns-in_err-give-clause-cause g c clean =
     let moves = subst (Advances g.S.Store c.args.rows.now.conn.now c.advance.new.self.conn.now) (sym c.in-Some.ensures)
     (c.in_default.ensures.ok clean) in
-    fails_as c.from_residual-in_err-give.result _ _ c.from_residual-in_err-give.ensures.1 (λ failed.
-    inr (
-      c.in_default.ensures.same clean,
-      c.in-Some.row.now,
-      moves,
-      inr
-          (c.in_ok-from_row.field-0, c.in_ok-from_row.ensures.one, c.in_err-give.ensures.refused failed),
-    ))
+    fails_as c.from_residual.result _ _ c.from_residual.ensures.1 (λ failed.
+    inr (c.in_default.ensures.same clean, c.in-Some.row.now, moves, c.in_err-give.ensures.refused failed))
