@@ -1,27 +1,30 @@
 //! The rows of the tables that are no record, by their rowids, and the tables that take no more rows.
-ghost use Rattle.std.specs.Prelude.{◌≡◌, ◌↔◌, ◌++◌, IsTrue, IfOk, IfSome, OnOk, [], ◌∷◌, true, false, None};
-ghost use Rattle.std.specs.Prelude.{is_some, map};
+ghost use Rattle.std.specs.Prelude.{◌≡◌, ◌≢◌, ◌↔◌, ◌++◌, IsTrue, IfOk, OnOk, OnErr, [], ◌∷◌, if◌then◌else◌, false, None};
+ghost use Rattle.std.specs.Prelude.{is_some};
 ghost use Rattle.sqlite.specs.declared.types.Value.TheVariants.{Int};
 ghost use Rattle.sqlite.specs.Held.{state};
 ghost use Rattle.sqlite.specs.State.{HasCleanDisk};
 ghost use Rattle.sqlite_value.specs.Order.{column};
 ghost use Rattle.hall_store.specs.Store.{Fails};
 ghost use Rattle.hall_sql.specs.Asked.{IsAskedIn};
-ghost use Rattle.hall_sql.specs.BadRows.{AreBadIn, AreFoundBad, AreNone, AreToldBad, HasTables, IsRoomLeft, last_rowid};
-ghost use Rattle.hall_sql.specs.BadRows.{no_records, rowid_in};
+ghost use Rattle.hall_sql.specs.BadRows.{AreBadIn, AreFoundBad, AreNone, AreTold, AreToldBad, HasTables, last_rowid};
+ghost use Rattle.hall_sql.specs.BadRows.{rowid_in};
 ghost use Rattle.hall_sql.specs.Cause.{IsAnyUnread, IsStoreCause, ReadFails};
 ghost use Rattle.hall_sql.specs.Standing.{IsOver, KeptAnyTables};
 ghost use Rattle.hall_sql.specs.Versions.{HasTable};
 ghost use Rattle.hall_sql.specs.declared.tables.HallTable.TheVariants.{People, Puzzles, Rounds, Places, Answers};
 ghost use Rattle.hall_sql.specs.declared.tables.HallTable.TheVariants.{Protests, Testers};
 
-use crate::calls::{ask, fault_of};
+use crate::calls::fault_of;
+use crate::feed::{Give, feed_any};
 use crate::record::{Place, Record, Tester};
 use crate::tables::HallTable;
 use hall_policy::{AnswerRow, Person, ProtestRow, PuzzleRow, Round};
 use hall_store::StoreFault;
+use http_server::Log;
 use sqlite::{Alter, Connection, Row};
 use std::alloc::Global;
+use std::marker::{Model, PhantomData};
 
 /// The rowids of those rows of a table that are no record, and whether a row has the greatest rowid that there is, so
 /// that none can be added.
@@ -57,95 +60,171 @@ const PROTESTS_ROWS: &str = concat!(
 
 const TESTERS_ROWS: &str = "SELECT round, name, rowid FROM testers ORDER BY rowid";
 
-/// The rowid in the column, where the columns before it are no record of this kind.
-fn rowid_if_bad<T: Record + Drop>(
-    alloc: Global,
-    row: &Row,
-    at: usize,
-) -> Result<Option<i64>, StoreFault>
-    ensures bad { IfOk result (λ found. IfSome found
-        (λ id. (T.Record.read row.now ≡ None) × (column row.now at ≡ Int id))) }
-    ensures good { IfOk result (λ found. found ≡ None → is_some (T.Record.read row.now) ≡ true) }
-    ensures unread { Fails (rowid_in at row.now ≡ None) result }
-{
-    match T::from_row(alloc, row) {
-        Ok(_record) => Ok(None),
-        Err(StoreFault::Failed) => match row.get::<i64>(at) {
-            Ok(id) => Ok(Some(id)),
-            Err(error) => Err(fault_of(&error)),
-        },
-        Err(fault) => Err(fault),
-    }
-}
-
-/// The rowids of the rows that are no record of this kind.
-fn bad_among<T: Record + Drop>(
-    alloc: Global,
-    rows: &[Row],
-    at: usize,
-) -> Result<Vec<i64>, StoreFault>
-    ensures bad { IfOk result (λ ids.
-        map Int ids.items ≡ map (λ row. column row at) (no_records T.Record.read rows.now)) }
-    ensures unread { Fails (IsAnyUnread (rowid_in at) rows.now) result }
-{
-    let mut ids = Vec::new(alloc);
-    for row in rows {
-        if let Some(id) = rowid_if_bad::<T>(alloc, row, at)? {
-            if ids.push(id).is_err() {
-                return Err(StoreFault::Memory);
-            }
-        }
-    }
-    Ok(ids)
-}
-
-/// Whether the rowid in the column is the greatest that there is.
-fn is_last(row: &Row, at: usize) -> Result<bool, StoreFault>
-    ensures last { IfOk result (λ last. IsTrue last ↔ (column row.now at ≡ Int last_rowid)) }
+/// The rowid in the column.
+fn rowid_at(row: &Row, at: usize) -> Result<i64, StoreFault>
+    ensures id { IfOk result (λ id. column row.now at ≡ Int id) }
     ensures unread { Fails (rowid_in at row.now ≡ None) result }
 {
     match row.get::<i64>(at) {
-        Ok(id) => Ok(id == i64::MAX),
+        Ok(id) => Ok(id),
         Err(error) => Err(fault_of(&error)),
     }
 }
 
-/// Whether one of the rows has that rowid in the column.
-fn is_full(rows: &[Row], at: usize) -> Result<bool, StoreFault>
-    ensures full { IfOk result (λ full. (full ≡ false) ↔ IsRoomLeft at rows.now) }
-    ensures unread { Fails (IsAnyUnread (rowid_in at) rows.now) result }
+/// Whether the columns are a record of this kind.
+fn is_record<T: Record + Drop>(alloc: Global, row: &Row) -> Result<bool, StoreFault>
+    ensures is { IfOk result (λ is. is ≡ is_some (T.Record.read row.now)) }
+    ensures cause { Fails ⊥ result }
 {
-    for row in rows {
-        if is_last(row, at)? {
-            return Ok(true);
+    match T::from_row(alloc, row) {
+        Ok(_record) => Ok(true),
+        Err(StoreFault::Failed) => Ok(false),
+        Err(fault) => Err(fault),
+    }
+}
+
+/// The rowid behind those before, but for that of a record.
+fn add_bad(ids: &mut Vec<i64>, id: i64, is_record: bool) -> Result<(), StoreFault>
+    ensures added { OnOk result (ids.new.items ≡ ids.old.items ++ (if is_record then [] else id ∷ [])) }
+    ensures same { OnErr result (ids.new.items ≡ ids.old.items) }
+    ensures cause { Fails ⊥ result }
+{
+    if !is_record && ids.push(id).is_err() {
+        return Err(StoreFault::Memory);
+    }
+    Ok(())
+}
+
+/// Whether the table is full with one row more, of this rowid.
+fn is_full_with(was_full: bool, id: i64) -> bool
+    ensures { (result ≡ false) ↔ (was_full ≡ false) × (id ≢ last_rowid) }
+{
+    was_full || id == i64::MAX
+}
+
+/// What is told of rows that show their rowids in the column `AT`; a contract sees the rows.
+#[derive(Drop)]
+struct Told<T: Record, const AT: usize> {
+    rowids: Vec<i64>,
+    is_full: bool,
+    is_any_unread: bool,
+    rows: Log<Row, ()>,
+    kind: PhantomData<T>,
+}
+
+impl<T: Record, const AT: usize> Model for Told<T, AT> {
+    ghost use Rattle.std.specs.Prelude.{List};
+    ghost use Rattle.sqlite.specs.Order.{Row as Columns};
+    ghost use Rattle.hall_sql.specs.BadRows.{AreTold};
+    ghost use Rattle.hall_sql.specs.Feed.{looked_at};
+
+    ghost Value = { List Columns };
+
+    ghost view = { λ t. looked_at t.rows.items };
+
+    ghost invariant = { λ t.
+        AreTold T.Record.read AT (looked_at t.rows.items) t.is_any_unread t.rowids.items t.is_full };
+}
+
+impl<T: Record + Drop, const AT: usize> Told<T, AT> {
+    /// Nothing yet.
+    fn new(alloc: Global) -> Told<T, AT>
+        ensures { result ≡ [] }
+    {
+        Told {
+            rowids: Vec::new(alloc),
+            is_full: false,
+            is_any_unread: false,
+            rows: Log::new(),
+            kind: PhantomData,
         }
     }
-    Ok(false)
+
+    /// One row more, with this rowid.
+    fn tell(&mut self, row: &Row, id: i64, is_record: bool) -> Result<(), StoreFault>
+        requires id { column row.now AT ≡ Int id }
+        requires is { is_record ≡ is_some (T.Record.read row.now) }
+        ensures told { OnOk result (self.new ≡ self.old ++ row.now ∷ []) }
+        ensures same { OnErr result (self.new ≡ self.old) }
+        ensures cause { Fails ⊥ result }
+    {
+        add_bad(&mut self.rowids, id, is_record)?;
+        self.is_full = is_full_with(self.is_full, id);
+        self.rows = self.rows.and(row, &());
+        Ok(())
+    }
+
+    /// A row that shows no rowid.
+    fn miss(&mut self, row: &Row)
+        requires { rowid_in AT row.now ≡ None }
+        ensures { self.new ≡ self.old ++ row.now ∷ [] }
+    {
+        self.is_any_unread = true;
+        self.rows = self.rows.and(row, &());
+    }
+
+    /// What is told of the table.
+    fn end(self, table: HallTable) -> Result<BadRows, StoreFault>
+        ensures told { IfOk result
+            (λ bad. (bad.table ≡ table) × AreTold T.Record.read AT self false bad.rowids.items bad.is_full) }
+        ensures unread { Fails (IsAnyUnread (rowid_in AT) self) result }
+    {
+        let Told {
+            rowids,
+            is_full,
+            is_any_unread,
+            ..
+        } = self;
+        if is_any_unread {
+            return Err(StoreFault::Failed);
+        }
+        Ok(BadRows {
+            table,
+            rowids,
+            is_full,
+        })
+    }
+}
+
+impl<T: Record + Drop, const AT: usize> Give<Told<T, AT>, Row> for Told<T, AT> {
+    ghost use Rattle.std.specs.Prelude.{Some};
+    ghost use Rattle.hall_sql.specs.Feed.{IsAdded};
+
+    ghost read = { Some };
+
+    ghost takes = { IsAdded };
+
+    ghost refuses = { λ _ _. ⊥ };
+
+    fn give(told: &mut Told<T, AT>, alloc: Global, row: &Row) -> Result<(), StoreFault> {
+        match rowid_at(row, AT) {
+            Ok(id) => told.tell(row, id, is_record::<T>(alloc, row)?),
+            Err(StoreFault::Failed) => {
+                told.miss(row);
+                Ok(())
+            }
+            Err(fault) => Err(fault),
+        }
+    }
 }
 
 /// What is told of those rows of the query that are no record of this kind, and of its rowids.
-fn bad_in<S: Alter, T: Record + Drop>(
+fn bad_in<S: Alter, T: Record + Drop, const AT: usize>(
     conn: &mut Connection<S>,
     alloc: Global,
     table: HallTable,
     sql: &str,
-    at: usize,
 ) -> Result<BadRows, StoreFault>
     requires asks { IsOver (IsAskedIn sql.now []) (state S.Store conn.old) }
     ensures rested { KeptAnyTables (state S.Store conn.old) (state S.Store conn.new) }
     ensures bad { HasCleanDisk (state S.Store conn.new) → IfOk result (λ bad.
-        AreBadIn T.Record.read table at sql.now (state S.Store conn.old) (state S.Store conn.new) bad) }
+        AreBadIn T.Record.read table AT sql.now (state S.Store conn.old) (state S.Store conn.new) bad) }
     ensures cause { HasCleanDisk (state S.Store conn.new) → Fails
-        (ReadFails (rowid_in at) sql.now [] (state S.Store conn.old) (state S.Store conn.new)) result }
+        (ReadFails (rowid_in AT) sql.now [] (state S.Store conn.old) (state S.Store conn.new)) result }
 {
-    let rows = ask(conn, sql, &[])?;
-    let is_full = is_full(&rows, at)?;
-    let rowids = bad_among::<T>(alloc, &rows, at)?;
-    Ok(BadRows {
-        table,
-        rowids,
-        is_full,
-    })
+    let mut told = Told::<T, AT>::new(alloc);
+    feed_any::<S, Told<T, AT>, Row, Told<T, AT>>(conn, alloc, sql, &[], &mut told)?;
+    told.end(table)
 }
 
 /// What is told of the table of people.
@@ -157,7 +236,7 @@ fn bad_people<S: Alter>(conn: &mut Connection<S>, alloc: Global) -> Result<BadRo
     ensures cause { HasCleanDisk (state S.Store conn.new)
         → Fails (IsStoreCause (state S.Store conn.old) (state S.Store conn.new)) result }
 {
-    bad_in::<S, Person>(conn, alloc, HallTable::People, PEOPLE_ROWS, 3)
+    bad_in::<S, Person, 3>(conn, alloc, HallTable::People, PEOPLE_ROWS)
 }
 
 /// What is told of the table of puzzles.
@@ -169,7 +248,7 @@ fn bad_puzzles<S: Alter>(conn: &mut Connection<S>, alloc: Global) -> Result<BadR
     ensures cause { HasCleanDisk (state S.Store conn.new)
         → Fails (IsStoreCause (state S.Store conn.old) (state S.Store conn.new)) result }
 {
-    bad_in::<S, PuzzleRow>(conn, alloc, HallTable::Puzzles, PUZZLES_ROWS, 5)
+    bad_in::<S, PuzzleRow, 5>(conn, alloc, HallTable::Puzzles, PUZZLES_ROWS)
 }
 
 /// What is told of the table of rounds.
@@ -181,7 +260,7 @@ fn bad_rounds<S: Alter>(conn: &mut Connection<S>, alloc: Global) -> Result<BadRo
     ensures cause { HasCleanDisk (state S.Store conn.new)
         → Fails (IsStoreCause (state S.Store conn.old) (state S.Store conn.new)) result }
 {
-    bad_in::<S, Round>(conn, alloc, HallTable::Rounds, ROUNDS_ROWS, 10)
+    bad_in::<S, Round, 10>(conn, alloc, HallTable::Rounds, ROUNDS_ROWS)
 }
 
 /// What is told of the table of places of rounds.
@@ -193,7 +272,7 @@ fn bad_places<S: Alter>(conn: &mut Connection<S>, alloc: Global) -> Result<BadRo
     ensures cause { HasCleanDisk (state S.Store conn.new)
         → Fails (IsStoreCause (state S.Store conn.old) (state S.Store conn.new)) result }
 {
-    bad_in::<S, Place>(conn, alloc, HallTable::Places, PLACES_ROWS, 5)
+    bad_in::<S, Place, 5>(conn, alloc, HallTable::Places, PLACES_ROWS)
 }
 
 /// What is told of the table of answers.
@@ -205,7 +284,7 @@ fn bad_answers<S: Alter>(conn: &mut Connection<S>, alloc: Global) -> Result<BadR
     ensures cause { HasCleanDisk (state S.Store conn.new)
         → Fails (IsStoreCause (state S.Store conn.old) (state S.Store conn.new)) result }
 {
-    bad_in::<S, AnswerRow>(conn, alloc, HallTable::Answers, ANSWERS_ROWS, 8)
+    bad_in::<S, AnswerRow, 8>(conn, alloc, HallTable::Answers, ANSWERS_ROWS)
 }
 
 /// What is told of the table of protests.
@@ -217,7 +296,7 @@ fn bad_protests<S: Alter>(conn: &mut Connection<S>, alloc: Global) -> Result<Bad
     ensures cause { HasCleanDisk (state S.Store conn.new)
         → Fails (IsStoreCause (state S.Store conn.old) (state S.Store conn.new)) result }
 {
-    bad_in::<S, ProtestRow>(conn, alloc, HallTable::Protests, PROTESTS_ROWS, 7)
+    bad_in::<S, ProtestRow, 7>(conn, alloc, HallTable::Protests, PROTESTS_ROWS)
 }
 
 /// What is told of the table of testers.
@@ -229,7 +308,7 @@ fn bad_testers<S: Alter>(conn: &mut Connection<S>, alloc: Global) -> Result<BadR
     ensures cause { HasCleanDisk (state S.Store conn.new)
         → Fails (IsStoreCause (state S.Store conn.old) (state S.Store conn.new)) result }
 {
-    bad_in::<S, Tester>(conn, alloc, HallTable::Testers, TESTERS_ROWS, 2)
+    bad_in::<S, Tester, 2>(conn, alloc, HallTable::Testers, TESTERS_ROWS)
 }
 
 /// What is told of the table.

@@ -1,52 +1,36 @@
-use Rattle.std.proofs.Common.{inl, inr, [], arith}
+use Rattle.std.proofs.Common.{inl, inr, []}
+use Rattle.std.proofs.lemmas.Result.{IfOk-weaker, IfErr-weaker}
 use Rattle.sqlite.specs.Held.{state}
-use Rattle.sqlite.specs.State.{HasCleanDisk}
-use Rattle.hall_sql.proofs.AskedLemmas.{asked_cause}
 use Rattle.hall_sql.proofs.CauseLemmas.{fails_as}
-use Rattle.hall_sql.proofs.ShowsNothing.{asked_quiet}
+use Rattle.hall_sql.proofs.LookedLemmas.{all_looked, only_store}
 use Rattle.hall_sql.proofs.bad_rows.bad_in.Goals as goal
 
-pub ask-requires : goal.ask-requires
-ask-requires g c =
-    let over = c.requires.asks in
-    record {
-      plain = record {
-        schema = over.schema;
-        tabled = over.tabled;
-        fits = λ found like.
-            (over.fits found like).plain;
-      };
-      quiet = asked_quiet c.args.sql.now [] over.fits;
-    }
-
-pub returns-in_err-rows-clause-cause : goal.returns-in_err-rows-clause-cause
-returns-in_err-rows-clause-cause g c clean =
-    let old = state g.S.Store c.args.conn.now in
-    let over = c.requires.asks in
-    let was : HasCleanDisk old = omega (
-      arith,
-      (c.ask.ensures.rested over.schema over.tabled).follows.lasts.clean,
-      clean,
-    ) in
+pub returns-in_err-feed_any-clause-cause : goal.returns-in_err-feed_any-clause-cause
+returns-in_err-feed_any-clause-cause g c clean =
     fails_as c.from_residual.result _ _ c.from_residual.ensures.1 (λ failed.
-    let it = c.in_err-rows.ensures.cause clean failed in
-    inl (asked_cause c.args.sql.now [] old (state g.S.Store c.ask.new.conn) it.0 over.fits
-    over.tabled was it.1 it.2))
+    inl (only_store c.args.sql.now [] (state g.S.Store c.args.conn.now) (state g.S.Store c.feed_any.new.conn) _ _
+    (c.in_err-feed_any.ensures.cause clean failed)))
 
-pub returns-in_err-is_full-clause-cause : goal.returns-in_err-is_full-clause-cause
-returns-in_err-is_full-clause-cause g c clean =
-    fails_as c.from_residual-in_err-is_full.result _ _ c.from_residual-in_err-is_full.ensures.1 (λ failed.
-    inr (
-      c.in_ok-rows.rows.items,
-      c.in_ok-rows.ensures.shown clean,
-      rw c.deref.ensures.value at (c.in_err-is_full.ensures.unread failed),
-    ))
+pub returns-clause-bad : goal.returns-clause-bad
+returns-clause-bad g c clean =
+    let old = state g.S.Store c.args.conn.now in
+    let new = state g.S.Store c.feed_any.new.conn in
+    let it = all_looked c.args.sql.now [] old new g.S.Store c.feed_any.new.taker
+    (rw c.new-told.ensures at c.in_ok-feed_any.ensures.fed) clean in
+    IfOk-weaker c.end.result _ _ (λ bad told. record {
+      serves = it.0;
+      which = told.0;
+      rows = c.feed_any.new.taker;
+      shown = it.2;
+      are = told.1.0;
+      room = told.1.1;
+    }) c.end.ensures.told
 
-pub returns-in_err-rowids-clause-cause : goal.returns-in_err-rowids-clause-cause
-returns-in_err-rowids-clause-cause g c clean =
-    fails_as c.from_residual-in_err-rowids.result _ _ c.from_residual-in_err-rowids.ensures.1 (λ failed.
-    inr (
-      c.in_ok-rows.rows.items,
-      c.in_ok-rows.ensures.shown clean,
-      rw c.deref-2.ensures.value at (c.in_err-rowids.ensures.unread failed),
-    ))
+pub returns-clause-cause : goal.returns-clause-cause
+returns-clause-cause g c clean =
+    let old = state g.S.Store c.args.conn.now in
+    let new = state g.S.Store c.feed_any.new.conn in
+    let it = all_looked c.args.sql.now [] old new g.S.Store c.feed_any.new.taker
+    (rw c.new-told.ensures at c.in_ok-feed_any.ensures.fed) clean in
+    IfErr-weaker c.end.result _ _ (λ fault unread failed. inr (c.feed_any.new.taker, it.2, unread failed))
+    c.end.ensures.unread

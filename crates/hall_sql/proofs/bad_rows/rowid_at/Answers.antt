@@ -1,5 +1,5 @@
 use Rattle.hall_sql.proofs.UnreadLemmas.{unread_int}
-use Rattle.hall_sql.proofs.bad_rows.is_last.Goals as goal
+use Rattle.hall_sql.proofs.bad_rows.rowid_at.Goals as goal
 
 pub returns-in-Err-clause-unread : goal.returns-in-Err-clause-unread
 returns-in-Err-clause-unread c failed =
