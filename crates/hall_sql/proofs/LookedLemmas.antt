@@ -1,6 +1,7 @@
 -- What looks at all rows of an answer, one after another.
-use Rattle.std.proofs.Common.{◌≡◌, ◌≢◌, ◌↔◌, inl, inr, ℕ, ℤ, List, [], ◌∷◌, ◌++◌, map, Bool, true, false, Option, Some, None, IsTrue}
-use Rattle.std.proofs.Common.{if◌then◌else◌, cond, not, is_some, Result, Ok, append-nil, append_assoc, refl, sym, ap, subst, ◌∙◌, arith}
+use Rattle.std.proofs.Common.{◌≡◌, ◌≢◌, ◌↔◌, inl, inr, ℕ, ℤ, List, [], ◌∷◌, ◌++◌, map, Bool, true, false, cond, not}
+use Rattle.std.proofs.Common.{◌||◌, if◌then◌else◌, Option, Some, None, is_some, IsTrue, Result, Ok, append-nil}
+use Rattle.std.proofs.Common.{append_assoc, refl, sym, ap, subst, ◌∙◌, arith}
 use Rattle.std.proofs.lemmas.List.{map-append}
 use Rattle.std.proofs.lemmas.List.Elements.{Contains-append_left, Contains-append_right, filter-append}
 use Rattle.sqlite_trees.specs.declared.store.Store.{Ghosts}
@@ -11,10 +12,9 @@ use Rattle.sqlite_value.specs.Order.{column}
 use Rattle.sqlite.specs.State.{State, HasCleanDisk, Shown}
 use Rattle.hall_policy.specs.Sink.{HasTaken}
 use Rattle.hall_store.specs.declared.fault.StoreFault.{StoreFault}
-use Rattle.hall_sql.specs.BadRows.{AreTold, IsRoomLeft, last_rowid, no_records, rowid_in}
-use Rattle.hall_sql.specs.Cause.{AreKept, FeedFails, IsAnyUnread, IsStoreCause}
-use Rattle.hall_sql.specs.Feed.{FedRows, IsAdded, looked_at}
-use Rattle.hall_sql.proofs.FeedLemmas.{reads_more}
+use Rattle.hall_sql.specs.BadRows.{AreBadAmong, IsRoomLeft, last_rowid, no_records}
+use Rattle.hall_sql.specs.Cause.{FeedFails, IsStoreCause}
+use Rattle.hall_sql.specs.Feed.{AreLooked, FedRows, IsAdded, noted}
 
 -- ---- the rows
 
@@ -52,21 +52,19 @@ module _ (sql : List ℕ) (params : Row) (old new : State) where
 
 -- ---- a row more
 
-pub looked_more : (noted : List (Row × Unit {0})) (row : Row)
-    → looked_at (noted ++ (row, tt) ∷ []) ≡ looked_at noted ++ row ∷ []
-looked_more noted row = map-append (λ (it : Row × Unit {0}). it.0) noted ((row, tt) ∷ [])
+pub noted_more : (items : List (Row × Unit {0})) (row : Row) → noted (items ++ (row, tt) ∷ []) ≡ noted items ++ row ∷ []
+noted_more items row = map-append (λ (it : Row × Unit {0}). it.0) items ((row, tt) ∷ [])
 
-module _ {X : Type 0} (read : Row → Option X) (rows : List Row) (row : Row) where
-  pub unread_before : IsAnyUnread read rows → IsAnyUnread read (rows ++ row ∷ [])
-  unread_before any = (any.0, Contains-append_left rows (row ∷ []) any.0 any.1, any.2)
-
-  pub unread_last : read row ≡ None → IsAnyUnread read (rows ++ row ∷ [])
-  unread_last none = (row, Contains-append_right rows (row ∷ []) row (0, omega arith, refl), none)
-
-  pub kept_more : (missed : Bool) (records : List X) (x : X) → AreKept read rows missed records → read row ≡ Some x
-      → AreKept read (rows ++ row ∷ []) missed (records ++ x ∷ [])
-  kept_more false records x kept is = reads_more read rows row records x kept is
-  kept_more true records x any is = unread_before any
+-- of which something is told, or nothing
+pub looked_more : {C : Type 0} (Tells : List Row → C → Type 0) (IsUnread : Row → Type 0) (rows : List Row) (row : Row)
+    (missed unread : Bool) (before after : C) → AreLooked Tells IsUnread rows missed before
+    → (unread ≡ false → Tells rows before → Tells (rows ++ row ∷ []) after) → (unread ≡ true → IsUnread row)
+    → AreLooked Tells IsUnread (rows ++ row ∷ []) (missed || unread) after
+looked_more Tells IsUnread rows row true unread before after any more is =
+    (any.0, Contains-append_left rows (row ∷ []) any.0 any.1, any.2)
+looked_more Tells IsUnread rows row false false before after told more is = more refl told
+looked_more Tells IsUnread rows row false true before after told more is =
+    (row, Contains-append_right rows (row ∷ []) row (0, omega arith, refl), is refl)
 
 module _ {X : Type 0} (read : Row → Option X) (at : ℕ) (rows : List Row) (row : Row) where
   one_more : (id : ℤ) (made : Bool) → column row at ≡ Int id
@@ -92,12 +90,10 @@ module _ {X : Type 0} (read : Row → Option X) (at : ℕ) (rows : List Row) (ro
   room_more [] room = (tt, room.0)
   room_more (r ∷ left) room = let more = room_more left room.1 in ((room.0, more.0), more.1)
 
-  pub told_more : (missed : Bool) (ids : List ℤ) (full : Bool) (id : ℤ) (made after : Bool)
-      → AreTold read at rows missed ids full → column row at ≡ Int id → made ≡ is_some (read row)
-      → (after ≡ false) ↔ (full ≡ false) × (id ≢ last_rowid)
-      → AreTold read at (rows ++ row ∷ []) missed (ids ++ (if made then [] else id ∷ [])) after
-  told_more true ids full id made after any is made_is after_is = unread_before (rowid_in at) rows row any
-  told_more false ids full id made after so is made_is after_is = (
+  pub bad_more : (ids : List ℤ) (full : Bool) (id : ℤ) (made after : Bool) → AreBadAmong read at rows ids full
+      → column row at ≡ Int id → made ≡ is_some (read row) → (after ≡ false) ↔ (full ≡ false) × (id ≢ last_rowid)
+      → AreBadAmong read at (rows ++ row ∷ []) (ids ++ (if made then [] else id ∷ [])) after
+  bad_more ids full id made after so is made_is after_is = (
     ids_more ids id made so.0 is made_is,
     (
       λ none.

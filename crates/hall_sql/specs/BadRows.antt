@@ -1,5 +1,5 @@
 -- The rows of the tables that are no record, by their rowids, and the tables that take no more rows.
-use Rattle.std.specs.Prelude.{◌≡◌, ◌≢◌, ◌∷◌, ◌↔◌, Bool, true, false, ℕ, ℤ, pos, List, [], map, not, is_some, Option, IsTrue}
+use Rattle.std.specs.Prelude.{◌≡◌, ◌≢◌, ◌∷◌, ◌↔◌, Bool, false, ℕ, ℤ, pos, List, [], map, not, is_some, Option, IsTrue}
 use Rattle.std.specs.List.{AllByRecursion, AllZip, filter}
 use Rattle.std.specs.List.Sorted.{IsPermutation}
 use Rattle.sqlite.specs.declared.types.Value.TheVariants.{Int}
@@ -10,7 +10,6 @@ use Rattle.sqlite.specs.Tree.{Trees}
 use Rattle.sqlite_trees.specs.Tree.{rowid}
 use Rattle.sqlite_value.specs.Order.{column}
 use Rattle.hall_sql.specs.AllRead.{is_record}
-use Rattle.hall_sql.specs.Cause.{IsAnyUnread}
 use Rattle.hall_sql.specs.Scan.{Serves, tree_of}
 use Rattle.hall_sql.specs.Values.{int_in}
 use Rattle.hall_sql.specs.Versions.{HasTable}
@@ -37,12 +36,10 @@ IsRoomLeft at rows = AllByRecursion (λ row. column row at ≢ Int last_rowid) r
 abbrev pub HasRoom : Trees → ℕ → Type 0
 HasRoom trees tree = AllByRecursion (λ row. rowid row ≢ Int last_rowid) (trees tree)
 
--- Of the rows these numbers stand in the column where the others are no record, and it is told whether one has the
--- greatest rowid there. But where a row was told to show no rowid, one does so.
-abbrev pub AreTold : {X : Type 0} → (Row → Option X) → ℕ → List Row → Bool → List ℤ → Bool → Type 0
-AreTold read at rows false ids full =
+-- these numbers stand in a column of those rows that are no record, and whether one of all has the greatest rowid there
+abbrev pub AreBadAmong : {X : Type 0} → (Row → Option X) → ℕ → List Row → List ℤ → Bool → Type 0
+AreBadAmong read at rows ids full =
     (map Int ids ≡ map (λ row. column row at) (no_records read rows)) × ((full ≡ false) ↔ IsRoomLeft at rows)
-AreTold read at rows true ids full = IsAnyUnread (rowid_in at) rows
 
 -- the query's answer over the tables as they were, in a store that serves, has these numbers in a column of those rows
 -- that are no record of this kind; and the table is told as full where one of its numbers is the greatest rowid

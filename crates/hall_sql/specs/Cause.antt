@@ -1,5 +1,5 @@
 -- Why a read of the tables answers that it failed.
-use Rattle.std.specs.Prelude.{◌≡◌, ◌≢◌, ◌⊎◌, ◌≤◌, ◌∷◌, ◌++◌, ℕ, Bool, true, false, List, [], length, map, slice_get}
+use Rattle.std.specs.Prelude.{◌≡◌, ◌≢◌, ◌⊎◌, ◌≤◌, ◌∷◌, ◌++◌, ℕ, false, List, [], length, map, slice_get}
 use Rattle.std.specs.Prelude.{Contains, IsTrue, Option, Some, None}
 use Rattle.sqlite.specs.declared.types.Value.TheVariants.{Text}
 use Rattle.sqlite.specs.Order.{Row}
@@ -64,11 +64,6 @@ FeedFails read Takes Refuses sql params old new before after =
     IsStoreCause old new ⊎ StopsAtRow read Takes Refuses sql params old before after
 
 -- ---- what a read hands over
-
--- the rows are read as these records, but where one of them was told to be none
-abbrev pub AreKept : {X : Type 0} → (Row → Option X) → List Row → Bool → List X → Type 0
-AreKept read rows false records = map read rows ≡ map Some records
-AreKept read rows true records = IsAnyUnread read rows
 
 -- the records that the query's answer is, in a store that serves
 abbrev pub AreRead : {X : Type 0} → (Row → Option X) → List ℕ → Row → State → State → List X → Type 0

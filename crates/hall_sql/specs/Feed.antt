@@ -1,6 +1,6 @@
 -- Rows that are given to a sink one after another.
 use Rattle.std.specs.Prelude.{◌≡◌, ◌≢◌, ◌⊎◌, ◌++◌, ◌∷◌, ℕ, Bool, true, false, List, [], map, Option, Some, None}
-use Rattle.std.specs.Prelude.{Result, Ok, Err, IsTrue}
+use Rattle.std.specs.Prelude.{Result, Ok, Err, IsTrue, Contains}
 use Rattle.sqlite_trees.specs.declared.store.Store.{Ghosts}
 use Rattle.sqlite.specs.declared.error.Error.{Error}
 use Rattle.sqlite.specs.declared.error.Error.TheVariants.{SqliteFailure}
@@ -76,12 +76,30 @@ FedRows {S} {K} {X} g read Takes sql params old new before (Err fault) after =
     (taken : List X) × HasTaken Takes before taken after
     × ((taken ≡ []) ⊎ (HasCleanDisk new → AreFirst g read sql params old taken))
 
--- ---- what looks at all rows
+-- ---- what is told of all rows
 
 -- the rows that were noted
-abbrev pub looked_at : List (Row × Unit {0}) → List Row
-looked_at noted = map (λ (it : Row × Unit {0}). it.0) noted
+abbrev pub noted : List (Row × Unit {0}) → List Row
+noted items = map (λ (it : Row × Unit {0}). it.0) items
 
 -- the row stands behind those before
 abbrev pub IsAdded : List Row → Row → List Row → Type 0
 IsAdded before row after = after ≡ before ++ row ∷ []
+
+-- one of the rows is so
+abbrev pub IsAny : (Row → Type 0) → List Row → Type 0
+IsAny Is rows = (row : Row) × Contains rows row × Is row
+
+-- this is told of the rows, or there was one of which nothing can be told
+abbrev pub AreLooked : {C : Type 0} → (List Row → C → Type 0) → (Row → Type 0) → List Row → Bool → C → Type 0
+AreLooked Tells IsUnread rows false told = Tells rows told
+AreLooked Tells IsUnread rows true told = IsAny IsUnread rows
+
+-- it is told of the query's answer over the tables as they were, in a store that served and serves
+pub record IsToldOf {C : Type 0} (Tells : List Row → C → Type 0) (sql : List ℕ) (params : Row) (old new : State)
+    (told : C) : Type 0 where
+  pub serves : IsTrue new.is_open
+  pub served : IsTrue old.is_open
+  pub rows : List Row
+  pub tells : Tells rows told
+  pub shown : Shown sql params old new rows

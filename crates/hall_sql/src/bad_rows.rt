@@ -7,7 +7,7 @@ ghost use Rattle.sqlite.specs.State.{HasCleanDisk};
 ghost use Rattle.sqlite_value.specs.Order.{column};
 ghost use Rattle.hall_store.specs.Store.{Fails};
 ghost use Rattle.hall_sql.specs.Asked.{IsAskedIn};
-ghost use Rattle.hall_sql.specs.BadRows.{AreBadIn, AreFoundBad, AreNone, AreTold, AreToldBad, HasTables, last_rowid};
+ghost use Rattle.hall_sql.specs.BadRows.{AreBadIn, AreFoundBad, AreNone, AreToldBad, HasTables, last_rowid};
 ghost use Rattle.hall_sql.specs.BadRows.{rowid_in};
 ghost use Rattle.hall_sql.specs.Cause.{IsAnyUnread, IsStoreCause, ReadFails};
 ghost use Rattle.hall_sql.specs.Standing.{IsOver, KeptAnyTables};
@@ -16,15 +16,14 @@ ghost use Rattle.hall_sql.specs.declared.tables.HallTable.TheVariants.{People, P
 ghost use Rattle.hall_sql.specs.declared.tables.HallTable.TheVariants.{Protests, Testers};
 
 use crate::calls::fault_of;
-use crate::feed::{Give, feed_any};
+use crate::looks::{Tell, look};
 use crate::record::{Place, Record, Tester};
 use crate::tables::HallTable;
 use hall_policy::{AnswerRow, Person, ProtestRow, PuzzleRow, Round};
 use hall_store::StoreFault;
-use http_server::Log;
 use sqlite::{Alter, Connection, Row};
 use std::alloc::Global;
-use std::marker::{Model, PhantomData};
+use std::marker::PhantomData;
 
 /// The rowids of those rows of a table that are no record, and whether a row has the greatest rowid that there is, so
 /// that none can be added.
@@ -102,109 +101,27 @@ fn is_full_with(was_full: bool, id: i64) -> bool
     was_full || id == i64::MAX
 }
 
-/// What is told of rows that show their rowids in the column `AT`; a contract sees the rows.
+/// The rowids of those rows that are no record, and whether one has the greatest: all show it in the column `AT`.
 #[derive(Drop)]
-struct Told<T: Record, const AT: usize> {
+struct Told<T, const AT: usize> {
     rowids: Vec<i64>,
     is_full: bool,
-    is_any_unread: bool,
-    rows: Log<Row, ()>,
     kind: PhantomData<T>,
 }
 
-impl<T: Record, const AT: usize> Model for Told<T, AT> {
-    ghost use Rattle.std.specs.Prelude.{List};
-    ghost use Rattle.sqlite.specs.Order.{Row as Columns};
-    ghost use Rattle.hall_sql.specs.BadRows.{AreTold};
-    ghost use Rattle.hall_sql.specs.Feed.{looked_at};
+impl<T: Record + Drop, const AT: usize> Tell for Told<T, AT> {
+    ghost use Rattle.hall_sql.specs.BadRows.{AreBadAmong};
 
-    ghost Value = { List Columns };
+    ghost tells = { λ rows told. AreBadAmong T.Record.read AT rows told.rowids.items told.is_full };
 
-    ghost view = { λ t. looked_at t.rows.items };
+    ghost is_unread = { λ row. rowid_in AT row ≡ None };
 
-    ghost invariant = { λ t.
-        AreTold T.Record.read AT (looked_at t.rows.items) t.is_any_unread t.rowids.items t.is_full };
-}
-
-impl<T: Record + Drop, const AT: usize> Told<T, AT> {
-    /// Nothing yet.
-    fn new(alloc: Global) -> Told<T, AT>
-        ensures { result ≡ [] }
-    {
-        Told {
-            rowids: Vec::new(alloc),
-            is_full: false,
-            is_any_unread: false,
-            rows: Log::new(),
-            kind: PhantomData,
-        }
-    }
-
-    /// One row more, with this rowid.
-    fn tell(&mut self, row: &Row, id: i64, is_record: bool) -> Result<(), StoreFault>
-        requires id { column row.now AT ≡ Int id }
-        requires is { is_record ≡ is_some (T.Record.read row.now) }
-        ensures told { OnOk result (self.new ≡ self.old ++ row.now ∷ []) }
-        ensures same { OnErr result (self.new ≡ self.old) }
-        ensures cause { Fails ⊥ result }
-    {
+    fn tell(&mut self, alloc: Global, row: &Row) -> Result<(), StoreFault> {
+        let id = rowid_at(row, AT)?;
+        let is_record = is_record::<T>(alloc, row)?;
         add_bad(&mut self.rowids, id, is_record)?;
         self.is_full = is_full_with(self.is_full, id);
-        self.rows = self.rows.and(row, &());
         Ok(())
-    }
-
-    /// A row that shows no rowid.
-    fn miss(&mut self, row: &Row)
-        requires { rowid_in AT row.now ≡ None }
-        ensures { self.new ≡ self.old ++ row.now ∷ [] }
-    {
-        self.is_any_unread = true;
-        self.rows = self.rows.and(row, &());
-    }
-
-    /// What is told of the table.
-    fn end(self, table: HallTable) -> Result<BadRows, StoreFault>
-        ensures told { IfOk result
-            (λ bad. (bad.table ≡ table) × AreTold T.Record.read AT self false bad.rowids.items bad.is_full) }
-        ensures unread { Fails (IsAnyUnread (rowid_in AT) self) result }
-    {
-        let Told {
-            rowids,
-            is_full,
-            is_any_unread,
-            ..
-        } = self;
-        if is_any_unread {
-            return Err(StoreFault::Failed);
-        }
-        Ok(BadRows {
-            table,
-            rowids,
-            is_full,
-        })
-    }
-}
-
-impl<T: Record + Drop, const AT: usize> Give<Told<T, AT>, Row> for Told<T, AT> {
-    ghost use Rattle.std.specs.Prelude.{Some};
-    ghost use Rattle.hall_sql.specs.Feed.{IsAdded};
-
-    ghost read = { Some };
-
-    ghost takes = { IsAdded };
-
-    ghost refuses = { λ _ _. ⊥ };
-
-    fn give(told: &mut Told<T, AT>, alloc: Global, row: &Row) -> Result<(), StoreFault> {
-        match rowid_at(row, AT) {
-            Ok(id) => told.tell(row, id, is_record::<T>(alloc, row)?),
-            Err(StoreFault::Failed) => {
-                told.miss(row);
-                Ok(())
-            }
-            Err(fault) => Err(fault),
-        }
     }
 }
 
@@ -222,9 +139,17 @@ fn bad_in<S: Alter, T: Record + Drop, const AT: usize>(
     ensures cause { HasCleanDisk (state S.Store conn.new) → Fails
         (ReadFails (rowid_in AT) sql.now [] (state S.Store conn.old) (state S.Store conn.new)) result }
 {
-    let mut told = Told::<T, AT>::new(alloc);
-    feed_any::<S, Told<T, AT>, Row, Told<T, AT>>(conn, alloc, sql, &[], &mut told)?;
-    told.end(table)
+    let none = Told::<T, AT> {
+        rowids: Vec::new(alloc),
+        is_full: false,
+        kind: PhantomData,
+    };
+    let told = look(conn, alloc, sql, &[], none)?;
+    Ok(BadRows {
+        table,
+        rowids: told.rowids,
+        is_full: told.is_full,
+    })
 }
 
 /// What is told of the table of people.

@@ -14,6 +14,7 @@ mod file_calls;
 mod fill;
 mod given_back;
 mod laws;
+mod looks;
 mod losable;
 mod make;
 mod migration;

@@ -1,33 +1,9 @@
-use Rattle.std.proofs.lemmas.Result.{IfOk-weaker, IfErr-weaker}
-use Rattle.std.proofs.Common.{inl, inr}
-use Rattle.sqlite.specs.Values.{bound}
-use Rattle.sqlite.specs.Held.{state}
-use Rattle.hall_sql.proofs.LookedLemmas.{all_looked, only_store}
-use Rattle.hall_sql.proofs.CauseLemmas.{fails_as}
+use Rattle.std.proofs.lemmas.Result.{IfOk-weaker}
 use Rattle.hall_sql.proofs.reads.read_any.Goals as goal
-
-pub returns-in_err-feed_any-clause-cause : goal.returns-in_err-feed_any-clause-cause
-returns-in_err-feed_any-clause-cause g c clean =
-    fails_as c.from_residual.result _ _ c.from_residual.ensures.1 (λ failed.
-    inl (only_store c.args.sql.now (bound c.args.params.now) (state g.S.Store c.args.conn.now)
-    (state g.S.Store c.feed_any.new.conn) _ _ (c.in_err-feed_any.ensures.cause clean failed)))
 
 pub returns-clause-read : goal.returns-clause-read
 returns-clause-read g c clean =
-    let old = state g.S.Store c.args.conn.now in
-    let new = state g.S.Store c.feed_any.new.conn in
-    let it = all_looked c.args.sql.now (bound c.args.params.now) old new g.S.Store c.feed_any.new.taker
-    (rw c.new-kept.ensures at c.in_ok-feed_any.ensures.fed) clean in
-    IfOk-weaker c.end.result _ _ (λ records all. (
-      it.0,
-      record { served = it.1; rows = c.feed_any.new.taker; reads = all; shown = it.2 },
-    )) c.end.ensures.all
-
-pub returns-clause-cause : goal.returns-clause-cause
-returns-clause-cause g c clean =
-    let old = state g.S.Store c.args.conn.now in
-    let new = state g.S.Store c.feed_any.new.conn in
-    let it = all_looked c.args.sql.now (bound c.args.params.now) old new g.S.Store c.feed_any.new.taker
-    (rw c.new-kept.ensures at c.in_ok-feed_any.ensures.fed) clean in
-    IfErr-weaker c.end.result _ _ (λ fault unread failed. inr (c.feed_any.new.taker, it.2, unread failed))
-    c.end.ensures.unread
+    IfOk-weaker c.look.result _ _ (λ records it. (
+      it.serves,
+      record { served = it.served; rows = it.rows; reads = it.tells; shown = it.shown },
+    )) (c.look.ensures.told clean)
