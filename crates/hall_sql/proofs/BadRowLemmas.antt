@@ -246,9 +246,9 @@ module _ {Fits : Schema → Type 0} {text : List ℕ} {tree : ℕ} {project : Li
     found_bad = record {
       rows = bad;
       same = IsPermutation-filter (λ r. not (is_record tree r)) _ _ (same it.rows it.shown);
-      are = it.are ∙ ap (map (λ r. column r at)) bad_are ∙ map-map (λ r. column r at) shows bad
+      are = it.among.0 ∙ ap (map (λ r. column r at)) bad_are ∙ map-map (λ r. column r at) shows bad
           ∙ (λ i. map (λ r. ids_at r i) bad);
-      room = (λ is. room_left (it.room.0 is), λ room. it.room.1 (left_room room));
+      room = (λ is. room_left (it.among.1.0 is), λ room. it.among.1.1 (left_room room));
     }
 
   -- its rowids are integers, so that the answer shows one in each row

@@ -76,13 +76,6 @@ begun_open g sql params old new (inr h) = shown_was_open sql params (state g old
 
 -- ---- what the sink has taken
 
--- one row more that is read as a record
-pub reads_more : {X : Type 0} (read : Row → Option X) (rows : List Row) (row : Row) (taken : List X) (x : X)
-    → map read rows ≡ map Some taken → read row ≡ Some x → map read (rows ++ row ∷ []) ≡ map Some (taken ++ x ∷ [])
-reads_more read rows row taken x so is =
-    map-append read rows (row ∷ []) ∙ ap (λ l. l ++ read row ∷ []) so ∙ ap (λ o. map Some taken ++ o ∷ []) is
-    ∙ sym (map-append Some taken (x ∷ []))
-
 pub taken_more : {K X : Type 0} (Takes : K → X → K → Type 0) (a b c : K) (xs : List X) (x : X) → HasTaken Takes a xs b
     → Takes b x c → HasTaken Takes a (xs ++ x ∷ []) c
 taken_more Takes a b c [] x same t = (c, subst (λ k. Takes k x c) same t, refl)
@@ -106,12 +99,14 @@ module _ {S X : Type 0} (g : Ghosts S) (read : Row → Option X) (sql : List ℕ
       same = unchanged_then first (state g old) (state g new) so.same same;
       rows = so.rows ++ row ∷ [];
       given = advances sql params so.rows so.given;
-      reads = reads_more read so.rows row taken x so.reads is;
+      reads = map-append read so.rows (row ∷ []) ∙ ap (λ l. l ++ read row ∷ []) so.reads
+          ∙ ap (λ o. map Some taken ++ o ∷ []) is ∙ sym (map-append Some taken (x ∷ []));
     }
 
     -- there is no row more
     pub read_all : {schema : Schema} → ((found : Schema) → IsLike schema found → IsPlain (understood found sql))
-        → IsTabled schema first → HasCleanDisk first → Advances g old new None → AreAll read sql params first (state g new) taken
+        → IsTabled schema first → HasCleanDisk first → Advances g old new None
+        → AreAll read sql params first (state g new) taken
     read_all plain hall clean advances =
         let has = (hall.settled clean so.same.0.was_open).1 in
         record {

@@ -49,8 +49,7 @@ pub record AreBadIn {X : Type 0} (read : Row → Option X) (table : HallTable) (
   pub which : bad.table ≡ table
   pub rows : List Row
   pub shown : Shown sql [] old new rows
-  pub are : map Int bad.rowids.items ≡ map (λ row. column row at) (no_records read rows)
-  pub room : (bad.is_full ≡ false) ↔ IsRoomLeft at rows
+  pub among : AreBadAmong read at rows bad.rowids.items bad.is_full
 
 -- these are the rowids of all rows of the table in this tree that are no record, in some order; and it is told as full
 -- where one of its rows has the greatest rowid

@@ -4,11 +4,4 @@ use Rattle.hall_sql.proofs.bad_rows.bad_in.Goals as goal
 pub returns-clause-bad : goal.returns-clause-bad
 returns-clause-bad g c clean =
     let it = c.in_ok-told.ensures.told clean in
-    record {
-      serves = it.serves;
-      which = refl;
-      rows = it.rows;
-      shown = it.shown;
-      are = it.tells.0;
-      room = it.tells.1;
-    }
+    record { serves = it.serves; which = refl; rows = it.rows; shown = it.shown; among = it.tells }

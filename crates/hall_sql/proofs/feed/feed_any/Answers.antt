@@ -131,8 +131,8 @@ returns-in-Err-clause-cause g c clean failed =
     let held = c.query.follows.holds-at-none in
     let refused = rw c.in-Err.is at held in
     let was : HasCleanDisk old = omega (arith, refused.survives.clean, clean) in
-    inl (asked_cause c.args.sql.now (bound c.args.params.now) old new c.in-Err.error c.requires.asks.fits c.requires.asks.tabled was
-    (c.fault_of.ensures failed) (refused.err clean))
+    inl (asked_cause c.args.sql.now (bound c.args.params.now) old new c.in-Err.error c.requires.asks.fits
+    c.requires.asks.tabled was (c.fault_of.ensures failed) (refused.err clean))
 
 pub returns-in_err-step-clause-cause : goal.returns-in_err-step-clause-cause
 returns-in_err-step-clause-cause g c clean =
