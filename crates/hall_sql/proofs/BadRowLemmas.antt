@@ -31,7 +31,7 @@ use Rattle.hall_sql.specs.Cause.{IsAnyUnread, IsStoreCause, ReadFails}
 use Rattle.hall_sql.specs.Made.{all_tables, old_tables}
 use Rattle.hall_sql.specs.Rows.{answer_in, person_in, place_in, protest_in, puzzle_row_in, round_in, tester_in}
 use Rattle.hall_sql.specs.Scan.{Serves, tree_of}
-use Rattle.hall_sql.specs.Standing.{AreKeyed, AreKeyedIn, IsOver, IsSelection, KeptAnyTables, KeptTablesIn}
+use Rattle.hall_sql.specs.Standing.{AreKeyed, AreKeyedIn, IsOver, IsSelection, KeptTablesIn}
 use Rattle.hall_sql.specs.Statements.{names_of, plain_query}
 use Rattle.hall_sql.specs.Tables.{IsHallSchema, IsLike, hall_schema, old_schema}
 use Rattle.hall_sql.specs.Values.{int_in}

@@ -1,6 +1,6 @@
 -- What looks at all rows of an answer, one after another.
 use Rattle.std.proofs.Common.{◌≡◌, ◌≢◌, ◌↔◌, inl, inr, ℕ, ℤ, List, [], ◌∷◌, ◌++◌, map, Bool, true, false, cond, not}
-use Rattle.std.proofs.Common.{◌||◌, if◌then◌else◌, Option, Some, None, is_some, IsTrue, Result, Ok, append-nil}
+use Rattle.std.proofs.Common.{◌||◌, if◌then◌else◌, Option, Some, is_some, IsTrue, Ok, append-nil}
 use Rattle.std.proofs.Common.{append_assoc, refl, sym, ap, subst, ◌∙◌, arith}
 use Rattle.std.proofs.lemmas.List.{map-append}
 use Rattle.std.proofs.lemmas.List.Elements.{Contains-append_left, Contains-append_right, filter-append}

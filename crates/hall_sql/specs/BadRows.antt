@@ -1,5 +1,5 @@
 -- The rows of the tables that are no record, by their rowids, and the tables that take no more rows.
-use Rattle.std.specs.Prelude.{◌≡◌, ◌≢◌, ◌∷◌, ◌↔◌, Bool, false, ℕ, ℤ, pos, List, [], map, not, is_some, Option, IsTrue}
+use Rattle.std.specs.Prelude.{◌≡◌, ◌≢◌, ◌↔◌, Bool, false, ℕ, ℤ, pos, List, [], map, not, is_some, Option, IsTrue}
 use Rattle.std.specs.List.{AllByRecursion, AllZip, filter}
 use Rattle.std.specs.List.Sorted.{IsPermutation}
 use Rattle.sqlite.specs.declared.types.Value.TheVariants.{Int}

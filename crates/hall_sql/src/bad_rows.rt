@@ -88,7 +88,10 @@ fn add_bad(ids: &mut Vec<i64>, id: i64, is_record: bool) -> Result<(), StoreFaul
     ensures same { OnErr result (ids.new.items ≡ ids.old.items) }
     ensures cause { Fails ⊥ result }
 {
-    if !is_record && ids.push(id).is_err() {
+    if is_record {
+        return Ok(());
+    }
+    if ids.push(id).is_err() {
         return Err(StoreFault::Memory);
     }
     Ok(())

@@ -39,7 +39,8 @@ pub(crate) trait Tell {
 #[derive(Drop)]
 struct Looked<C: Tell> {
     told: C,
-    /// The rows after such a one are looked at too, since why a read fails is told of a whole answer.
+    /// Whether of one of them nothing could be told. Those after it are looked at too: why a read fails is told of a
+    /// whole answer.
     is_any_unread: bool,
     rows: Log<Row, ()>,
 }
@@ -56,7 +57,7 @@ impl<C: Tell> Model for Looked<C> {
     ghost invariant = { λ l. AreLooked C.tells C.is_unread (noted l.rows.items) l.is_any_unread l.told };
 }
 
-/// Whether of the row nothing could be told.
+/// Whether nothing could be told of a row, which is no want of memory.
 fn is_unread(told: Result<(), StoreFault>) -> Result<bool, StoreFault>
     ensures unread { IfOk result (λ unread. told ≡ (if unread then Err Failed else Ok tt)) }
     ensures other { OnErr result (told ≢ Ok tt) }
@@ -87,7 +88,7 @@ impl<C: Tell> Give<Looked<C>, Row> for Looked<C> {
     }
 }
 
-/// What is told of all rows of the query, over the tables of any schema. Nothing is told before.
+/// What is told of all rows of the query, over the tables of any schema, where `told` tells of none.
 pub(crate) fn look<S: Alter, C: Tell + Drop>(
     conn: &mut Connection<S>,
     alloc: Global,
