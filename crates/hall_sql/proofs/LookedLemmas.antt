@@ -1,5 +1,5 @@
 -- What looks at all rows of an answer, one after another.
-use Rattle.std.proofs.Common.{◌≡◌, ◌≢◌, ◌↔◌, inl, inr, ℕ, ℤ, List, [], ◌∷◌, ◌++◌, map, Bool, true, false, cond, not}
+use Rattle.std.proofs.Common.{◌≡◌, ◌≢◌, ◌↔◌, inl, inr, ℕ, ℤ, List, [], ◌∷◌, ◌++◌, map, Bool, true, false}
 use Rattle.std.proofs.Common.{◌||◌, if◌then◌else◌, Option, Some, is_some, IsTrue, Ok, append-nil}
 use Rattle.std.proofs.Common.{append_assoc, refl, sym, ap, subst, ◌∙◌, arith}
 use Rattle.std.proofs.lemmas.List.{map-append}
@@ -67,23 +67,12 @@ looked_more Tells IsUnread rows row false true before after told more is =
     (row, Contains-append_right rows (row ∷ []) row (0, omega arith, refl), is refl)
 
 module _ {X : Type 0} (read : Row → Option X) (at : ℕ) (rows : List Row) (row : Row) where
-  one_more : (id : ℤ) (made : Bool) → column row at ≡ Int id
-      → map Int (if made then [] else id ∷ []) ≡ map (λ r. column r at) (cond (not made) (row ∷ []) [])
-  one_more id true is = refl
-  one_more id false is = ap (λ v. v ∷ []) (sym is)
-
   ids_more : (ids : List ℤ) (id : ℤ) (made : Bool) → map Int ids ≡ map (λ r. column r at) (no_records read rows)
       → column row at ≡ Int id → made ≡ is_some (read row)
       → map Int (ids ++ (if made then [] else id ∷ [])) ≡ map (λ r. column r at) (no_records read (rows ++ row ∷ []))
-  ids_more ids id made so is made_is =
-      let Bad = λ (r : Row). not (is_some (read r)) in
-      let ids_of = λ (l : List Row). map (λ (r : Row). column r at) l in
-      let last = subst (λ b. map Int (if made then [] else id ∷ []) ≡ ids_of (cond (not b) (row ∷ []) [])) made_is
-      (one_more id made is) in
-      map-append Int ids (if made then [] else id ∷ []) ∙ ap (λ l. l ++ map Int (if made then [] else id ∷ [])) so
-      ∙ ap (λ l. ids_of (no_records read rows) ++ l) last
-      ∙ sym (map-append (λ (r : Row). column r at) (no_records read rows) (no_records read (row ∷ [])))
-      ∙ ap ids_of (sym (filter-append Bad rows (row ∷ [])))
+  ids_more ids id true so is made_is = simp (append-nil, filter-append, sym made_is) so
+  ids_more ids id false so is made_is =
+      simp (map-append, filter-append, sym made_is, is) (ap (λ l. l ++ Int id ∷ []) so)
 
   room_more : (left : List Row) → IsRoomLeft at (left ++ row ∷ [])
       → IsRoomLeft at left × (column row at ≢ Int last_rowid)
