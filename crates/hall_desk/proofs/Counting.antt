@@ -1,6 +1,7 @@
 -- Counts by keys, and what the sentences of a sane world count.
 use Rattle.std.proofs.Common.{◌≡◌, ◌↔◌, ◌≤◌, ◌==◌, ◌&&◌, ℕ, Bool, true, false, List, IsTrue, inl, inr, sym, ap, ◌∙◌}
 use Rattle.std.proofs.Common.{arith}
+use Rattle.std.proofs.Math.Bool.{and_assoc}
 use Rattle.std.proofs.Math.Dec.{leb}
 use Rattle.std.proofs.lemmas.Bool.Decides.{leb_tells}
 use Rattle.std.proofs.lemmas.Cmp.{nat_cmp_total}
@@ -16,22 +17,22 @@ use Rattle.hall_policy.specs.declared.record.AnswerRow.{AnswerRow}
 use Rattle.hall_policy.specs.declared.record.ProtestRow.{ProtestRow}
 use Rattle.hall_policy.proofs.Orders.{text_total, same_texts}
 use Rattle.hall_policy.proofs.Texts.{text_decides}
-use Rattle.hall_desk.specs.Groups.{to_puzzle, to_puzzle_cmp, with_number, with_number_cmp, in_round, in_round_cmp}
+use Rattle.hall_desk.specs.Groups.{to_puzzle_cmp, with_number_cmp, in_round, in_round_cmp}
 use Rattle.hall_desk.specs.Sentences.{is_numbered_alike}
 use Rattle.hall_desk.specs.Tally.{IsTally, counted_of}
 use Rattle.hall_desk.proofs.Scans.{tied}
 
--- a count by a test that answers alike
-same_count : {X : Type 0} (p q : X → Bool) → ((x : X) → p x ≡ q x) → (xs : List X) → count_by p xs ≡ count_by q xs
-same_count p q same xs = ap (λ f. count_by f xs) (λ i x. same x i)
+-- a count by a test that answers alike, among rows that are the same
+pub same_count : {X : Type 0} {rows kept : List X} (p q : X → Bool) → ((x : X) → p x ≡ q x) → kept ≡ rows
+    → count_by p rows ≡ count_by q kept
+same_count {rows} p q alike same = ap (λ f. count_by f rows) (λ i x. alike x i) ∙ ap (count_by q) (sym same)
 
 -- what was counted of a key is the count of those that tie with it
 pub counted_alike : {K X : Type 0} {rows kept : List X} (counts : List (K × ℕ)) (R : K → K → Ordering) (key_of : X → K)
     (p : X → Bool) (key : K) →
     ((x : X) → is_eq (R key (key_of x)) ≡ p x) → IsTally R key_of rows counts → kept ≡ rows
     → counted_of R counts key ≡ count_by p kept
-counted_alike {rows} counts R key_of p key ties tally same = tally key ∙ same_count (λ x. is_eq (R key (key_of x))) p
-    ties rows ∙ ap (count_by p) (sym same)
+counted_alike counts R key_of p key ties tally same = tally key ∙ same_count (λ x. is_eq (R key (key_of x))) p ties same
 
 -- whether a count is at most so much, or at least
 pub at_most : (told n most : ℕ) → told ≡ n → IsTrue (leb told most) ↔ (n ≤ most)
@@ -65,19 +66,20 @@ tied_both Equal b p q e f = f ∙ ap (λ x. x && q) e
 tied_both Greater b p q e f = ap (λ x. x && q) e
 
 -- the tests by which answers and protests are counted
-pub tied_puzzle : (row other : AnswerRow) → is_eq (to_puzzle_cmp (to_puzzle row) (to_puzzle other)) ≡
+pub tied_puzzle : (row other : AnswerRow) → is_eq (to_puzzle_cmp row other) ≡
     (same_text other.key.entrant row.key.entrant && (same_text other.key.round row.key.round &&
     (other.key.number == row.key.number)))
 tied_puzzle row other =
     tied_both _ _ _ _ (tied_text row.key.entrant other.key.entrant)
     (tied_both _ _ _ _ (tied_text row.key.round other.key.round) (tied_number row.key.number other.key.number))
 
-pub tied_numbers : (row other : AnswerRow) → is_eq (with_number_cmp (with_number row) (with_number other)) ≡
-    is_numbered_alike row other
+pub tied_numbers : (row other : AnswerRow) → is_eq (with_number_cmp row other) ≡ is_numbered_alike row other
 tied_numbers row other =
-    tied_both _ _ _ _ (tied_text row.key.entrant other.key.entrant)
-    (tied_both _ _ _ _ (tied_text row.key.round other.key.round)
-    (tied_both _ _ _ _ (tied_number row.key.number other.key.number) (tied_number row.n other.n)))
+    let entrant = same_text other.key.entrant row.key.entrant in
+    let round = same_text other.key.round row.key.round in
+    tied_both _ _ _ _ (tied_puzzle row other) (tied_number row.n other.n)
+    ∙ and_assoc entrant (round && (other.key.number == row.key.number)) (other.n == row.n)
+    ∙ ap (λ b. entrant && b) (and_assoc round (other.key.number == row.key.number) (other.n == row.n))
 
 pub tied_rounds : (row other : ProtestRow) → is_eq (in_round_cmp (in_round row) (in_round other)) ≡
     (same_text other.key.entrant row.key.entrant && same_text other.key.round row.key.round)

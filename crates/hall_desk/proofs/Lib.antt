@@ -77,6 +77,7 @@ pub mod Halving
 pub mod Dividing
 pub mod Asking
 pub mod Counting
+pub mod Ranked
 pub mod JoinLemmas
 pub mod Judging
 pub mod Standing

@@ -4,21 +4,20 @@ use Rattle.hall_policy.specs.World.{World}
 use Rattle.hall_policy.specs.declared.record.Person.{Person}
 use Rattle.hall_policy.specs.declared.record.PuzzleRow.{PuzzleRow}
 use Rattle.hall_policy.specs.declared.record.TesterKey.{TesterKey}
-use Rattle.hall_desk.specs.Groups.{to_puzzle, to_puzzle_cmp, with_number, with_number_cmp, in_round, in_round_cmp}
+use Rattle.hall_desk.specs.Groups.{AreRanked, in_round, in_round_cmp}
 use Rattle.hall_desk.specs.Tally.{IsTally}
 use Rattle.hall_desk.specs.Whole.{IsInOrder, world_of_whole}
 use Rattle.hall_desk.specs.declared.counts.Asking.{Asking}
 use Rattle.hall_desk.specs.declared.counts.Counts.{Counts}
 use Rattle.hall_desk.specs.declared.whole.Whole.{Whole}
 
--- of each key so many rows were counted as there are
+-- of each key so many rows were counted as there are; answers stand in an order, to be counted by halves
 pub record AreCounted (whole : Whole) (counts : Counts) : Type 0 where
   pub people : IsTally text_cmp (λ (row : Person). row.key) whole.people.items counts.people.entries
   pub puzzles : IsTally text_cmp (λ (row : PuzzleRow). row.key.author) whole.puzzles.items counts.puzzles.entries
   pub testers :
       IsTally text_cmp (λ (row : TesterKey × Unit {0}). row.0.round) whole.testers.items counts.testers.entries
-  pub answers : IsTally to_puzzle_cmp to_puzzle whole.answers.items counts.answers.entries
-  pub numbers : IsTally with_number_cmp with_number whole.answers.items counts.numbers.entries
+  pub answers : AreRanked whole.answers.items counts.answers.items
   pub protests : IsTally in_round_cmp in_round whole.protests.items counts.protests.entries
 
 -- the world that has the rows
@@ -27,4 +26,4 @@ asked_world asking = world_of_whole asking.whole.now
 
 -- the rows are all that their world has, and they were counted
 abbrev pub CanAsk : Asking → Type 0
-CanAsk asking = IsInOrder asking.whole.now × AreCounted asking.whole.now asking.counts.now
+CanAsk asking = IsInOrder asking.whole.now × AreCounted asking.whole.now asking.counts

@@ -27,9 +27,9 @@ impl Asked for AnswerRow {
             Sentence::AnswerReleased => Ok(whole.is_released(&key.round)),
             Sentence::MayAnswer => Ok(may_take_part(whole, &key.entrant, &key.round)),
             Sentence::VerdictTrue => is_verdict(asking.alloc, whole, self),
-            Sentence::Numbered => Ok(self.n.get() <= asking.answers_given(self)?),
-            Sentence::NumberedOnce => Ok(asking.numbered_alike(self)? <= 1),
-            Sentence::FewAnswers => Ok(asking.answers_given(self)? <= MOST_ANSWERS),
+            Sentence::Numbered => Ok(self.n.get() <= asking.answers_given(self)),
+            Sentence::NumberedOnce => Ok(asking.numbered_alike(self) <= 1),
+            Sentence::FewAnswers => Ok(asking.answers_given(self) <= MOST_ANSWERS),
             _ => Ok(true),
         }
     }

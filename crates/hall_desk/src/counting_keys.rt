@@ -1,8 +1,6 @@
 //! By what rows are counted.
 use crate::row_counts::KeyOf;
-use hall_policy::{
-    AnswerNumber, AnswerRow, Key, Name, Person, ProtestRow, PuzzleNumber, PuzzleRow, RoundId,
-};
+use hall_policy::{Key, Name, Person, ProtestRow, PuzzleRow, RoundId};
 use hall_store::Tester;
 use std::alloc::AllocError;
 
@@ -27,56 +25,6 @@ impl KeyOf<Tester> for RoundId {
 
     fn of(row: &Tester) -> Result<RoundId, AllocError> {
         row.0.round.clone()
-    }
-}
-
-/// Whose answers to which puzzle.
-#[derive(PartialEq, Eq, PartialOrd, Ord, Drop)]
-pub(crate) struct ToPuzzle {
-    pub(crate) entrant: Name,
-    pub(crate) round: RoundId,
-    pub(crate) number: PuzzleNumber,
-}
-
-impl KeyOf<AnswerRow> for ToPuzzle {
-    ghost use Rattle.hall_desk.specs.Groups.{to_puzzle};
-
-    ghost key_of = { to_puzzle };
-
-    fn of(row: &AnswerRow) -> Result<ToPuzzle, AllocError> {
-        let entrant = row.key.entrant.clone()?;
-        let round = row.key.round.clone()?;
-        Ok(ToPuzzle {
-            entrant,
-            round,
-            number: row.key.number,
-        })
-    }
-}
-
-/// Whose answers to which puzzle have which number.
-#[derive(PartialEq, Eq, PartialOrd, Ord, Drop)]
-pub(crate) struct WithNumber {
-    pub(crate) entrant: Name,
-    pub(crate) round: RoundId,
-    pub(crate) number: PuzzleNumber,
-    pub(crate) n: AnswerNumber,
-}
-
-impl KeyOf<AnswerRow> for WithNumber {
-    ghost use Rattle.hall_desk.specs.Groups.{with_number};
-
-    ghost key_of = { with_number };
-
-    fn of(row: &AnswerRow) -> Result<WithNumber, AllocError> {
-        let entrant = row.key.entrant.clone()?;
-        let round = row.key.round.clone()?;
-        Ok(WithNumber {
-            entrant,
-            round,
-            number: row.key.number,
-            n: row.n,
-        })
     }
 }
 

@@ -6,52 +6,51 @@ ghost use Rattle.hall_policy.specs.World.{same_text};
 ghost use Rattle.hall_desk.specs.Asking.{AreCounted, CanAsk, asked_world};
 ghost use Rattle.hall_desk.specs.Sentences.{is_numbered_alike};
 
-use crate::counting_keys::{InRound, ToPuzzle, WithNumber};
+use crate::counting_keys::InRound;
+use crate::ranked_answers::{number_order, puzzle_order, ranked};
 use crate::row_counts::{KeyOf, count_at, tally};
 use crate::whole::Whole;
 use hall_policy::{AnswerRow, Key, Name, ProtestRow, RoundId};
 use std::alloc::{AllocError, Global};
 use std::collections::BTreeMap;
 
-/// How many rows there are of each key.
+/// How many rows there are of each key. Of answers there is an order instead, in which those of a key are counted by
+/// halves: maps would hold two copies of each one's texts.
 #[derive(Drop)]
-pub(crate) struct Counts {
+pub(crate) struct Counts<'a> {
     people: BTreeMap<Key, u64>,
     puzzles: BTreeMap<Name, u64>,
     testers: BTreeMap<RoundId, u64>,
-    answers: BTreeMap<ToPuzzle, u64>,
-    numbers: BTreeMap<WithNumber, u64>,
+    answers: Vec<&'a AnswerRow>,
     protests: BTreeMap<InRound, u64>,
 }
 
-impl Counts {
+impl<'a> Counts<'a> {
     /// How many of the rows there are of each key.
-    pub(crate) fn of(alloc: Global, whole: &Whole) -> Result<Counts, AllocError>
+    pub(crate) fn of(alloc: Global, whole: &'a Whole) -> Result<Counts<'a>, AllocError>
         ensures { IfOk result (AreCounted whole.now) }
     {
         let people = tally(alloc, whole.people.as_slice())?;
         let puzzles = tally(alloc, whole.puzzles.as_slice())?;
         let testers = tally(alloc, whole.testers.as_slice())?;
-        let answers = tally(alloc, whole.answers.as_slice())?;
-        let numbers = tally(alloc, whole.answers.as_slice())?;
+        let answers = ranked(alloc, whole.answers.as_slice())?;
         let protests = tally(alloc, whole.protests.as_slice())?;
         Ok(Counts {
             people,
             puzzles,
             testers,
             answers,
-            numbers,
             protests,
         })
     }
 }
 
 /// All rows, and their counts.
-#[derive(Clone, Copy)]
+#[derive(Drop)]
 pub(crate) struct Asking<'a> {
     pub(crate) alloc: Global,
     pub(crate) whole: &'a Whole,
-    pub(crate) counts: &'a Counts,
+    pub(crate) counts: Counts<'a>,
 }
 
 impl Asking<'_> {
@@ -79,21 +78,25 @@ impl Asking<'_> {
     }
 
     /// How many answers the entrant gave to the puzzle.
-    pub(crate) fn answers_given(&self, row: &AnswerRow) -> Result<u64, AllocError>
-        ensures { IfOk result (λ count. CanAsk self.now
-            → count ≡ answers_given (asked_world self.now) row.now.key.entrant row.now.key.round row.now.key.number) }
+    pub(crate) fn answers_given(&self, row: &AnswerRow) -> u64
+        ensures { CanAsk self.now → result
+            ≡ answers_given (asked_world self.now) row.now.key.entrant row.now.key.round row.now.key.number }
     {
-        let key = ToPuzzle::of(row)?;
-        Ok(count_at(&self.counts.answers, &key))
+        let ranked = self.counts.answers.as_slice();
+        let before = ranked.partition_point(|other| puzzle_order(*other, row).is_lt());
+        let until = ranked.partition_point(|other| !puzzle_order(*other, row).is_gt());
+        until.saturating_sub(before) as u64
     }
 
     /// How many answers of the entrant to the puzzle have the answer's number.
-    pub(crate) fn numbered_alike(&self, row: &AnswerRow) -> Result<u64, AllocError>
-        ensures { IfOk result (λ count. CanAsk self.now
-            → count ≡ count_by (is_numbered_alike row.now) (values (asked_world self.now).answers)) }
+    pub(crate) fn numbered_alike(&self, row: &AnswerRow) -> u64
+        ensures { CanAsk self.now
+            → result ≡ count_by (is_numbered_alike row.now) (values (asked_world self.now).answers) }
     {
-        let key = WithNumber::of(row)?;
-        Ok(count_at(&self.counts.numbers, &key))
+        let ranked = self.counts.answers.as_slice();
+        let before = ranked.partition_point(|other| number_order(*other, row).is_lt());
+        let until = ranked.partition_point(|other| !number_order(*other, row).is_gt());
+        until.saturating_sub(before) as u64
     }
 
     /// How many protests the entrant made in the round.

@@ -38,6 +38,7 @@ mod put_round;
 mod puzzle_search;
 mod puzzle_states;
 mod ranges;
+mod ranked_answers;
 mod read_puzzle;
 mod read_round;
 mod release;

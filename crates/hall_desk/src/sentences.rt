@@ -52,7 +52,7 @@ pub(crate) fn tell_all(alloc: Global, whole: &Whole) -> Result<Vec<Breaches>, Al
     let asking = Asking {
         alloc,
         whole,
-        counts: &counts,
+        counts,
     };
     tell_each(&asking, &ALL)
 }

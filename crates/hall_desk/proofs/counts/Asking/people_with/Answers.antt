@@ -8,7 +8,5 @@ use Rattle.hall_desk.proofs.counts.Asking.people_with.Goals as goal
 pub returns : goal.returns
 returns c = λ able.
     let key = c.args.key.now in
-    c.count_at.ensures
-    ∙ counted_alike c.args.self.now.counts.now.people.entries text_cmp
-    (λ (row : Person). row.key) (λ row. same_text row.key key) key
-    (λ row. tied_text key row.key) able.1.people able.0.people
+    c.count_at.ensures ∙ counted_alike c.args.self.now.counts.people.entries text_cmp (λ (row : Person). row.key)
+    (λ row. same_text row.key key) key (λ row. tied_text key row.key) able.1.people able.0.people

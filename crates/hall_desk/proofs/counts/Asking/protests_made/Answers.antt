@@ -8,7 +8,7 @@ use Rattle.hall_desk.proofs.counts.Asking.protests_made.Goals as goal
 pub returns : goal.returns
 returns c = λ able.
     let row = c.args.row.now in
-    let counts = c.args.self.now.counts.now.protests.entries in
+    let counts = c.args.self.now.counts.protests.entries in
     c.count_at.ensures ∙ ap (counted_of in_round_cmp counts) c.in_ok-key.ensures
     ∙ counted_alike counts in_round_cmp in_round
     (λ other. same_text other.key.entrant row.key.entrant && same_text other.key.round row.key.round) (in_round row)

@@ -8,7 +8,6 @@ use Rattle.hall_desk.proofs.counts.Asking.puzzles_by.Goals as goal
 pub returns : goal.returns
 returns c = λ able.
     let author = c.args.author.now in
-    c.count_at.ensures
-    ∙ counted_alike c.args.self.now.counts.now.puzzles.entries text_cmp
+    c.count_at.ensures ∙ counted_alike c.args.self.now.counts.puzzles.entries text_cmp
     (λ (row : PuzzleRow). row.key.author) (λ row. same_text row.key.author author) author
     (λ row. tied_text author row.key.author) able.1.puzzles able.0.puzzles

@@ -3,7 +3,7 @@ use Rattle.hall_policy.specs.Text.{text_cmp}
 use Rattle.hall_policy.specs.declared.record.Person.{Person}
 use Rattle.hall_policy.specs.declared.record.PuzzleRow.{PuzzleRow}
 use Rattle.hall_policy.specs.declared.record.TesterKey.{TesterKey}
-use Rattle.hall_desk.specs.Groups.{to_puzzle, to_puzzle_cmp, with_number, with_number_cmp, in_round, in_round_cmp}
+use Rattle.hall_desk.specs.Groups.{AreRanked, in_round, in_round_cmp}
 use Rattle.hall_desk.specs.Tally.{IsTally}
 use Rattle.hall_desk.proofs.counts.Counts.of.Goals as goal
 
@@ -16,10 +16,8 @@ returns c = record {
   testers = subst (λ rows. IsTally text_cmp (λ (row : TesterKey × Unit {0}). row.0.round) rows
       c.in_ok-testers.testers.entries)
       c.as_slice-3.ensures.value c.in_ok-testers.ensures;
-  answers = subst (λ rows. IsTally to_puzzle_cmp to_puzzle rows c.in_ok-answers.answers.entries)
-      c.as_slice-4.ensures.value c.in_ok-answers.ensures;
-  numbers = subst (λ rows. IsTally with_number_cmp with_number rows c.in_ok-numbers.numbers.entries)
-      c.as_slice-5.ensures.value c.in_ok-numbers.ensures;
+  answers = subst (λ rows. AreRanked rows c.in_ok-answers.answers.items) c.as_slice-4.ensures.value
+      c.in_ok-answers.ensures;
   protests = subst (λ rows. IsTally in_round_cmp in_round rows c.in_ok-protests.protests.entries)
-      c.as_slice-6.ensures.value c.in_ok-protests.ensures;
+      c.as_slice-5.ensures.value c.in_ok-protests.ensures;
 }
