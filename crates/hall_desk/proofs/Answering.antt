@@ -1,11 +1,10 @@
 -- What a test leaves of a list, and what is found in one.
-use Rattle.std.proofs.Common.{◌≡◌, ◌&&◌, ℕ, ◌+◌, zero, suc, Bool, true, false, cond, List, [], ◌∷◌, Some, None}
-use Rattle.std.proofs.Common.{Contains, refl, sym, ap, ◌∙◌, subst, arith, zero-add, slice_get}
-use Rattle.std.specs.List.{filter, find, count_by}
+use Rattle.std.proofs.Common.{◌≡◌, ◌&&◌, ℕ, zero, suc, Bool, true, false, cond, List, [], ◌∷◌, Some, None}
+use Rattle.std.proofs.Common.{Contains, refl, sym, ap, ◌∙◌, subst, arith, slice_get}
+use Rattle.std.specs.List.{filter, find}
 use Rattle.std.specs.Cmp.{IsTotalOrder}
 use Rattle.std.specs.FinMap.{FinMap, get, values}
 use Rattle.std.specs.declared.cmp.Ordering.{Ordering}
-use Rattle.std.proofs.lemmas.List.Sums.{sum_by-cons}
 use Rattle.std.proofs.lemmas.Option.{slice_get_within, slice_get-get_or, get_or_from_slice_get}
 use Rattle.hall_policy.proofs.Maps.{get_of_value}
 
@@ -21,22 +20,6 @@ and_both : (a b : Bool) → a ≡ true → b ≡ true → (a && b) ≡ true
 and_both a b p q = cc (ap (λ (x : Bool). x && b) p)
 
 -- ---- lists
-
--- a count over what a test leaves is a count of both tests
-pub count_by-filter : {X : Type 0} (p q r : X → Bool) → ((x : X) → (q x && p x) ≡ r x) → (xs : List X)
-    → count_by p (filter q xs) ≡ count_by r xs
-count_by-filter p q r same [] = refl
-count_by-filter {X} p q r same (x ∷ xs) =
-    let rest : count_by p (filter q xs) ≡ count_by r xs = count_by-filter p q r same xs in
-    let weight : X → ℕ = λ y. cond (p y) 1 0 in
-    let both : X → ℕ = λ y. cond (r y) 1 0 in
-    elim (q x) as (λ b. (b && p x) ≡ r x → count_by p (cond b (x ∷ filter q xs) (filter q xs)) ≡ count_by r (x ∷ xs)) [
-      | true ↦ λ e. sum_by-cons weight x (filter q xs) ∙ ap (λ n. weight x + n) rest
-          ∙ ap (λ (b : Bool). let n : ℕ = cond b 1 0 in n + count_by r xs) e ∙ sym (sum_by-cons both x xs)
-      | false ↦ λ e.
-          let none : both x ≡ 0 = ap (λ (b : Bool). let n : ℕ = cond b 1 0 in n) (sym e) in
-          rest ∙ sym (sum_by-cons both x xs ∙ ap (λ n. n + count_by r xs) none ∙ zero-add (count_by r xs))
-    ] (same x)
 
 -- what passes a test and is in a list is in what the test leaves
 pub Contains-filter : {X : Type 0} (q : X → Bool) (xs : List X) (x : X) → Contains xs x → q x ≡ true → (i : ℕ)

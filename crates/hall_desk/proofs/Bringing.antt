@@ -1,5 +1,5 @@
 -- An event of a life that brings what holds at its end, and who asks for it.
-use Rattle.std.proofs.Common.{◌≡◌, ◌⊎◌, ◌<◌, inl, inr, ℕ, Bool, true, false, List, [], ◌∷◌, Option, Some, None}
+use Rattle.std.proofs.Common.{◌≡◌, ◌⊎◌, inl, inr, ℕ, Bool, true, false, List, [], ◌∷◌, Option, Some, None}
 use Rattle.std.proofs.Common.{Contains, refl, sym, ap, subst, lit<}
 use Rattle.hall_policy.specs.World.{World}
 use Rattle.hall_policy.specs.Actions.{rules_asked, may, puzzle_named}

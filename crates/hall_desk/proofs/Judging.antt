@@ -1,5 +1,5 @@
 -- What the judge's verdict says of a stored solution, and of a stored verdict.
-use Rattle.std.proofs.Common.{◌≡◌, ◌↔◌, ℕ, Bool, true, false, List, IsTrue, Some, Decides, inl, inr, refl, sym, ap, ◌∙◌}
+use Rattle.std.proofs.Common.{◌≡◌, ◌↔◌, ℕ, Bool, List, IsTrue, Some, Decides, inl, inr, refl, sym, ap, ◌∙◌}
 use Rattle.std.proofs.Common.{subst}
 use Rattle.std.specs.FinMap.{get}
 use Rattle.hall_grid.specs.declared.rule.Rule.{Rule}
@@ -13,7 +13,7 @@ use Rattle.hall_policy.specs.declared.record.Entry.{Entry}
 use Rattle.hall_policy.specs.declared.record.PlaceKey.{PlaceKey}
 use Rattle.hall_policy.specs.declared.record.PuzzleRow.{PuzzleRow}
 use Rattle.hall_policy.specs.declared.record.PuzzleState.TheVariants as state
-use Rattle.hall_desk.specs.Sane.{SolvesPuzzle, IsVerdictAt}
+use Rattle.hall_desk.specs.Sane.{IsVerdictAt}
 use Rattle.hall_desk.specs.Sentences.{HasSolution}
 use Rattle.hall_desk.proofs.Promises.{one_filling}
 use Rattle.hall_desk.proofs.VerdictOnce.{one_verdict}

@@ -69,13 +69,6 @@ module _ (last : World) (e : Person) (settled : IsWorld last) (there : get last.
       not_so true h = absurd (false≢true h)
       not_so false h = refl
 
-  -- one who isn't another person, or is told, is kept
-  told_kept : (found : Option Person) → is_e_or_none e found ≡ true → is_other_person e found ≡ false
-  told_kept found told = elim (is_other_person e found) as (λ b. is_other_person e found ≡ b → b ≡ false) [
-    | false ↦ λ _. refl
-    | true ↦ λ is_other. absurd (false≢true (sym (others_not_told found is_other) ∙ told))
-  ] refl
-
   module _ (apart : List ℕ → Bool) where
     abbrev Alike : World → World → Type 0
     Alike world other = AlikeIn last e settled there alone apart world other

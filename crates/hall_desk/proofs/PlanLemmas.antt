@@ -1,10 +1,10 @@
 -- From facts and a decision to a plan.
-use Rattle.std.proofs.Common.{◌≡◌, ◌≢◌, ◌⊎◌, ◌&&◌, ◌||◌, ℕ, Bool, true, false, List, [], ◌∷◌, map, Option, Some, None}
-use Rattle.std.proofs.Common.{IsTrue, Result, Ok, Err, IfOk, inl, refl, sym, ◌∙◌, ap, subst, inr, cond}
+use Rattle.std.proofs.Common.{◌≡◌, ◌≢◌, ◌⊎◌, ◌&&◌, ℕ, Bool, true, false, List, [], ◌∷◌, Option, Some, None}
+use Rattle.std.proofs.Common.{IsTrue, Result, Ok, Err, inl, refl, sym, ◌∙◌, ap, subst, inr, cond}
 use Rattle.std.specs.List.{filter}
 use Rattle.hall_grid.specs.Board.{Board}
 use Rattle.hall_grid.specs.Canonical.{CanonicalText}
-use Rattle.hall_policy.specs.World.{World, IsRoundAt, same_text}
+use Rattle.hall_policy.specs.World.{World, IsRoundAt}
 use Rattle.hall_policy.specs.First.{First}
 use Rattle.hall_policy.specs.Facts.{AreTrue, IsRoundFound}
 use Rattle.hall_policy.specs.Decided.{IsDecided}
@@ -25,22 +25,17 @@ use Rattle.hall_store.specs.Caller.{caller_of}
 use Rattle.hall_desk.specs.Lookups.{IsCaller}
 use Rattle.hall_store.specs.Change.{changed, CanMake, with_flag}
 use Rattle.hall_desk.specs.Step.{Decided}
-use Rattle.hall_store.specs.Store.{Content, Kept, Told, Served, Asks, IsListing}
-use Rattle.hall_policy.specs.declared.record.AnswerRow.{AnswerRow}
+use Rattle.hall_store.specs.Store.{Content, Kept, Told}
 use Rattle.hall_desk.specs.Plans.{IsPlanFor, IsAllowedPlan, IsMadePlan, HasNothingToWrite, IsMadeBy, Planned}
 use Rattle.hall_desk.specs.declared.plan.Plan.{Plan}
 use Rattle.hall_solve.specs.declared.searched.Visits.{Visits}
 use Rattle.hall_desk.specs.declared.reply.Reply.{Reply}
 use Rattle.hall_desk.specs.declared.reply.Reply.TheVariants as reply
-use Rattle.hall_desk.specs.declared.reply.AnswerLine.{AnswerLine}
-use Rattle.hall_desk.specs.Shown.{sees_all, shows_verdict, answer_line}
-use Rattle.hall_desk.specs.Lines.{AreLinesOf}
 use Rattle.hall_desk.specs.declared.reply.StateName.TheVariants as name
 use Rattle.hall_store.specs.declared.change.Change.{Change}
 use Rattle.hall_store.specs.declared.change.Change.TheVariants as change
 use Rattle.hall_store.specs.declared.change.RoundFlag.{RoundFlag}
 use Rattle.hall_store.specs.declared.change.RoundFlag.TheVariants as flag
-use Rattle.hall_store.proofs.Knowing.{pure_told, told_turn}
 
 -- a decision, and what it answers and changes, make a plan
 pub planned : (facts : Facts) (world : World) (t : ℕ) (request : Request) (decision : Decision) (given : Reply)
@@ -117,27 +112,6 @@ made_anyhow world caller asked t plan made = record {
   made = made.made;
 }
 
--- the plan that is made for an action, told of what was asked, which is that action
-module _ {E : Type 0} (facts : Facts) (asked named : Action) (t : ℕ) (is : asked ≡ named) where
-  -- made from the facts alone
-  pub made_from_facts : (store : Content) (r : Result Plan E) (M : Plan → Type 0) →
-      ((plan : Plan) → M plan → (w : World) → AreTrue facts w named → IsMadePlan w facts.caller named t plan) →
-      Asks store (λ w. AreTrue facts w asked) → IfOk r M → Told store store r
-      (λ w plan. IsMadePlan w facts.caller asked t plan)
-  made_from_facts store r M turn told made =
-      subst (λ (a : Action). Asks store (λ w. AreTrue facts w a)
-      → Told store store r (λ w plan. IsMadePlan w facts.caller a t plan)) (sym is)
-      (λ all. pure_told r M (λ w plan. IsMadePlan w facts.caller named t plan) store store (λ h s. s)
-      (λ plan h s x. turn plan x store.world (all h s)) made) told
-
-  -- made with what the store was asked
-  pub made_from_store : (old new : Content) (r : Result Plan E) (M : World → Plan → Type 0)
-      → ((plan : Plan) → M new.world plan → IsMadePlan new.world facts.caller named t plan) →
-      Told old new r M → Told old new r (λ w plan. IsMadePlan w facts.caller asked t plan)
-  made_from_store old new r M turn told =
-      subst (λ (a : Action). Told old new r (λ w plan. IsMadePlan w facts.caller a t plan)) (sym is)
-      (told_turn r M (λ w plan. IsMadePlan w facts.caller named t plan) old new (λ plan h s x. turn plan x) told)
-
 -- what was told of a plan over a store that served before it
 pub told_plan : {E : Type 0} (r : Result Plan E) (mid new : Content) (t : ℕ) (request : Request) → Kept mid new
     → (mid.honest → mid.serves) →
@@ -145,18 +119,6 @@ pub told_plan : {E : Type 0} (r : Result Plan E) (mid new : Content) (t : ℕ) (
 told_plan (Ok plan) mid new t request kept served told = inl
     (λ h. let s = told.0 h (served (kept.honest h)) in (s, told.1 h s))
 told_plan (Err fault) mid new t request kept served told = tt
-
--- what is served is told, wherever the store stood before
-pub told_served : {R E : Type 0} (r : Result R E) (M : World → R → Type 0) (old new : Content) → Served new r M
-    → Told old new r M
-told_served (Ok x) M old new served = ((λ h s. (served h).0), (λ h s. (served h).1))
-told_served (Err fault) M old new served = tt
-
--- what is served of a plan
-pub served_plan : {E : Type 0} (r : Result Plan E) (new : Content) (t : ℕ) (request : Request)
-    → Served new r (λ world plan. IsPlanFor world t request plan) → Planned new t request r
-served_plan (Ok plan) new t request served = inl served
-served_plan (Err fault) new t request served = tt
 
 -- a plan that tells and flags the round of this id tells and flags that of an equal one
 flags_same : (world : World) (caller : Option Person) (asked : Action) (t : ℕ) (says : List ℕ → Reply) (set : RoundFlag)

@@ -1,6 +1,6 @@
 -- Released rounds: that one is found, and which have a puzzle.
-use Rattle.std.proofs.Common.{◌≡◌, ◌≢◌, ◌↔◌, ℕ, zero, suc, Bool, true, false, not, ◌&&◌, List, ◌<◌, ◌≤◌, length}
-use Rattle.std.proofs.Common.{slice_get, Option, Some, None, Contains, inl, inr, refl, sym, ap, ◌∙◌, subst, arith}
+use Rattle.std.proofs.Common.{◌≡◌, ◌≢◌, ◌↔◌, ℕ, zero, suc, Bool, true, false, not, ◌&&◌, List}
+use Rattle.std.proofs.Common.{slice_get, Option, Some, None, Contains, inl, inr, refl, sym, ap, ◌∙◌, subst}
 use Rattle.std.specs.List.{filter}
 use Rattle.std.specs.FinMap.{get}
 use Rattle.std.proofs.lemmas.Option.{slice_get-get_or, slice_get_within, get_or_from_slice_get}
@@ -81,13 +81,6 @@ released_using world key ids using = (
 -- what is told of one fact is told of an equal one
 pub through : {P Q R : Type 0} → (P ↔ Q) → (Q ↔ R) → P ↔ R
 through first second = (λ p. second.0 (first.0 p), λ r. first.1 (second.1 r))
-
--- where no place of a list has the fact, no member has
-pub none_contained : (ids : List (List ℕ)) (P : List ℕ → Type 0) (count : ℕ) → length ids ≤ count →
-    ((i : ℕ) (id : List ℕ) → i < count → slice_get ids i ≡ Some id → ¬ (P id))
-    → ¬ ((id : List ℕ) × Contains ids id × P id)
-none_contained ids P count all none h = none h.1.0 h.0 (omega arith)
-    (slice_get-get_or ids h.1.0 h.0 h.1.1 ∙ ap Some h.1.2) h.2
 
 -- ---- what keeps a round from its release
 not_true : (b : Bool) → not b ≡ true → b ≡ false

@@ -1,7 +1,7 @@
 -- The list of a round, from its places in their order.
-use Rattle.std.proofs.Common.{◌≡◌, ◌≢◌, ◌↔◌, ◌+◌, ◌<◌, ◌++◌, ◌∷◌, [], ℕ, zero, suc, Bool, true, false, cond, List, map}
-use Rattle.std.proofs.Common.{take, drop, length, get_or, slice_get, Option, Some, None, IfSome, IfNone, IsTrue}
-use Rattle.std.proofs.Common.{is_some, refl, sym, ap, ◌∙◌, subst, arith, add-suc, add-zero, add-one}
+use Rattle.std.proofs.Common.{◌≡◌, ◌↔◌, ◌+◌, ◌<◌, ◌++◌, ◌∷◌, [], ℕ, zero, suc, Bool, true, false, cond, List, map}
+use Rattle.std.proofs.Common.{take, drop, length, get_or, slice_get, Some, None, IsTrue}
+use Rattle.std.proofs.Common.{refl, sym, ap, ◌∙◌, subst, arith}
 use Rattle.std.specs.List.{filter}
 use Rattle.std.proofs.lemmas.List.Elements.{filter-append, filter_more}
 use Rattle.hall_policy.specs.Lists.{AreEntries}
@@ -115,16 +115,6 @@ broken_off id places list i place so_far low is own differs other all =
     ∙ ap (λ ps. slice_get ps (length (places_from id 1 list))) (sym all ∙ whole)
     ∙ at_seam (places_from id 1 list) place (filter (of id) (drop (i + 1) places)) in
     differs (number_at id 1 other (length list) place at)
-
--- what was made of the list, where it could be made
-pub made_told : (list : List Entry) (made : Option (List Entry)) (told : Bool) → told ≡ is_some made
-    → IfSome made (λ entries. (entries ≡ list) × AreEntries entries) → IfNone made (¬ (AreEntries list)) → IsTrue told
-    ↔ AreEntries list
-made_told list None told is some none = (
-  (λ t. let no : false ≡ true = sym is ∙ t in absurd (cc)),
-  (λ are. absurd (none are)),
-)
-made_told list (Some entries) told is some none = ((λ _. subst AreEntries some.0 some.1), (λ _. is))
 
 pub list_told : (world : World) (id : List ℕ) (list : List Entry) (told : Bool)
     → places_of_round world id ≡ places_from id 1 list → IsTrue told ↔ AreEntries list → IsTrue told ↔ HasList world id

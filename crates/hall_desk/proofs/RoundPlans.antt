@@ -1,11 +1,9 @@
 -- The plan of a round that is read.
-use Rattle.std.proofs.Common.{◌≡◌, ℕ, List, Option, Some, refl, sym, subst}
+use Rattle.std.proofs.Common.{◌≡◌, ℕ, List, refl, sym, subst}
 use Rattle.hall_policy.specs.Actions.{last_rule}
-use Rattle.hall_policy.specs.World.{IsRoundAt}
-use Rattle.hall_policy.specs.Facts.{AreTrue, IsRoundFound}
+use Rattle.hall_policy.specs.Facts.{AreTrue}
 use Rattle.hall_policy.specs.Decided.{IsDecidedUpTo}
 use Rattle.hall_policy.specs.declared.facts.Facts.{Facts}
-use Rattle.hall_policy.specs.declared.record.RoundRow.{RoundRow}
 use Rattle.hall_policy.specs.declared.record.PuzzleState.TheVariants as state
 use Rattle.hall_policy.specs.declared.request.Action.{Action}
 use Rattle.hall_policy.specs.declared.request.Action.TheVariants.{ReadRound}
@@ -52,11 +50,3 @@ module _ (old mid : Content) (facts : Facts) (t : ℕ) (request : Request) (id :
             subst (λ (a : Action). IsMadeBy new.world a (answering (reply.ReadRound shown))) (sym is) (tt, tt),
           ),
         ))
-
-    -- the row of a round that is read
-    pub round_there : (row : RoundRow) → facts.round ≡ Some row → mid.honest → mid.serves × IsRoundAt mid.world id row
-    round_there row seen h = (
-      (read h).0,
-      subst (λ (o : Option RoundRow). IsRoundFound mid.world (Some id) o) seen
-          (read h).1.row,
-    )

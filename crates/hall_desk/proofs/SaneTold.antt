@@ -1,7 +1,6 @@
 -- A world against which a check found nothing is sane.
 use Rattle.std.proofs.Common.{◌≡◌, ◌≢◌, ◌≤◌, ◌==◌, ◌&&◌, ◌∷◌, [], ◌+◌, ℕ, zero, suc, Bool, true, false, cond, List}
-use Rattle.std.proofs.Common.{Option, Some, None, IsTrue, Contains, slice_get, length, refl, sym, ap, ◌∙◌, subst, arith}
-use Rattle.std.proofs.Common.{zero-add}
+use Rattle.std.proofs.Common.{Option, Some, None, Contains, slice_get, refl, sym, ap, ◌∙◌, subst, arith}
 use Rattle.std.specs.Cmp.{unsigned_Decides}
 use Rattle.std.specs.FinMap.{get, entries, values}
 use Rattle.std.specs.List.{count_by, find}

@@ -55,12 +55,7 @@ module _ {K X : Type 0} {R : K → K → Ordering} (o : IsTotalOrder R) (same : 
       → option_map (λ e. e.1) (find test es) ≡ get (from_entries {R = R} es) q
   scan_entries test q d es = scanned_entries test q d es ∙ sym (get_found o es q)
 
--- a look-up answers something exactly where there is something
-pub some_is_there : {X : Type 0} (found kept : Option X) → found ≡ kept → IsTrue (is_some found) ↔ (kept ≢ None)
-some_is_there None kept e = ((λ is. let no : false ≡ true = is in absurd (cc)), (λ there. absurd (there (sym e))))
-some_is_there (Some x) kept e = ((λ _ none. let no : Some x ≡ None = e ∙ none in cc), (λ _. refl))
-
--- the same of a part of what is borrowed
+-- a look-up answers something exactly where there is something, as does a part of what it lends
 pub some_copied : {X Y Z : Type 0} (f : X → Y) (g : Y → Z) (found : Option X) (told : Bool) (kept : Option Z)
     → told ≡ is_some found → option_map g (option_map f found) ≡ kept → IsTrue told ↔ (kept ≢ None)
 some_copied f g None told kept is e = (

@@ -2,7 +2,7 @@
 use Rattle.std.proofs.Common.{◌≡◌, ◌++◌, ◌∷◌, [], ℕ, List, true, false, inl, inr, refl, sym, ap, ◌∙◌, subst}
 use Rattle.std.proofs.lemmas.List.{map-append}
 use Rattle.hall_grid.specs.Board.{Board}
-use Rattle.hall_grid.specs.Answer.{AnswerText, text_of}
+use Rattle.hall_grid.specs.Answer.{text_of}
 use Rattle.hall_policy.specs.declared.record.PuzzleRow.{PuzzleRow}
 use Rattle.hall_policy.specs.declared.record.PuzzleState.{PuzzleState}
 use Rattle.hall_policy.specs.declared.record.PuzzleState.TheVariants as state

@@ -30,25 +30,25 @@ use Rattle.hall_desk.specs.declared.sentence.Sentence.TheVariants.{MayAnswer, Ve
 use Rattle.hall_desk.specs.declared.sentence.Sentence.TheVariants.{FewAnswers, ProtesterThere, ProtestedThere}
 use Rattle.hall_desk.specs.declared.sentence.Sentence.TheVariants.{ProtestReleased, MayProtest, RuledFirst, FewProtests}
 
--- what the sentence says of a person; nothing, where it speaks of other rows
+-- what the sentence says of a person; one that speaks of other rows is true of none
 abbrev pub SaysOfPerson : World → Sentence → Person → Type 0
 SaysOfPerson world OwnKey = HasOwnKey world
 SaysOfPerson world RolesApart = HasRolesApart
-SaysOfPerson world _ = λ _. Unit {0}
+SaysOfPerson world _ = λ _. ⊥
 
--- what it says of a puzzle; of a puzzle's state `AreStatesTold` says it
+-- what it says of a puzzle; what is found of a puzzle's state is told by `AreStatesTold`
 abbrev pub SaysOfPuzzle : World → Sentence → PuzzleRow → Type 0
 SaysOfPuzzle world AuthorThere = λ row. IsKnown world row.key.author
 SaysOfPuzzle world FewPuzzles = HasFewPuzzles world
 SaysOfPuzzle world SolutionRight = λ row. HasSolution row.puzzle row.state
-SaysOfPuzzle world _ = λ _. Unit {0}
+SaysOfPuzzle world _ = λ _. ⊥
 
 -- what it says of a round
 abbrev pub SaysOfRound : World → Sentence → Round → Type 0
 SaysOfRound world ListWhole = λ round. HasList world round.id
 SaysOfRound world FewTesters = λ round. HasFewTesters world round.id
 SaysOfRound world ReleasedFirst = IsReleasedFirst
-SaysOfRound world _ = λ _. Unit {0}
+SaysOfRound world _ = λ _. ⊥
 
 -- what it says of an entry of a round's list
 abbrev pub SaysOfEntry : World → Sentence → PlaceKey × Entry → Type 0
@@ -56,13 +56,13 @@ SaysOfEntry world EntryHome = λ place. IsRoundThere world place.0.round
 SaysOfEntry world PuzzleThere = λ place. HasPuzzle world place.1
 SaysOfEntry world CertifiedFirst = IsCertifiedFirst world
 SaysOfEntry world InNoOther = IsInNoOther world
-SaysOfEntry world _ = λ _. Unit {0}
+SaysOfEntry world _ = λ _. ⊥
 
 -- what it says of a tester
 abbrev pub SaysOfTester : World → Sentence → TesterKey × Unit {0} → Type 0
 SaysOfTester world TesterHome = λ tester. IsRoundThere world tester.0.round
 SaysOfTester world TesterThere = λ tester. IsKnown world tester.0.name
-SaysOfTester world _ = λ _. Unit {0}
+SaysOfTester world _ = λ _. ⊥
 
 -- what it says of an answer
 abbrev pub SaysOfAnswer : World → Sentence → AnswerRow → Type 0
@@ -74,7 +74,7 @@ SaysOfAnswer world VerdictTrue = λ row. IsVerdictAt world row.key.round row.key
 SaysOfAnswer world Numbered = IsAnswerNumbered world
 SaysOfAnswer world NumberedOnce = IsNumberedOnce world
 SaysOfAnswer world FewAnswers = IsOneOfFewAnswers world
-SaysOfAnswer world _ = λ _. Unit {0}
+SaysOfAnswer world _ = λ _. ⊥
 
 -- what it says of a protest
 abbrev pub SaysOfProtest : World → Sentence → ProtestRow → Type 0
@@ -84,7 +84,7 @@ SaysOfProtest world ProtestReleased = λ row. IsReleasedRound world row.key.roun
 SaysOfProtest world MayProtest = λ row. MayTakePart world row.key.entrant row.key.round
 SaysOfProtest world RuledFirst = IsRuledFirst world
 SaysOfProtest world FewProtests = IsOneOfFewProtests world
-SaysOfProtest world _ = λ _. Unit {0}
+SaysOfProtest world _ = λ _. ⊥
 
 -- what is found of a sentence in the rows of the world that it speaks of
 abbrev pub TellsSentence : World → Sentence → Breaches → Type 0

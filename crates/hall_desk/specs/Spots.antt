@@ -1,5 +1,4 @@
 -- Where a row stands.
-use Rattle.std.specs.Prelude.{List}
 use Rattle.hall_policy.specs.declared.record.Person.{Person}
 use Rattle.hall_policy.specs.declared.record.PuzzleRow.{PuzzleRow}
 use Rattle.hall_policy.specs.declared.record.Round.{Round}

@@ -1,5 +1,5 @@
 -- How many rows there are of each key.
-use Rattle.std.specs.Prelude.{◌≡◌, ℕ, List, Option, Some, None, count_by, unwrap_or}
+use Rattle.std.specs.Prelude.{◌≡◌, ℕ, List, count_by, unwrap_or}
 use Rattle.std.specs.Ordering.{is_eq}
 use Rattle.std.specs.declared.cmp.Ordering.{Ordering}
 use Rattle.std.specs.Map.{lookup}

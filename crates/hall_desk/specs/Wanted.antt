@@ -85,8 +85,8 @@ pub record AsksListing (world : World) (request : Request) : Type 0 where
   pub allowed : (t : ℕ) → First world (caller_of world request.key) request.action t Allow
   pub kept : get world.rounds id ≡ Some round
 
--- a request that is to wait needs a search, or asks for a table or for the answers of a round, over an honest store that
--- serves
+-- a request that is to wait needs a search, or asks for a table or for the answers of a round, over an honest store
+-- that serves
 abbrev pub MayWait : Content → Request → Type 0
 MayWait content request =
     content.honest → content.serves →

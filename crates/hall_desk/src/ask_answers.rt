@@ -30,7 +30,7 @@ impl Asked for AnswerRow {
             Sentence::Numbered => Ok(self.n.get() <= asking.answers_given(self)),
             Sentence::NumberedOnce => Ok(asking.numbered_alike(self) <= 1),
             Sentence::FewAnswers => Ok(asking.answers_given(self) <= MOST_ANSWERS),
-            _ => Ok(true),
+            _ => Ok(false),
         }
     }
 }

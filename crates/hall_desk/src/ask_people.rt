@@ -17,7 +17,7 @@ impl Asked for Person {
                 let roles = self.roles.get();
                 Ok(!(roles.director && roles.entrant))
             }
-            _ => Ok(true),
+            _ => Ok(false),
         }
     }
 }

@@ -22,7 +22,7 @@ impl Asked for Place {
             Sentence::PuzzleThere => Ok(asking.whole.puzzle(&self.1.puzzle).is_some()),
             Sentence::CertifiedFirst => Ok(is_certified_first(asking.whole, self)),
             Sentence::InNoOther => Ok(is_in_no_other(asking.whole, self)),
-            _ => Ok(true),
+            _ => Ok(false),
         }
     }
 }

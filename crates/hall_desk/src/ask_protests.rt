@@ -26,7 +26,7 @@ impl Asked for ProtestRow {
             Sentence::MayProtest => Ok(may_take_part(whole, &key.entrant, &key.round)),
             Sentence::RuledFirst => Ok(is_ruled_first(whole, self)),
             Sentence::FewProtests => Ok(asking.protests_made(self)? <= MOST_PROTESTS),
-            _ => Ok(true),
+            _ => Ok(false),
         }
     }
 }

@@ -20,7 +20,7 @@ impl Asked for PuzzleRow {
             Sentence::AuthorThere => Ok(asking.whole.person(&self.key.author).is_some()),
             Sentence::FewPuzzles => Ok(asking.puzzles_by(&self.key.author) <= MOST_PUZZLES),
             Sentence::SolutionRight => has_solution(asking.alloc, &self.puzzle, &self.state),
-            _ => Ok(true),
+            _ => Ok(false),
         }
     }
 }

@@ -22,7 +22,7 @@ impl Asked for Round {
             Sentence::ListWhole => has_list(asking, &self.id),
             Sentence::FewTesters => Ok(asking.testers_of(&self.id) <= MOST_TESTERS as u64),
             Sentence::ReleasedFirst => Ok(!self.published || self.released),
-            _ => Ok(true),
+            _ => Ok(false),
         }
     }
 }

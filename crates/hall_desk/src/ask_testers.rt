@@ -14,7 +14,7 @@ impl Asked for Tester {
         match sentence {
             Sentence::TesterHome => Ok(asking.whole.round(&self.0.round).is_some()),
             Sentence::TesterThere => Ok(asking.whole.person(&self.0.name).is_some()),
-            _ => Ok(true),
+            _ => Ok(false),
         }
     }
 }

@@ -1,5 +1,5 @@
 //! The copies of replies that a desk keeps, and the table and the listing that it is making.
-ghost use Rattle.std.specs.Prelude.{◌≡◌, None};
+ghost use Rattle.std.specs.Prelude.{◌≡◌, None, false};
 
 use crate::listing::Listings;
 use crate::round_copy::RoundCopy;
@@ -7,8 +7,8 @@ use crate::rows::Rows;
 use crate::table_copy::TableCopy;
 use crate::tabling::Tabling;
 
-/// Of the tables that were made last, and of the round that was read last, until what they tell of is changed; the tally
-/// of a table that is being made, until its round is changed; and the listings of answers.
+/// Of the tables that were made last, and of the round that was read last, until what they tell of is changed; the
+/// tally of a table that is being made, until its round is changed; and the listings of answers.
 #[derive(Drop)]
 pub(crate) struct Copies {
     pub(crate) tables: Option<Rows<TableCopy>>,
@@ -24,7 +24,7 @@ impl Copies {
           tables = None;
           round = None;
           tabling = None;
-          listings = record { listing = None; listed = None; spoilt = None };
+          listings = record { listing = None; listed = None; spoilt = false };
         } }
     {
         Copies {

@@ -1,5 +1,5 @@
 //! The listings of all answers of a round, made in slices.
-ghost use Rattle.std.specs.Prelude.{◌≡◌, ◌⊎◌, ◌||◌, true, IfOk, IfSome, IsTrue, Ok, Some, None};
+ghost use Rattle.std.specs.Prelude.{◌≡◌, ◌⊎◌, ◌||◌, true, false, IfOk, IfSome, IsTrue, Ok, Some, None};
 ghost use Rattle.hall_policy.specs.Rules.{TheCaller};
 ghost use Rattle.hall_policy.specs.World.{World};
 ghost use Rattle.hall_policy.specs.declared.request.Action.TheVariants.{Answers};
@@ -28,7 +28,8 @@ use std::alloc::{AllocError, Global};
 /// Room for the lines of a long listing. What isn't written there takes no memory, and lines that come aren't copied.
 const LONG_ROOM: usize = 1 << 28;
 
-/// The lines of the round's answers by entrants up to the name, with their verdicts: whoever sees all answers sees them.
+/// The lines of the round's answers by entrants up to the name, with their verdicts: whoever sees all answers sees
+/// them.
 pub(crate) type Listing = Slices<Lines>;
 
 /// A round, and the listing of all its answers.
@@ -44,19 +45,19 @@ pub(crate) struct Listed {
 pub(crate) struct Listings {
     pub(crate) listing: Option<Listing>,
     pub(crate) listed: Option<Listed>,
-    /// The round of the listing that was dropped last since an answer was added, until one is told.
-    pub(crate) spoilt: Option<RoundId>,
+    /// Whether one was dropped since an answer was added, until one is told.
+    pub(crate) spoilt: bool,
 }
 
 impl Listings {
     /// Of nothing.
     pub(crate) fn none() -> Listings
-        ensures { result ≡ record { listing = None; listed = None; spoilt = None } }
+        ensures { result ≡ record { listing = None; listed = None; spoilt = false } }
     {
         Listings {
             listing: None,
             listed: None,
-            spoilt: None,
+            spoilt: false,
         }
     }
 
@@ -78,51 +79,43 @@ impl Listings {
         ensures listed { (self.new.listed ≡ self.old.listed) ⊎ (self.new.listed ≡ None) }
         ensures listing { self.new.listing ≡ self.old.listing }
     {
-        self.spoilt = None;
+        self.spoilt = false;
         match self.listed.take() {
             Some(listed) if listed.round == *round => Some(listed.text),
             _ => None,
         }
     }
 
-    /// Whether nobody needs to wait: a listing is finished, of whichever round, or the last one was spoilt. Whoever asks
-    /// next is told that one, or one that is made at once. So each question brings a listing on or is answered, and no
-    /// two of them undo each other's for ever.
+    /// Whether nobody needs to wait: a listing is finished, of whichever round, or the last one was spoilt. Whoever
+    /// asks next is told that one, or one that is made at once. So each question brings a listing on or is answered,
+    /// and no two of them undo each other's for ever.
     fn is_ready(&self) -> bool {
-        self.listed.is_some() || self.spoilt.is_some()
+        self.listed.is_some() || self.spoilt
     }
 }
 
-/// The listing under way, where the change leaves it; otherwise its round is spoilt.
-fn listing_left(
-    change: &Change,
-    listing: Option<Listing>,
-    spoilt: &mut Option<RoundId>,
-) -> Option<Listing>
+/// The listing under way, where the change leaves it; otherwise it is spoilt.
+fn listing_left(change: &Change, listing: Option<Listing>, spoilt: &mut bool) -> Option<Listing>
     ensures { result ≡ kept_where (λ listing. leaves_listing change.now listing.round) listing }
 {
     match listing {
         Some(listing) if leaves_listing(change, &listing.round) => Some(listing),
-        Some(listing) => {
-            *spoilt = Some(listing.round);
+        Some(_) => {
+            *spoilt = true;
             None
         }
         None => None,
     }
 }
 
-/// The finished listing, where the change leaves it; otherwise its round is spoilt.
-fn listed_left(
-    change: &Change,
-    listed: Option<Listed>,
-    spoilt: &mut Option<RoundId>,
-) -> Option<Listed>
+/// The finished listing, where the change leaves it; otherwise it is spoilt.
+fn listed_left(change: &Change, listed: Option<Listed>, spoilt: &mut bool) -> Option<Listed>
     ensures { result ≡ kept_where (λ listed. leaves_listing change.now listed.round) listed }
 {
     match listed {
         Some(listed) if leaves_listing(change, &listed.round) => Some(listed),
-        Some(listed) => {
-            *spoilt = Some(listed.round);
+        Some(_) => {
+            *spoilt = true;
             None
         }
         None => None,

@@ -50,8 +50,8 @@ pub(crate) struct RequestAt<'a> {
 }
 
 /// What the request will be answered, and what it will change. Reads only, and for a denial nothing that a later rule
-/// asks. A table, a round that is read, or a listing of all answers is the one that is kept, where the round has one; and what a search would find is what
-/// is remembered, where that is of the same puzzle and budget.
+/// asks. A table, a round that is read, or a listing of all answers is the one that is kept, where the round has one;
+/// and what a search would find is what is remembered, where that is of the same puzzle and budget.
 pub(crate) fn make_plan<S: ReadStore>(
     alloc: Global,
     store: &mut S,
@@ -211,7 +211,8 @@ pub(crate) fn plan_for_caller<S: ReadStore>(
     }
 }
 
-/// The plan of the request's action, by its handler. (A table, a round that is read and a listing of answers have none.)
+/// The plan of the request's action, by its handler. (A table, a round that is read and a listing of answers have
+/// none.)
 fn dispatch<S: ReadStore>(
     asked: &RequestAt,
     store: &mut S,

@@ -1,4 +1,4 @@
-use Rattle.std.proofs.Common.{◌≡◌, ◌↔◌, ◌∙◌, IsTrue, sym, subst}
+use Rattle.std.proofs.Common.{◌↔◌, ◌∙◌, IsTrue, sym, subst}
 use Rattle.hall_grid.specs.Answer.{Verdict}
 use Rattle.hall_policy.specs.declared.record.PuzzleState.{PuzzleState}
 use Rattle.hall_desk.specs.Sentences.{HasSolution}

@@ -1,4 +1,4 @@
-use Rattle.std.proofs.Common.{◌≡◌, ◌+◌, ◌++◌, ℕ, true, false, ◌∷◌, [], length, sym, ap, ◌∙◌, arith, rules}
+use Rattle.std.proofs.Common.{◌≡◌, ◌+◌, ◌++◌, true, false, ◌∷◌, [], length, sym, ap, ◌∙◌, arith, rules}
 use Rattle.hall_store.specs.Maps.{places_from}
 use Rattle.hall_policy.specs.declared.record.Entry.{Entry}
 use Rattle.hall_desk.proofs.RoundLists.{of_same, of_other, passed_on, kept_on, broken_off}

@@ -1,4 +1,4 @@
-use Rattle.std.proofs.Common.{◌∙◌, Some, sym, ap, arith, true, false}
+use Rattle.std.proofs.Common.{◌∙◌, Some, sym, ap, arith}
 use Rattle.std.specs.Ordering.{is_eq}
 use Rattle.hall_desk.proofs.Halving.{answered, find_here, find_none, none_more}
 use Rattle.hall_desk.proofs.halves.find_first.Goals as goal

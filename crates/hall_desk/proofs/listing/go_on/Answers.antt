@@ -1,10 +1,10 @@
-use Rattle.std.proofs.Common.{ℕ, List, Option, Some, IfSome, true, sym, subst}
+use Rattle.std.proofs.Common.{Option, IfSome, true, sym, subst}
 use Rattle.hall_desk.specs.Lines.{BeginsLines, IsLineAdded}
-use Rattle.hall_desk.specs.Listings.{AreLinesUpTo, AreListedIn, AreListings}
+use Rattle.hall_desk.specs.Listings.{AreLinesUpTo, AreListedIn}
 use Rattle.hall_desk.specs.Slices.{AsksIfAny}
 use Rattle.hall_desk.specs.declared.lines.Lines.{Lines}
 use Rattle.hall_desk.specs.declared.slices.Slices.{Slices}
-use Rattle.hall_desk.proofs.Copied.{any_kept, if_any, listings_kept}
+use Rattle.hall_desk.proofs.Copied.{any_kept, if_any}
 use Rattle.hall_desk.proofs.Slicing.{sliced_on, sliced_whole}
 use Rattle.hall_desk.proofs.listing.go_on.Goals as goal
 

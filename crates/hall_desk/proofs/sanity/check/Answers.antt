@@ -1,4 +1,4 @@
-use Rattle.std.proofs.Common.{◌≡◌, subst}
+use Rattle.std.proofs.Common.{subst}
 use Rattle.hall_policy.specs.World.{World}
 use Rattle.hall_desk.specs.Checked.{IsChecked}
 use Rattle.hall_desk.proofs.WholeWorlds.{whole_world}

@@ -1,6 +1,5 @@
-use Rattle.std.proofs.Common.{◌≡◌, ◌∙◌, sym, ap, subst, length, arith}
+use Rattle.std.proofs.Common.{◌≡◌, ◌∙◌, sym, ap, subst, length}
 use Rattle.std.specs.FinMap.{values}
-use Rattle.hall_policy.specs.declared.record.PuzzleRow.{PuzzleRow}
 use Rattle.hall_desk.specs.Checked.{AreStatesAsked}
 use Rattle.hall_desk.specs.Whole.{world_of_whole}
 use Rattle.hall_desk.proofs.SaneTold.{sane, states_true}
