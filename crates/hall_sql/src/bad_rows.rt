@@ -1,6 +1,6 @@
 //! The rows of the tables that are no record, by their rowids, and the tables that take no more rows.
-ghost use Rattle.std.specs.Prelude.{◌≡◌, ◌≢◌, ◌↔◌, ◌++◌, IsTrue, IfOk, OnOk, OnErr, [], ◌∷◌, if◌then◌else◌, false, None};
-ghost use Rattle.std.specs.Prelude.{is_some};
+ghost use Rattle.std.specs.Prelude.{◌≡◌, ◌≢◌, ◌↔◌, ◌++◌, IsTrue, IfOk, OnOk, OnErr, [], ◌∷◌, if◌then◌else◌};
+ghost use Rattle.std.specs.Prelude.{false, is_some, None};
 ghost use Rattle.sqlite.specs.declared.types.Value.TheVariants.{Int};
 ghost use Rattle.sqlite.specs.Held.{state};
 ghost use Rattle.sqlite.specs.State.{HasCleanDisk};

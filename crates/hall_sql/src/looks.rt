@@ -30,7 +30,8 @@ pub(crate) trait Tell {
 
     /// Tells of one row more. Refused, it tells of those before.
     fn tell(&mut self, alloc: Global, row: &Row) -> Result<(), StoreFault>
-        ensures told { (rows : List Columns) → tells rows self.old → OnOk result (tells (rows ++ row.now ∷ []) self.new) }
+        ensures told { (rows : List Columns) → tells rows self.old →
+            OnOk result (tells (rows ++ row.now ∷ []) self.new) }
         ensures same { (rows : List Columns) → tells rows self.old → OnErr result (tells rows self.new) }
         ensures unread { Fails (is_unread row.now) result };
 }
