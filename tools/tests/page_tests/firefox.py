@@ -109,7 +109,9 @@ def open_puzzle(browser, number, name):
 
 
 def ready(browser, title):
-    until(lambda: title in browser.text(".bar") and browser.js("return document.activeElement.tagName") == "svg")
+    is_open = until(lambda: title in browser.text(".bar")
+                    and browser.js("return document.activeElement.tagName") == "svg")
+    holds(f"{browser.name}: {title} is open, and the board has the keys", is_open, browser.text(".bar"))
 
 
 def spots(browser, points):
