@@ -116,8 +116,8 @@ const MOMENTS: &str = "\
 const ENDING: &str = "\
 1|1777720000|bob-key-1|PUT /puzzles/bob/p4|{\"text\":\"sudoku/4/4/123434122143432g\"}
 4|1777720000|bob-key-1|POST /puzzles/bob/p4/certificate|{\"budget\":200000}
-5|1777720000|dora-key|PUT /rounds/r6|version = 3~title = \"Alone\"~start = \"2026-05-02T09:00:00\"~zone = \"UTC0\"~minutes = 60~\
-protest_minutes = 30~mode = \"instant\"~penalty = 0~bonus = 0~testers = [\"rex\", \"fay\"]~\
+5|1777720000|dora-key|PUT /rounds/r6|version = 3~title = \"Alone\"~start = \"2026-05-02T09:00:00\"~zone = \"UTC0\"~\
+minutes = 60~protest_minutes = 30~mode = \"instant\"~penalty = 0~bonus = 0~testers = [\"rex\", \"fay\"]~\
 puzzle = [{author = \"bob\", label = \"p4\", points = 40}]~
 6|1777720000|dora-key|POST /rounds/r6/release|
 12|1777716000|gil-key-1|PUT /rounds/r1/protests/w2|{\"number\":1,\"text\":\"unclear\"}
