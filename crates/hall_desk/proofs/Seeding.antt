@@ -11,7 +11,7 @@ use Rattle.hall_policy.specs.Ranges.{IsPerson}
 use Rattle.hall_policy.specs.Rules.{HasConflict}
 use Rattle.hall_policy.specs.declared.record.Person.{Person}
 use Rattle.hall_policy.specs.declared.request.Action.TheVariants.{Import}
-use Rattle.hall_store.specs.Store.{Content, Fails, Kept, KeptWorld, Leads, LeavesOneOf, MakesInWorld}
+use Rattle.hall_store.specs.Store.{CanRefuseIn, Content, Fails, Kept, KeptWorld, Leads, LeavesOneOf, MakesInWorld}
 use Rattle.hall_store.specs.declared.fault.StoreFault.{StoreFault}
 use Rattle.hall_store.specs.Change.{changed, CanMake}
 use Rattle.hall_store.specs.declared.change.Change.{Change}
@@ -24,6 +24,7 @@ use Rattle.hall_desk.specs.Plans.{StopsInSeed}
 use Rattle.hall_desk.specs.declared.reply.Reply.{Reply}
 use Rattle.hall_desk.specs.declared.reply.Reply.TheVariants.{Denied}
 use Rattle.hall_desk.specs.declared.plan.Plan.{Plan}
+use Rattle.hall_store.proofs.Knowing.{more_after}
 use Rattle.hall_desk.proofs.ImportSane.{people_sane}
 use Rattle.hall_desk.proofs.Stepping.{committed, quiet_commit}
 
@@ -49,13 +50,15 @@ import_plan world facts t people plan told clear is = record {
 }
 
 -- a plan of theirs that was refused was refused as the import is
-pub seed_fails : {R : Type 0} (result : Result R StoreFault) (people : List Person) (planned : Change) (new : Content)
-    → (planned ≡ Nothing) ⊎ (planned ≡ change.Import people) → (planned ≡ Nothing → IsOk result)
-    → Fails (new.can_refuse planned) result → Fails (SeedCanFail people new) result
-seed_fails (Ok x) people planned new plans idle cause = tt
-seed_fails (Err e) people planned new (inl none) idle cause = absurd (let no = idle none in cc)
-seed_fails (Err e) people planned new (inr is) idle cause =
-    λ failed. inr (subst (λ (c : Change). new.can_refuse c) is (cause failed))
+pub seed_fails : {R : Type 0} (result : Result R StoreFault) (people : List Person) (planned : Change)
+    (old mid new : Content) → (planned ≡ Nothing) ⊎ (planned ≡ change.Import people) → (planned ≡ Nothing → IsOk result)
+    → old.faults ≤ mid.faults → Fails (CanRefuseIn planned mid new) result → Fails (SeedCanFail people old new) result
+seed_fails (Ok x) people planned old mid new plans idle on cause = tt
+seed_fails (Err e) people planned old mid new (inl none) idle on cause = absurd (let no = idle none in cc)
+seed_fails (Err e) people planned old mid new (inr is) idle on cause = λ failed. elim (cause failed) [
+  | inl more ↦ inl (inl (more_after old.faults mid.faults new.faults on more))
+  | inr refused ↦ inr (subst (λ (c : Change). new.can_refuse c) is refused)
+]
 
 -- a store that has made a plan's change served before it, and so it did where a plan without one was asked of it
 pub seeded_serves : {R : Type 0} (E : Type 0) (mid new : Content) (change : Change) (done : R)

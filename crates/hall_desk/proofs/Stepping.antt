@@ -2,7 +2,8 @@
 use Rattle.std.proofs.Common.{◌≡◌, ◌≤◌, ◌⊎◌, inl, inr, ℕ, Ok, sym, ap, ◌∙◌, subst, arith}
 use Rattle.hall_policy.specs.World.{World}
 use Rattle.hall_policy.specs.declared.request.Request.{Request}
-use Rattle.hall_store.specs.Store.{Content, Kept, Leads, LeavesNoOther, LeavesOneOf, MakesInWorld, WritesOnce}
+use Rattle.hall_store.specs.Store.{CanRefuseIn, Content, Kept, Leads, LeavesNoOther, LeavesOneOf, MakesInWorld}
+use Rattle.hall_store.specs.Store.{WritesOnce}
 use Rattle.hall_store.specs.Change.{changed}
 use Rattle.hall_desk.specs.Step.{Step}
 use Rattle.hall_desk.specs.Plans.{IsPlanFor, IsQuiet, Planned, IsStepOver, StepCanFail, StopsWithin, WritesIfAny}
@@ -11,6 +12,7 @@ use Rattle.hall_store.specs.declared.change.Change.TheVariants.{Nothing}
 use Rattle.hall_desk.specs.declared.reply.Reply.{Reply}
 use Rattle.hall_desk.specs.declared.reply.Reply.TheVariants.{Unavailable}
 use Rattle.hall_desk.specs.declared.plan.Plan.{Plan}
+use Rattle.hall_store.proofs.Knowing.{more_after}
 
 -- what a commit makes of the world of a store that served before
 pub committed : {S R : Type 0} (E : Type 0) (content : S → Content) (old new : S) (change : Change) (done : R)
@@ -84,10 +86,12 @@ once_after old mid new kept once = omega (arith, kept.writes, once)
 
 -- the step of a plan whose change was refused may be refused for that
 pub refused_step : (E : Type 0) (old mid new : Content) (t : ℕ) (request : Request) (plan : Plan) → Kept old mid
-    → Leads mid new → Planned {E = E} mid t request (Ok plan) → (plan.change ≡ Nothing → ⊥) → new.can_refuse plan.change
-    → StepCanFail old t request new
-refused_step E old mid new t request plan kept leads (inr none) never refused = absurd (never none.0)
-refused_step E old mid new t request plan kept leads (inl made) never refused = inr (plan, is, refused)
+    → Leads mid new → Planned {E = E} mid t request (Ok plan) → (plan.change ≡ Nothing → ⊥)
+    → CanRefuseIn plan.change mid new → StepCanFail old t request new
+refused_step E old mid new t request plan kept leads planned never (inl more) =
+    inl (inl (inl (more_after old.faults mid.faults new.faults kept.counts more)))
+refused_step E old mid new t request plan kept leads (inr none) never (inr refused) = absurd (never none.0)
+refused_step E old mid new t request plan kept leads (inl made) never (inr refused) = inr (plan, is, refused)
   where
     is : new.honest → old.serves × IsPlanFor old.world t request plan
     is h =

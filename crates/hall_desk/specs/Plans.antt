@@ -19,7 +19,7 @@ use Rattle.hall_policy.specs.declared.request.Action.TheVariants.{PutPuzzle, Cer
 use Rattle.hall_policy.specs.declared.request.Action.TheVariants.{ReadPuzzle, ListPuzzles, ListRounds, ReadRound}
 use Rattle.hall_policy.specs.declared.request.Action.TheVariants.{Answers, Solutions, Protests, Table}
 use Rattle.hall_policy.specs.declared.facts.Facts.{Facts}
-use Rattle.hall_store.specs.Store.{Content, Leads, LeavesOneOf, Over, WritesOnce}
+use Rattle.hall_store.specs.Store.{CanFailIn, Content, Leads, LeavesOneOf, Over, WritesOnce}
 use Rattle.hall_store.specs.declared.change.Change.{Change}
 use Rattle.hall_store.specs.declared.change.RoundFlag.TheVariants as flag
 use Rattle.hall_store.specs.declared.fault.StoreFault.{StoreFault}
@@ -145,8 +145,8 @@ pub record IsSeedPlan (world : World) (people : List Person) (plan : Plan) : Typ
 
 -- an import of the people may be refused for another cause than being out of memory: as one of its reads may be, or as
 -- the change itself
-abbrev pub SeedCanFail : List Person → Content → Type 0
-SeedCanFail people content = content.can_fail ⊎ content.can_refuse (change.Import people)
+abbrev pub SeedCanFail : List Person → Content → Content → Type 0
+SeedCanFail people old new = CanFailIn old new ⊎ new.can_refuse (change.Import people)
 
 -- the request has no key and asks for no table, so nobody may make it
 abbrev pub IsNobodys : Request → Type 0
@@ -173,16 +173,16 @@ abbrev pub IsQuietPlan : {E : Type 0} → Result Plan E → Type 0
 IsQuietPlan (Ok plan) = (plan.change ≡ Nothing) × IsAvailable plan.reply
 IsQuietPlan (Err fault) = ⊥
 
--- Failed is answered where the store can fail alone, or where its world isn't sane.
-abbrev pub FailsIn : {R : Type 0} → Content → Result R StoreFault → Type 0
-FailsIn new result =
-    IfErr result (λ fault. fault ≡ Failed → new.can_fail ⊎ (new.honest → new.serves × ¬ (Sane new.world)))
+-- Failed is answered where the store could fail in these calls alone, or where its world isn't sane.
+abbrev pub FailsIn : {R : Type 0} → Content → Content → Result R StoreFault → Type 0
+FailsIn old new result =
+    IfErr result (λ fault. fault ≡ Failed → CanFailIn old new ⊎ (new.honest → new.serves × ¬ (Sane new.world)))
 
 -- A step of the request may be refused for another cause than being out of memory: as a read may be, or since the world
 -- isn't sane, or as the change of a plan for the request over the world before it may be.
 abbrev pub StepCanFail : Content → ℕ → Request → Content → Type 0
 StepCanFail old t request new =
-    (new.can_fail ⊎ (new.honest → new.serves × ¬ (Sane new.world)))
+    (CanFailIn old new ⊎ (new.honest → new.serves × ¬ (Sane new.world)))
     ⊎ ((plan : Plan) × (new.honest → old.serves × IsPlanFor old.world t request plan)
     × new.can_refuse (planned_change plan))
 

@@ -1,7 +1,7 @@
 //! Answers: the answers of a round that the caller sees.
 ghost use Rattle.std.specs.Prelude.{◌≡◌, IfOk, map, true};
 ghost use Rattle.hall_policy.specs.declared.request.Action.TheVariants as action;
-ghost use Rattle.hall_store.specs.Store.{Asks, Kept, Served, Told, Fails, is_in, is_of};
+ghost use Rattle.hall_store.specs.Store.{CanFailIn, Asks, Kept, Served, Told, Fails, is_in, is_of};
 ghost use Rattle.hall_desk.specs.Lines.{AreLinesOf};
 ghost use Rattle.hall_desk.specs.Listings.{AreListings};
 ghost use Rattle.hall_desk.specs.Lookups.{IsCaller};
@@ -31,7 +31,7 @@ pub(crate) fn plan_answers<S: ReadStore>(
     requires listed { AreListings (S.content store.old) listings.old }
     requires caller { Asks (S.content store.old) (λ world. IsCaller world asked.now.request.now.key facts.old.caller) }
     ensures kept { Kept (S.content store.old) (S.content store.new) }
-    ensures fault { FailsIn (S.content store.new) result }
+    ensures fault { FailsIn (S.content store.old) (S.content store.new) result }
     ensures told { Told (S.content store.old) (S.content store.new) result
         (λ world plan. IsPlanFor world asked.now.t asked.now.request.now plan) }
     ensures listed { AreListings (S.content store.new) listings.new }
@@ -65,7 +65,7 @@ fn list_answers<S: ReadStore>(
     requires serves { (S.content store.old).honest → (S.content store.old).serves }
     requires listed { AreListings (S.content store.old) listings.old }
     ensures kept { Kept (S.content store.old) (S.content store.new) }
-    ensures fault { FailsIn (S.content store.new) result }
+    ensures fault { FailsIn (S.content store.old) (S.content store.new) result }
     ensures served { Served (S.content store.new) result (λ world lines. AreLinesOf world
         (sees_answer person.now round.now id.now asked.now.t)
         (shows_verdict person.now round.now asked.now.t) lines) }
@@ -114,7 +114,7 @@ fn take_listing<S: ReadStore>(
     requires serves { (S.content store.old).honest → (S.content store.old).serves }
     requires listed { AreListings (S.content store.old) listings.old }
     ensures kept { Kept (S.content store.old) (S.content store.new) }
-    ensures fault { Fails (S.content store.new).can_fail result }
+    ensures fault { Fails (CanFailIn (S.content store.old) (S.content store.new)) result }
     ensures served { Served (S.content store.new) result
         (λ world lines. AreLinesOf world (is_in round.now) true lines) }
     ensures listed { AreListings (S.content store.new) listings.new }
@@ -132,7 +132,7 @@ fn list_all<S: ReadStore>(
     round: &RoundId,
 ) -> Result<AnswersText, StoreFault>
     ensures kept { Kept (S.content store.old) (S.content store.new) }
-    ensures fault { Fails (S.content store.new).can_fail result }
+    ensures fault { Fails (CanFailIn (S.content store.old) (S.content store.new)) result }
     ensures served { Served (S.content store.new) result
         (λ world lines. AreLinesOf world (is_in round.now) true lines) }
 {
@@ -150,7 +150,7 @@ fn list_own<S: ReadStore>(
     shows: bool,
 ) -> Result<AnswersText, StoreFault>
     ensures kept { Kept (S.content store.old) (S.content store.new) }
-    ensures fault { Fails (S.content store.new).can_fail result }
+    ensures fault { Fails (CanFailIn (S.content store.old) (S.content store.new)) result }
     ensures served { Served (S.content store.new) result
         (λ world lines. AreLinesOf world (is_of name.now round.now) shows lines) }
 {

@@ -1,6 +1,6 @@
 //! How many people and rounds a hall knows.
 ghost use Rattle.std.specs.Prelude.{◌≡◌};
-ghost use Rattle.hall_store.specs.Store.{Kept, Served, Fails};
+ghost use Rattle.hall_store.specs.Store.{CanFailIn, Kept, Served, Fails};
 ghost use Rattle.hall_desk.specs.Census.{census_of};
 
 use hall_store::{ReadStore, StoreFault};
@@ -18,7 +18,7 @@ impl Census {
     pub(crate) fn of<S: ReadStore>(alloc: Global, store: &mut S) -> Result<Census, StoreFault>
         ensures kept { Kept (S.content store.old) (S.content store.new) }
         ensures served { Served (S.content store.new) result (λ world census. census ≡ census_of world) }
-        ensures fault { Fails (S.content store.new).can_fail result }
+        ensures fault { Fails (CanFailIn (S.content store.old) (S.content store.new)) result }
     {
         let people = store.people(alloc)?.len() as u64;
         let rounds = store.rounds(alloc)?.len() as u64;

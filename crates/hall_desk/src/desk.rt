@@ -2,7 +2,7 @@
 ghost use Rattle.std.specs.Prelude.{◌≡◌, ◌⊎◌, ◌≤◌, ◌+◌, [], length, IfOk, IfSome, IsOk, IsTrue, OnErr, false};
 ghost use Rattle.hall_store.specs.Store.{Kept, Served, KeptWorld, Leads, LeavesOneOf, IsSettled, MakesInWorld};
 ghost use Rattle.hall_store.specs.Store.{WritesOnce, Asks};
-ghost use Rattle.hall_store.specs.Store.{Told, Fails};
+ghost use Rattle.hall_store.specs.Store.{CanFailIn, CanRefuseIn, Told, Fails};
 ghost use Rattle.hall_store.specs.Change.{changed, CanMake};
 ghost use Rattle.hall_store.specs.declared.change.Change.{Change};
 ghost use Rattle.hall_desk.specs.Census.{census_of};
@@ -87,7 +87,7 @@ impl<S: ReadStore> Desk<S> {
         ensures kept { Kept (S.content (kept_by self.old)) (S.content (kept_by self.new)) }
         ensures untouched { IsNobodys request.now → kept_by self.new ≡ kept_by self.old }
         ensures keyless { IsNobodys request.now → IsQuietPlan result }
-        ensures fault { FailsIn (S.content (kept_by self.new)) result }
+        ensures fault { FailsIn (S.content (kept_by self.old)) (S.content (kept_by self.new)) result }
         ensures planned { Planned (S.content (kept_by self.new)) t request.now result }
         ensures sane { IfOk result (λ plan. Asks (S.content (kept_by self.new))
             (λ world. Sane world → Sane (changed (planned_change plan) world))) }
@@ -154,7 +154,7 @@ impl<S: ReadStore> Desk<S> {
     pub fn census(&mut self, alloc: Global) -> Result<Census, StoreFault>
         ensures kept { Kept (S.content (kept_by self.old)) (S.content (kept_by self.new)) }
         ensures served { Served (S.content (kept_by self.new)) result (λ world census. census ≡ census_of world) }
-        ensures fault { Fails (S.content (kept_by self.new)).can_fail result }
+        ensures fault { Fails (CanFailIn (S.content (kept_by self.old)) (S.content (kept_by self.new))) result }
     {
         Census::of(alloc, &mut self.store)
     }
@@ -171,7 +171,8 @@ impl<S: ReadStore> Desk<S> {
         ensures kept { Kept (S.content (kept_by self.old)) (S.content (kept_by self.new)) }
         ensures serves { IfOk result (λ yes. (S.content (kept_by self.new)).honest → IsTrue yes
             → (S.content (kept_by self.new)).serves) }
-        ensures shut { IfOk result (λ yes. yes ≡ false → (S.content (kept_by self.new)).can_fail) }
+        ensures shut { IfOk result (λ yes. yes ≡ false → CanFailIn
+            (S.content (kept_by self.old)) (S.content (kept_by self.new))) }
     {
         still_serves(alloc, &mut self.store)
     }
@@ -190,7 +191,8 @@ impl<S: Store> Desk<S> {
             (S.content (kept_by self.old)) (S.content (kept_by self.new)) }
         ensures made { (joint ≡ []) ⊎ MakesInWorld (Change.AddAnswers joint)
             (S.content (kept_by self.old)) (S.content (kept_by self.new)) result }
-        ensures fault { Fails ((S.content (kept_by self.new)).can_refuse (Change.AddAnswers joint)) result }
+        ensures fault { Fails (CanRefuseIn (Change.AddAnswers joint)
+            (S.content (kept_by self.old)) (S.content (kept_by self.new))) result }
         ensures nothing { joint ≡ [] → IsOk result × (kept_by self.new ≡ kept_by self.old) }
     {
         if joint.as_slice().is_empty() {
@@ -211,7 +213,8 @@ impl<S: Store> Desk<S> {
             (S.content (kept_by self.old)) (S.content (kept_by self.new)) }
         ensures made { (planned_change plan ≡ Change.Nothing) ⊎ MakesInWorld (planned_change plan)
             (S.content (kept_by self.old)) (S.content (kept_by self.new)) result }
-        ensures fault { Fails ((S.content (kept_by self.new)).can_refuse (planned_change plan)) result }
+        ensures fault { Fails (CanRefuseIn (planned_change plan)
+            (S.content (kept_by self.old)) (S.content (kept_by self.new))) result }
         ensures nothing { planned_change plan ≡ Change.Nothing → IsOk result × (kept_by self.new ≡ kept_by self.old) }
         ensures reply { IfOk result (λ reply. reply ≡ planned_reply plan) }
     {
@@ -231,7 +234,8 @@ impl<S: Store> Desk<S> {
             (S.content (kept_by self.old)) (S.content (kept_by self.new)) }
         ensures made { (change ≡ Change.Nothing)
             ⊎ MakesInWorld change (S.content (kept_by self.old)) (S.content (kept_by self.new)) result }
-        ensures fault { Fails ((S.content (kept_by self.new)).can_refuse change) result }
+        ensures fault { Fails (CanRefuseIn change
+            (S.content (kept_by self.old)) (S.content (kept_by self.new))) result }
         ensures nothing { change ≡ Change.Nothing → IsOk result × (kept_by self.new ≡ kept_by self.old) }
     {
         self.copies.tables = table_copy::left_by(&change, self.copies.tables.take());
@@ -288,7 +292,8 @@ impl<S: Store> Desk<S> {
         ensures left { OnErr result (KeptWorld (S.content (kept_by self.old)) (S.content (kept_by self.new))) }
         ensures stops { StopsInSeed (S.content (kept_by self.old)) people.now (S.content (kept_by self.new)) }
         ensures settled { IsSettled (S.content (kept_by self.new)) }
-        ensures fault { Fails (SeedCanFail people.now (S.content (kept_by self.new))) result }
+        ensures fault { Fails (SeedCanFail people.now
+            (S.content (kept_by self.old)) (S.content (kept_by self.new))) result }
         ensures sane { SaneThen Sane (S.content (kept_by self.old)) (S.content (kept_by self.new)) }
     {
         self.copies = Copies::none();

@@ -13,7 +13,7 @@ pub(crate) fn find_round<S: ReadStore>(
     id: &RoundId,
 ) -> Result<Option<RoundRow>, StoreFault>
     ensures kept { Kept (S.content store.old) (S.content store.new) }
-    ensures fault { FailsIn (S.content store.new) result }
+    ensures fault { FailsIn (S.content store.old) (S.content store.new) result }
     ensures served { Served (S.content store.new) result (λ world found. IsRoundKept world id.now found) }
 {
     store.round(alloc, id)

@@ -35,7 +35,7 @@ pub(crate) trait Handler {
         requires same { action.now ≡ action_of self.now }
         requires passed { PassesUpTo 3 facts.old action.now t }
         ensures kept { Kept (S.content store.old) (S.content store.new) }
-        ensures fault { FailsIn (S.content store.new) result }
+        ensures fault { FailsIn (S.content store.old) (S.content store.new) result }
         ensures caller { facts.new.caller ≡ facts.old.caller }
         ensures implied { IfOk result (λ decision. Implies decision facts.new action.now) }
         ensures told { Told (S.content store.old) (S.content store.new) result
@@ -61,7 +61,7 @@ pub(crate) trait Handler {
         requires told { Asks (S.content store.old) (λ world. AreTrue facts.now world (action_of self.now)) }
         requires there { Asks (S.content store.old) (λ world. IsThere world facts.now.caller) }
         ensures kept { Kept (S.content store.old) (S.content store.new) }
-        ensures fault { FailsIn (S.content store.new) result }
+        ensures fault { FailsIn (S.content store.old) (S.content store.new) result }
         ensures told { Told (S.content store.old) (S.content store.new) result
             (λ world plan. IsMadePlan world facts.now.caller (action_of self.now) t plan) };
 }

@@ -2,7 +2,7 @@
 ghost use Rattle.std.specs.Prelude.{◌≡◌, ◌≢◌, ◌↔◌, ◌⊎◌, ℕ, List, IsTrue, IfOk, Contains};
 ghost use Rattle.std.specs.FinMap.{get};
 ghost use Rattle.hall_policy.specs.Rules.{Conflicts};
-ghost use Rattle.hall_store.specs.Store.{Kept, Served, Told, Fails};
+ghost use Rattle.hall_store.specs.Store.{CanFailIn, Kept, Served, Told, Fails};
 ghost use Rattle.hall_desk.specs.Step.{unknown_people};
 ghost use Rattle.hall_desk.specs.Plans.{IsImportPlan, IsSeedReply};
 
@@ -58,7 +58,7 @@ pub(crate) fn plan_import<S: ReadStore>(
     people: &People,
 ) -> Result<Plan, StoreFault>
     ensures kept { Kept (S.content store.old) (S.content store.new) }
-    ensures fault { Fails (S.content store.new).can_fail result }
+    ensures fault { Fails (CanFailIn (S.content store.old) (S.content store.new)) result }
     ensures answered { IfOk result (λ plan. IsSeedReply plan.reply × (plan.change ≢ Change.Nothing)) }
     ensures imports { IfOk result (λ plan. plan.change ≡ Change.Import people.now) }
     ensures allowed { IfOk result (λ plan. plan.reply ≢ Reply.Denied 20) }
@@ -81,7 +81,7 @@ pub(crate) fn any_conflict<S: ReadStore>(
     people: &[Person],
 ) -> Result<bool, StoreFault>
     ensures kept { Kept (S.content store.old) (S.content store.new) }
-    ensures fault { Fails (S.content store.new).can_fail result }
+    ensures fault { Fails (CanFailIn (S.content store.old) (S.content store.new)) result }
     ensures asked { IfOk result (λ found. IsTrue found → (S.content store.new).honest → (S.content store.new).serves) }
     ensures told { Told (S.content store.old) (S.content store.new) result
         (λ world found. IsTrue found ↔ ((person : Person) × Contains people.now person × Conflicts world person)) }
@@ -102,7 +102,7 @@ fn conflicts<S: ReadStore>(
     person: &Person,
 ) -> Result<bool, StoreFault>
     ensures kept { Kept (S.content store.old) (S.content store.new) }
-    ensures fault { Fails (S.content store.new).can_fail result }
+    ensures fault { Fails (CanFailIn (S.content store.old) (S.content store.new)) result }
     ensures served { Served (S.content store.new) result (λ world found. IsTrue found ↔ Conflicts world person.now) }
 {
     if is_changed(alloc, store, person)? {
@@ -122,7 +122,7 @@ fn is_changed<S: ReadStore>(
     person: &Person,
 ) -> Result<bool, StoreFault>
     ensures kept { Kept (S.content store.old) (S.content store.new) }
-    ensures fault { Fails (S.content store.new).can_fail result }
+    ensures fault { Fails (CanFailIn (S.content store.old) (S.content store.new)) result }
     ensures served { Served (S.content store.new) result
         (λ world found. IsTrue found ↔ ((known : Person) × (get world.people person.now.name ≡ Some known)
         × ((known.key ≢ person.now.key) ⊎ (known.roles ≢ person.now.roles)))) }
@@ -147,7 +147,7 @@ fn has_key_of_another<S: ReadStore>(
     person: &Person,
 ) -> Result<bool, StoreFault>
     ensures kept { Kept (S.content store.old) (S.content store.new) }
-    ensures fault { Fails (S.content store.new).can_fail result }
+    ensures fault { Fails (CanFailIn (S.content store.old) (S.content store.new)) result }
     ensures served { Served (S.content store.new) result
         (λ world found. IsTrue found ↔ ((other : List ℕ) × (known : Person) × (get world.people other ≡ Some known)
         × (other ≢ person.now.name) × (known.key ≡ person.now.key))) }
@@ -165,7 +165,7 @@ fn count_unknown<S: ReadStore>(
     people: &[Person],
 ) -> Result<u64, StoreFault>
     ensures kept { Kept (S.content store.old) (S.content store.new) }
-    ensures fault { Fails (S.content store.new).can_fail result }
+    ensures fault { Fails (CanFailIn (S.content store.old) (S.content store.new)) result }
     ensures told { Told (S.content store.old) (S.content store.new) result
         (λ world count. count ≡ unknown_people world people.now) }
 {

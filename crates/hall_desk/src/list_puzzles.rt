@@ -2,7 +2,7 @@
 ghost use Rattle.std.specs.Prelude.{◌≡◌, IfOk, map};
 ghost use Rattle.std.specs.List.{filter};
 ghost use Rattle.std.specs.FinMap.{values};
-ghost use Rattle.hall_store.specs.Store.{Kept, Served, Fails};
+ghost use Rattle.hall_store.specs.Store.{CanFailIn, Kept, Served, Fails};
 ghost use Rattle.hall_desk.specs.Shown.{sees_puzzle, puzzle_line};
 
 use crate::handler::Handler;
@@ -63,7 +63,7 @@ fn find_puzzles<S: ReadStore>(
     person: &Person,
 ) -> Result<Vec<PuzzleRow>, StoreFault>
     ensures kept { Kept (S.content store.old) (S.content store.new) }
-    ensures fault { Fails (S.content store.new).can_fail result }
+    ensures fault { Fails (CanFailIn (S.content store.old) (S.content store.new)) result }
     ensures served { Served (S.content store.new) result
         (λ world rows. rows.items ≡ filter (sees_puzzle person.now) (values world.puzzles)) }
 {

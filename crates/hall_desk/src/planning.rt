@@ -64,7 +64,7 @@ pub(crate) fn make_plan<S: ReadStore>(
     ensures kept { Kept (S.content store.old) (S.content store.new) }
     ensures untouched { IsNobodys request.now → store.new ≡ store.old }
     ensures keyless { IsNobodys request.now → IsQuietPlan result }
-    ensures fault { FailsIn (S.content store.new) result }
+    ensures fault { FailsIn (S.content store.old) (S.content store.new) result }
     ensures planned { Planned (S.content store.new) t request.now result }
     ensures copied { AreCopied (S.content store.new) copies.new }
 {
@@ -118,7 +118,7 @@ fn plan_for_anyone<S: ReadStore>(
     requires action { asked.now.request.now.action ≡ Table round.now }
     requires copied { AreTablesCopied (S.content store.old) copied.old }
     ensures kept { Kept (S.content store.old) (S.content store.new) }
-    ensures fault { FailsIn (S.content store.new) result }
+    ensures fault { FailsIn (S.content store.old) (S.content store.new) result }
     ensures planned { Planned (S.content store.new) asked.now.t asked.now.request.now result }
     ensures copied { AreTablesCopied (S.content store.new) copied.new }
 {
@@ -141,7 +141,7 @@ fn plan_by_key<S: ReadStore>(
     ensures kept { Kept (S.content store.old) (S.content store.new) }
     ensures untouched { IsNobodys asked.now.request.now → store.new ≡ store.old }
     ensures keyless { IsNobodys asked.now.request.now → IsQuietPlan result }
-    ensures fault { FailsIn (S.content store.new) result }
+    ensures fault { FailsIn (S.content store.old) (S.content store.new) result }
     ensures planned { Planned (S.content store.new) asked.now.t asked.now.request.now result }
     ensures copied { AreCopied (S.content store.new) copies.new }
 {
@@ -192,7 +192,7 @@ pub(crate) fn plan_for_caller<S: ReadStore>(
     requires caller { Asks (S.content store.old) (λ world. IsCaller world asked.now.request.now.key facts.old.caller) }
     requires action { (round : List ℕ) → asked.now.request.now.action ≢ Table round }
     ensures kept { Kept (S.content store.old) (S.content store.new) }
-    ensures fault { FailsIn (S.content store.new) result }
+    ensures fault { FailsIn (S.content store.old) (S.content store.new) result }
     ensures told { Told (S.content store.old) (S.content store.new) result
         (λ world plan. IsPlanFor world asked.now.t asked.now.request.now plan) }
     ensures copied { AreCopied (S.content store.new) copies.new }
@@ -224,7 +224,7 @@ fn dispatch<S: ReadStore>(
     requires reads { (round : List ℕ) → asked.now.request.now.action ≢ ReadRound round }
     requires lists { (round : List ℕ) → asked.now.request.now.action ≢ Answers round }
     ensures kept { Kept (S.content store.old) (S.content store.new) }
-    ensures fault { FailsIn (S.content store.new) result }
+    ensures fault { FailsIn (S.content store.old) (S.content store.new) result }
     ensures told { Told (S.content store.old) (S.content store.new) result
         (λ world plan. IsPlanFor world asked.now.t asked.now.request.now plan) }
 {
@@ -281,7 +281,7 @@ impl<'a> RequestAt<'a> {
             (λ world. IsCaller world self.now.request.now.key facts.old.caller) }
         requires passed { PassesUpTo 3 facts.old self.now.request.now.action self.now.t }
         ensures kept { Kept (S.content store.old) (S.content store.new) }
-        ensures fault { FailsIn (S.content store.new) result }
+        ensures fault { FailsIn (S.content store.old) (S.content store.new) result }
         ensures told { Told (S.content store.old) (S.content store.new) result
             (λ world plan. IsPlanFor world self.now.t self.now.request.now plan) }
     {

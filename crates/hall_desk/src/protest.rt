@@ -1,7 +1,7 @@
 //! Protest: a protest about a puzzle of a round is stored.
 ghost use Rattle.std.specs.Prelude.{◌≡◌, IfOk};
 ghost use Rattle.hall_policy.specs.declared.request.Action.{Action};
-ghost use Rattle.hall_store.specs.Store.{Kept, Told, Fails};
+ghost use Rattle.hall_store.specs.Store.{CanFailIn, Kept, Told, Fails};
 ghost use Rattle.hall_store.specs.declared.change.Change.{Change};
 ghost use Rattle.hall_desk.specs.Handler.{protest_action, protest_key, protest_row, IsProtestOf, IsProtestCountOf};
 
@@ -100,7 +100,7 @@ fn find_protest<S: ReadStore>(
     asked: &Protest,
 ) -> Result<Option<ProtestRow>, StoreFault>
     ensures kept { Kept (S.content store.old) (S.content store.new) }
-    ensures fault { Fails (S.content store.new).can_fail result }
+    ensures fault { Fails (CanFailIn (S.content store.old) (S.content store.new)) result }
     ensures told { Told (S.content store.old) (S.content store.new) result
         (λ world found. IsProtestOf world facts.now.caller asked.now found) }
 {
@@ -121,7 +121,7 @@ fn count_protests<S: ReadStore>(
     asked: &Protest,
 ) -> Result<u64, StoreFault>
     ensures kept { Kept (S.content store.old) (S.content store.new) }
-    ensures fault { Fails (S.content store.new).can_fail result }
+    ensures fault { Fails (CanFailIn (S.content store.old) (S.content store.new)) result }
     ensures told { Told (S.content store.old) (S.content store.new) result
         (λ world count. IsProtestCountOf world facts.now.caller asked.now count) }
 {

@@ -4,7 +4,7 @@ ghost use Rattle.hall_grid.specs.Canonical.{CanonicalText};
 ghost use Rattle.hall_policy.specs.Rules.{puzzles_put};
 ghost use Rattle.hall_policy.specs.Implies.{IsAllowable};
 ghost use Rattle.hall_policy.specs.declared.request.Action.{Action};
-ghost use Rattle.hall_store.specs.Store.{Kept, Told, Fails};
+ghost use Rattle.hall_store.specs.Store.{CanFailIn, Kept, Told, Fails};
 ghost use Rattle.hall_desk.specs.Lookups.{HasAuthor};
 ghost use Rattle.hall_desk.specs.Shown.{state_name};
 ghost use Rattle.hall_desk.specs.Plans.{IsPlanOf, StandsAs};
@@ -75,7 +75,7 @@ impl<'a> Handler for PutPuzzle<'a> {
 /// Whether a person of the name with the role author is there.
 fn find_author<S: ReadStore>(alloc: Global, store: &mut S, name: &Name) -> Result<bool, StoreFault>
     ensures kept { Kept (S.content store.old) (S.content store.new) }
-    ensures fault { Fails (S.content store.new).can_fail result }
+    ensures fault { Fails (CanFailIn (S.content store.old) (S.content store.new)) result }
     ensures told { Told (S.content store.old) (S.content store.new) result
         (λ world found. IsTrue found ↔ HasAuthor world name.now) }
 {
@@ -93,7 +93,7 @@ fn count_puzzles<S: ReadStore>(
     found: &Option<PuzzleRow>,
 ) -> Result<u64, StoreFault>
     ensures kept { Kept (S.content store.old) (S.content store.new) }
-    ensures fault { Fails (S.content store.new).can_fail result }
+    ensures fault { Fails (CanFailIn (S.content store.old) (S.content store.new)) result }
     ensures told { Told (S.content store.old) (S.content store.new) result
         (λ world count. found.now ≡ None → count ≡ puzzles_put world author.now) }
 {

@@ -1,7 +1,7 @@
 //! PutRound: a draft is stored, or replaced.
 ghost use Rattle.std.specs.Prelude.{◌≡◌, ◌↔◌, IsTrue, IfOk};
 ghost use Rattle.hall_policy.specs.Rules.{SheetLacks, LacksPuzzle, LacksTester, may_test};
-ghost use Rattle.hall_store.specs.Store.{Kept, Told, Fails};
+ghost use Rattle.hall_store.specs.Store.{CanFailIn, Kept, Told, Fails};
 ghost use Rattle.hall_desk.specs.Step.{draft_of};
 
 use crate::find_round::find_round;
@@ -102,7 +102,7 @@ fn any_lacking<S: ReadStore>(
     sheet: &Sheet,
 ) -> Result<bool, StoreFault>
     ensures kept { Kept (S.content store.old) (S.content store.new) }
-    ensures fault { Fails (S.content store.new).can_fail result }
+    ensures fault { Fails (CanFailIn (S.content store.old) (S.content store.new)) result }
     ensures told { Told (S.content store.old) (S.content store.new) result
         (λ world found. IsTrue found ↔ SheetLacks world sheet.now) }
 {
@@ -119,7 +119,7 @@ fn lacks_puzzle<S: ReadStore>(
     entries: &[Entry],
 ) -> Result<bool, StoreFault>
     ensures kept { Kept (S.content store.old) (S.content store.new) }
-    ensures fault { Fails (S.content store.new).can_fail result }
+    ensures fault { Fails (CanFailIn (S.content store.old) (S.content store.new)) result }
     ensures told { Told (S.content store.old) (S.content store.new) result
         (λ world found. IsTrue found ↔ LacksPuzzle world entries.now) }
 {
@@ -138,7 +138,7 @@ fn lacks_tester<S: ReadStore>(
     names: &[Name],
 ) -> Result<bool, StoreFault>
     ensures kept { Kept (S.content store.old) (S.content store.new) }
-    ensures fault { Fails (S.content store.new).can_fail result }
+    ensures fault { Fails (CanFailIn (S.content store.old) (S.content store.new)) result }
     ensures told { Told (S.content store.old) (S.content store.new) result
         (λ world found. IsTrue found ↔ LacksTester world names.now) }
 {

@@ -34,7 +34,7 @@ pub(crate) fn plan_round<S: ReadStore>(
     requires copied { IsRoundCopied (S.content store.old) copied.old }
     requires caller { Asks (S.content store.old) (λ world. IsCaller world asked.now.request.now.key facts.old.caller) }
     ensures kept { Kept (S.content store.old) (S.content store.new) }
-    ensures fault { FailsIn (S.content store.new) result }
+    ensures fault { FailsIn (S.content store.old) (S.content store.new) result }
     ensures told { Told (S.content store.old) (S.content store.new) result
         (λ world plan. IsPlanFor world asked.now.t asked.now.request.now plan) }
     ensures copied { IsRoundCopied (S.content store.new) copied.new }
@@ -65,7 +65,7 @@ fn make_shown<S: ReadStore>(
         × IsRoundAt (S.content store.old).world round.now row.now }
     requires copied { IsRoundCopied (S.content store.old) copied.old }
     ensures kept { Kept (S.content store.old) (S.content store.new) }
-    ensures fault { FailsIn (S.content store.new) result }
+    ensures fault { FailsIn (S.content store.old) (S.content store.new) result }
     ensures served { Served (S.content store.new) result (λ world shown. IsShownAt world round.now shown) }
     ensures copied { IsRoundCopied (S.content store.new) copied.new }
 {
@@ -85,7 +85,7 @@ fn show_round<S: ReadStore>(
 ) -> Result<ShownRound, StoreFault>
     requires { Asks (S.content store.old) (λ world. Sane world → AreKept world row.now.puzzles) }
     ensures kept { Kept (S.content store.old) (S.content store.new) }
-    ensures fault { FailsIn (S.content store.new) result }
+    ensures fault { FailsIn (S.content store.old) (S.content store.new) result }
     ensures told { Told (S.content store.old) (S.content store.new) result
         (λ world found. ShowsRound world row.now found) }
 {
@@ -114,7 +114,7 @@ fn show_puzzles<S: ReadStore>(
     requires few { length entries.now ≤ most_entries }
     requires listed { Asks (S.content store.old) (λ world. Sane world → AreKept world entries.now) }
     ensures kept { Kept (S.content store.old) (S.content store.new) }
-    ensures fault { FailsIn (S.content store.new) result }
+    ensures fault { FailsIn (S.content store.old) (S.content store.new) result }
     ensures told { Told (S.content store.old) (S.content store.new) result
         (λ world found. ShowsPuzzles world 1 entries.now found) }
 {
@@ -136,7 +136,7 @@ fn show_puzzle<S: ReadStore>(
     requires few { place < most_entries }
     requires listed { Asks (S.content store.old) (λ world. Sane world → get world.puzzles entry.now.puzzle ≢ None) }
     ensures kept { Kept (S.content store.old) (S.content store.new) }
-    ensures fault { FailsIn (S.content store.new) result }
+    ensures fault { FailsIn (S.content store.old) (S.content store.new) result }
     ensures told { Told (S.content store.old) (S.content store.new) result
         (λ world found. ShowsPuzzle world (place + 1) entry.now found) }
 {

@@ -3,7 +3,7 @@ ghost use Rattle.std.specs.Prelude.{◌≡◌, ◌≢◌, ◌↔◌, ℕ, List, 
 ghost use Rattle.std.specs.List.{filter};
 ghost use Rattle.hall_policy.specs.World.{same_text};
 ghost use Rattle.hall_policy.specs.Rules.{StandsReleased, IsCertified};
-ghost use Rattle.hall_store.specs.Store.{Asks, Kept, Told, Fails, IsRoundKept};
+ghost use Rattle.hall_store.specs.Store.{CanFailIn, Asks, Kept, Told, Fails, IsRoundKept};
 ghost use Rattle.hall_desk.specs.Lookups.{HasFault, HasFaultyEntry};
 ghost use Rattle.hall_desk.specs.Plans.{FailsIn};
 
@@ -31,7 +31,7 @@ pub(crate) fn find_fault<S: ReadStore>(
 ) -> Result<bool, StoreFault>
     requires { Asks (S.content store.old) (λ world. IsRoundKept world id.now round.now) }
     ensures kept { Kept (S.content store.old) (S.content store.new) }
-    ensures fault { FailsIn (S.content store.new) result }
+    ensures fault { FailsIn (S.content store.old) (S.content store.new) result }
     ensures told { Told (S.content store.old) (S.content store.new) result
         (λ world found. IsTrue found ↔ HasFaultyEntry fault world id.now) }
 {
@@ -50,7 +50,7 @@ fn any_faulty<S: ReadStore>(
     fault: EntryFault,
 ) -> Result<bool, StoreFault>
     ensures kept { Kept (S.content store.old) (S.content store.new) }
-    ensures fault { FailsIn (S.content store.new) result }
+    ensures fault { FailsIn (S.content store.old) (S.content store.new) result }
     ensures told { Told (S.content store.old) (S.content store.new) result
         (λ world found. IsTrue found ↔
         ((entry : Entry) × Contains entries.now entry × HasFault fault world id.now entry)) }
@@ -72,7 +72,7 @@ fn has_fault<S: ReadStore>(
     fault: EntryFault,
 ) -> Result<bool, StoreFault>
     ensures kept { Kept (S.content store.old) (S.content store.new) }
-    ensures fault { FailsIn (S.content store.new) result }
+    ensures fault { FailsIn (S.content store.old) (S.content store.new) result }
     ensures told { Told (S.content store.old) (S.content store.new) result
         (λ world found. IsTrue found ↔ HasFault fault world id.now entry.now) }
 {
@@ -90,7 +90,7 @@ fn is_shared<S: ReadStore>(
     key: &PuzzleKey,
 ) -> Result<bool, StoreFault>
     ensures kept { Kept (S.content store.old) (S.content store.new) }
-    ensures fault { FailsIn (S.content store.new) result }
+    ensures fault { FailsIn (S.content store.old) (S.content store.new) result }
     ensures told { Told (S.content store.old) (S.content store.new) result
         (λ world found. IsTrue found ↔ ((other : List ℕ) × (other ≢ id.now) × StandsReleased world key.now other)) }
 {
@@ -113,7 +113,7 @@ fn is_uncertified<S: ReadStore>(
     key: &PuzzleKey,
 ) -> Result<bool, StoreFault>
     ensures kept { Kept (S.content store.old) (S.content store.new) }
-    ensures fault { Fails (S.content store.new).can_fail result }
+    ensures fault { Fails (CanFailIn (S.content store.old) (S.content store.new)) result }
     ensures told { Told (S.content store.old) (S.content store.new) result
         (λ world found. IsTrue found ↔ ¬ (IsCertified world key.now)) }
 {

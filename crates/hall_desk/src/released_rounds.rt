@@ -17,7 +17,7 @@ pub(crate) fn is_in_released_round<S: ReadStore>(
     key: &PuzzleKey,
 ) -> Result<bool, StoreFault>
     ensures kept { Kept (S.content store.old) (S.content store.new) }
-    ensures fault { FailsIn (S.content store.new) result }
+    ensures fault { FailsIn (S.content store.old) (S.content store.new) result }
     ensures told { Told (S.content store.old) (S.content store.new) result
         (λ world found. IsTrue found ↔ ((id : List ℕ) × StandsReleased world key.now id)) }
 {
@@ -32,7 +32,7 @@ pub(crate) fn any_released<S: ReadStore>(
     ids: &[RoundId],
 ) -> Result<bool, StoreFault>
     ensures kept { Kept (S.content store.old) (S.content store.new) }
-    ensures fault { FailsIn (S.content store.new) result }
+    ensures fault { FailsIn (S.content store.old) (S.content store.new) result }
     ensures told { Told (S.content store.old) (S.content store.new) result
         (λ world found. IsTrue found ↔ ((id : List ℕ) × Contains ids.now id × IsReleasedRound world id)) }
 {
@@ -47,7 +47,7 @@ pub(crate) fn any_released<S: ReadStore>(
 /// Whether the round is there and released.
 fn is_released<S: ReadStore>(alloc: Global, store: &mut S, id: &RoundId) -> Result<bool, StoreFault>
     ensures kept { Kept (S.content store.old) (S.content store.new) }
-    ensures fault { FailsIn (S.content store.new) result }
+    ensures fault { FailsIn (S.content store.old) (S.content store.new) result }
     ensures told { Told (S.content store.old) (S.content store.new) result
         (λ world released. IsTrue released ↔ IsReleasedRound world id.now) }
 {

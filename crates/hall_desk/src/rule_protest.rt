@@ -2,7 +2,7 @@
 ghost use Rattle.std.specs.Prelude.{◌≡◌, ◌↔◌, IfOk, IsTrue};
 ghost use Rattle.hall_policy.specs.Rules.{IsInvolved};
 ghost use Rattle.hall_policy.specs.declared.request.Action.{Action};
-ghost use Rattle.hall_store.specs.Store.{Kept, Told, Fails};
+ghost use Rattle.hall_store.specs.Store.{CanFailIn, Kept, Told, Fails};
 ghost use Rattle.hall_store.specs.declared.change.Change.{Change};
 ghost use Rattle.hall_desk.specs.Handler.{rule_protest_action, ruled_key};
 
@@ -98,7 +98,7 @@ fn is_involved<S: ReadStore>(
     asked: &RuleProtest,
 ) -> Result<bool, StoreFault>
     ensures kept { Kept (S.content store.old) (S.content store.new) }
-    ensures fault { Fails (S.content store.new).can_fail result }
+    ensures fault { Fails (CanFailIn (S.content store.old) (S.content store.new)) result }
     ensures told { Told (S.content store.old) (S.content store.new) result
         (λ world involved. IsTrue involved ↔ IsInvolved world facts.now.caller (rule_protest_action asked.now)) }
 {

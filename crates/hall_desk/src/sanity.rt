@@ -1,6 +1,6 @@
 //! Whether a store's world is sane.
 ghost use Rattle.std.specs.Prelude.{◌≡◌, ◌↔◌, [], IsTrue, IfOk};
-ghost use Rattle.hall_store.specs.Store.{Kept, Served, Fails};
+ghost use Rattle.hall_store.specs.Store.{CanFailIn, Kept, Served, Fails};
 ghost use Rattle.hall_desk.specs.Checked.{IsChecked, IsNothingFound, AreStatesAsked, AreStatesTrue};
 ghost use Rattle.hall_desk.specs.Finds.{EveryRow};
 ghost use Rattle.hall_desk.specs.Whole.{IsInOrder, IsWholeOf, world_of_whole};
@@ -76,7 +76,7 @@ pub fn check<S: WholeStore>(
 ) -> Result<Checked, StoreFault>
     ensures kept { Kept (S.content store.old) (S.content store.new) }
     ensures served { Served (S.content store.new) result (λ world checked. IsChecked world budget checked) }
-    ensures fault { Fails (S.content store.new).can_fail result }
+    ensures fault { Fails (CanFailIn (S.content store.old) (S.content store.new)) result }
 {
     let whole = read_whole(alloc, store)?;
     Ok(check_whole(alloc, &whole, budget)?)
@@ -86,7 +86,7 @@ pub fn check<S: WholeStore>(
 fn read_whole<S: WholeStore>(alloc: Global, store: &mut S) -> Result<Whole, StoreFault>
     ensures kept { Kept (S.content store.old) (S.content store.new) }
     ensures served { Served (S.content store.new) result (λ world whole. IsWholeOf world whole) }
-    ensures fault { Fails (S.content store.new).can_fail result }
+    ensures fault { Fails (CanFailIn (S.content store.old) (S.content store.new)) result }
 {
     let people = store.people(alloc)?;
     let puzzles = store.all_puzzles(alloc)?;

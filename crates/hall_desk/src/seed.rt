@@ -1,6 +1,6 @@
 //! People who are imported before any request.
 ghost use Rattle.std.specs.Prelude.{◌≡◌, ◌≤◌, ◌⊎◌, IfOk, OnErr};
-ghost use Rattle.hall_store.specs.Store.{IsSettled, Kept, KeptWorld, Leads, WritesOnce, Told, Fails};
+ghost use Rattle.hall_store.specs.Store.{CanFailIn, IsSettled, Kept, KeptWorld, Leads, WritesOnce, Told, Fails};
 ghost use Rattle.hall_store.specs.declared.change.Change.{Change};
 ghost use Rattle.hall_desk.specs.Desk.{SaneThen};
 ghost use Rattle.hall_desk.specs.Sane.{Sane};
@@ -30,7 +30,7 @@ pub(crate) fn seed<S: Store>(
     ensures left { OnErr result (KeptWorld (S.content store.old) (S.content store.new)) }
     ensures stops { StopsInSeed (S.content store.old) people.now (S.content store.new) }
     ensures settled { IsSettled (S.content store.new) }
-    ensures fault { Fails (SeedCanFail people.now (S.content store.new)) result }
+    ensures fault { Fails (SeedCanFail people.now (S.content store.old) (S.content store.new)) result }
     ensures sane { SaneThen Sane (S.content store.old) (S.content store.new) }
 {
     // They are read for the ranges that their types keep.
@@ -51,7 +51,7 @@ fn make_seed<S: Store>(alloc: Global, store: &mut S, people: &People) -> Result<
         (S.content store.new).writes ≤ (S.content store.old).writes) }
     ensures left { OnErr result (KeptWorld (S.content store.old) (S.content store.new)) }
     ensures stops { StopsInSeed (S.content store.old) people.now (S.content store.new) }
-    ensures fault { Fails (SeedCanFail people.now (S.content store.new)) result }
+    ensures fault { Fails (SeedCanFail people.now (S.content store.old) (S.content store.new)) result }
 {
     let plan = plan_seed(alloc, store, people)?;
     commit(alloc, store, plan)
@@ -64,7 +64,7 @@ fn plan_seed<S: ReadStore>(
     people: &People,
 ) -> Result<Plan, StoreFault>
     ensures kept { Kept (S.content store.old) (S.content store.new) }
-    ensures fault { Fails (S.content store.new).can_fail result }
+    ensures fault { Fails (CanFailIn (S.content store.old) (S.content store.new)) result }
     ensures answered { IfOk result (λ plan. IsSeedReply plan.reply) }
     ensures changes { IfOk result
         (λ plan. (plan.change ≡ Change.Nothing) ⊎ (plan.change ≡ Change.Import people.now)) }

@@ -1,6 +1,6 @@
 //! Whether a store still serves.
 ghost use Rattle.std.specs.Prelude.{◌≡◌, IfOk, IsTrue, false, ⊤};
-ghost use Rattle.hall_store.specs.Store.{Fails, Kept, Served};
+ghost use Rattle.hall_store.specs.Store.{CanFailIn, Fails, Kept, Served};
 
 use hall_policy::Key;
 use hall_store::{ReadStore, StoreFault};
@@ -13,7 +13,7 @@ const PROBE: &str = "whether-the-store-serves";
 pub(crate) fn still_serves<S: ReadStore>(alloc: Global, store: &mut S) -> Result<bool, AllocError>
     ensures kept { Kept (S.content store.old) (S.content store.new) }
     ensures serves { IfOk result (λ yes. (S.content store.new).honest → IsTrue yes → (S.content store.new).serves) }
-    ensures shut { IfOk result (λ yes. yes ≡ false → (S.content store.new).can_fail) }
+    ensures shut { IfOk result (λ yes. yes ≡ false → CanFailIn (S.content store.old) (S.content store.new)) }
 {
     match probe(alloc, store) {
         Ok(()) => Ok(true),
@@ -26,7 +26,7 @@ pub(crate) fn still_serves<S: ReadStore>(alloc: Global, store: &mut S) -> Result
 fn probe<S: ReadStore>(alloc: Global, store: &mut S) -> Result<(), StoreFault>
     ensures kept { Kept (S.content store.old) (S.content store.new) }
     ensures served { Served (S.content store.new) result (λ _ _. ⊤) }
-    ensures fault { Fails (S.content store.new).can_fail result }
+    ensures fault { Fails (CanFailIn (S.content store.old) (S.content store.new)) result }
 {
     let Some(key) = Key::new(String::from_str(alloc, PROBE)?) else {
         unreachable!()

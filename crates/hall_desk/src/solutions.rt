@@ -67,7 +67,7 @@ fn find_solutions<S: ReadStore>(
 ) -> Result<Rows<AnswerText>, StoreFault>
     requires { Asks (S.content store.old) (λ world. Sane world → AreInStateOne world entries.now) }
     ensures kept { Kept (S.content store.old) (S.content store.new) }
-    ensures fault { FailsIn (S.content store.new) result }
+    ensures fault { FailsIn (S.content store.old) (S.content store.new) result }
     ensures told { Told (S.content store.old) (S.content store.new) result
         (λ world texts. AreSolutions world entries.now texts) }
 {
@@ -87,7 +87,7 @@ fn find_solution<S: ReadStore>(
 ) -> Result<AnswerText, StoreFault>
     requires { Asks (S.content store.old) (λ world. Sane world → IsCertified world entry.now.puzzle) }
     ensures kept { Kept (S.content store.old) (S.content store.new) }
-    ensures fault { FailsIn (S.content store.new) result }
+    ensures fault { FailsIn (S.content store.old) (S.content store.new) result }
     ensures told { Told (S.content store.old) (S.content store.new) result
         (λ world text. IsStoredSolution world entry.now.puzzle text) }
 {

@@ -1,6 +1,7 @@
 //! Plans made and committed, one request after another.
 ghost use Rattle.std.specs.Prelude.{◌≡◌, ◌⊎◌, ◌+◌, ◌≤◌, ◌<◌, ◌++◌, ◌∷◌, [], length, IfOk, IsOk, OnErr, vec_len};
 ghost use Rattle.std.specs.Prelude.{vec_capacity};
+ghost use Rattle.hall_store.specs.Store.{CanRefuseIn};
 ghost use Rattle.hall_store.specs.Store.{Leads, LeavesOneOf, IsSettled, MakesInWorld, WritesOnce, Asks, Fails};
 ghost use Rattle.hall_store.specs.Change.{CanMake, changed};
 ghost use Rattle.hall_store.specs.declared.change.Change.{Change};
@@ -31,7 +32,7 @@ pub(crate) fn commit<S: Store>(
         (S.content store.old) (S.content store.new) }
     ensures made { (plan.change ≡ Change.Nothing)
         ⊎ MakesInWorld plan.change (S.content store.old) (S.content store.new) result }
-    ensures fault { Fails ((S.content store.new).can_refuse plan.change) result }
+    ensures fault { Fails (CanRefuseIn plan.change (S.content store.old) (S.content store.new)) result }
     ensures nothing { plan.change ≡ Change.Nothing → IsOk result × (store.new ≡ store.old) }
     ensures reply { IfOk result (λ reply. reply ≡ plan.reply) }
 {
@@ -48,7 +49,7 @@ pub(crate) fn make<S: Store>(alloc: Global, store: &mut S, change: Change) -> Re
     ensures stops { (S.content store.old).serves → LeavesOneOf (λ before left. left ≡ changed change before)
         (S.content store.old) (S.content store.new) }
     ensures made { (change ≡ Change.Nothing) ⊎ MakesInWorld change (S.content store.old) (S.content store.new) result }
-    ensures fault { Fails ((S.content store.new).can_refuse change) result }
+    ensures fault { Fails (CanRefuseIn change (S.content store.old) (S.content store.new)) result }
     ensures nothing { change ≡ Change.Nothing → IsOk result × (store.new ≡ store.old) }
 {
     match change {

@@ -5,7 +5,7 @@ ghost use Rattle.hall_policy.specs.World.{entry_at};
 ghost use Rattle.hall_policy.specs.Implies.{EntryIsThere};
 ghost use Rattle.hall_policy.specs.declared.record.Entry.{Entry};
 ghost use Rattle.hall_policy.specs.declared.request.Action.{Action};
-ghost use Rattle.hall_store.specs.Store.{Asks, Kept, Served, Told, Fails};
+ghost use Rattle.hall_store.specs.Store.{CanFailIn, Asks, Kept, Served, Told, Fails};
 ghost use Rattle.hall_store.specs.declared.change.Change.{Change};
 ghost use Rattle.hall_desk.specs.Judged.{is_solution, IsVerdictOn};
 ghost use Rattle.hall_desk.specs.Sane.{Sane};
@@ -117,7 +117,7 @@ fn find_answer<S: ReadStore>(
     asked: &Submit,
 ) -> Result<Option<AnswerRow>, StoreFault>
     ensures kept { Kept (S.content store.old) (S.content store.new) }
-    ensures fault { Fails (S.content store.new).can_fail result }
+    ensures fault { Fails (CanFailIn (S.content store.old) (S.content store.new)) result }
     ensures told { Told (S.content store.old) (S.content store.new) result
         (λ world found. IsAnswerOf world facts.now.caller asked.now found) }
 {
@@ -138,7 +138,7 @@ fn count_answers<S: ReadStore>(
     asked: &Submit,
 ) -> Result<u64, StoreFault>
     ensures kept { Kept (S.content store.old) (S.content store.new) }
-    ensures fault { Fails (S.content store.new).can_fail result }
+    ensures fault { Fails (CanFailIn (S.content store.old) (S.content store.new)) result }
     ensures told { Told (S.content store.old) (S.content store.new) result
         (λ world count. IsCountOf world facts.now.caller asked.now count) }
 {
@@ -222,7 +222,7 @@ fn judge_at<S: ReadStore>(
     requires there { EntryIsThere row.now number }
     requires listed { Asks (S.content store.old) (λ world. Sane world → AreKept world row.now.puzzles) }
     ensures kept { Kept (S.content store.old) (S.content store.new) }
-    ensures fault { FailsIn (S.content store.new) result }
+    ensures fault { FailsIn (S.content store.old) (S.content store.new) result }
     ensures served { Served (S.content store.new) result
         (λ world verdict. IsJudgedAt world row.now number answer.now verdict) }
 {

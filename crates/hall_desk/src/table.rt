@@ -31,7 +31,7 @@ pub(crate) fn plan_table<S: ReadStore>(
     requires copied { AreTablesCopied (S.content store.old) copied.old }
     requires caller { Asks (S.content store.old) (λ world. IsCaller world asked.now.request.now.key facts.old.caller) }
     ensures kept { Kept (S.content store.old) (S.content store.new) }
-    ensures fault { FailsIn (S.content store.new) result }
+    ensures fault { FailsIn (S.content store.old) (S.content store.new) result }
     ensures served { Served (S.content store.new) result
         (λ world plan. IsPlanFor world asked.now.t asked.now.request.now plan) }
     ensures copied { AreTablesCopied (S.content store.new) copied.new }
@@ -62,7 +62,7 @@ fn make_table<S: ReadStore>(
         × IsRoundAt (S.content store.old).world round.now row.now }
     requires copied { AreTablesCopied (S.content store.old) copied.old }
     ensures kept { Kept (S.content store.old) (S.content store.new) }
-    ensures fault { FailsIn (S.content store.new) result }
+    ensures fault { FailsIn (S.content store.old) (S.content store.new) result }
     ensures served { Served (S.content store.new) result (λ world text. IsTableAt world round.now text) }
     ensures copied { AreTablesCopied (S.content store.new) copied.new }
 {
@@ -83,7 +83,7 @@ fn find_totals<S: ReadStore>(
     row: &RoundRow,
 ) -> Result<Vec<(Name, i64)>, StoreFault>
     ensures kept { Kept (S.content store.old) (S.content store.new) }
-    ensures fault { FailsIn (S.content store.new) result }
+    ensures fault { FailsIn (S.content store.old) (S.content store.new) result }
     ensures served { Served (S.content store.new) result
         (λ world totals. AreTotals world round.now row.now totals.items) }
 {

@@ -37,7 +37,7 @@ pub(crate) fn search_for<S: ReadStore>(
 ) -> Result<Option<Wanted>, StoreFault>
     ensures kept { Kept (S.content store.old) (S.content store.new) }
     ensures untouched { IsNobodys request.now → store.new ≡ store.old }
-    ensures fault { FailsIn (S.content store.new) result }
+    ensures fault { FailsIn (S.content store.old) (S.content store.new) result }
     ensures told { Told (S.content store.old) (S.content store.new) result
         (λ world. IsFoundFor world request.now memo.now) }
     ensures fresh { IfOk result (λ found. IfSome found
@@ -74,7 +74,7 @@ fn search_by_key<S: ReadStore>(
     requires action { asked.now.request.now.action ≡ certify_action certified.now }
     requires key { asked.now.request.now.key ≡ Some pass.now }
     ensures kept { Kept (S.content store.old) (S.content store.new) }
-    ensures fault { FailsIn (S.content store.new) result }
+    ensures fault { FailsIn (S.content store.old) (S.content store.new) result }
     ensures told { Told (S.content store.old) (S.content store.new) result
         (λ world. IsFoundFor world asked.now.request.now certified.now.memo.now) }
     ensures fresh { IfOk result (λ found. IfSome found
@@ -97,7 +97,7 @@ fn search_by_facts<S: ReadStore>(
     requires action { asked.now.request.now.action ≡ certify_action certified.now }
     requires key { asked.now.request.now.key ≡ Some pass.now }
     ensures kept { Kept (S.content store.old) (S.content store.new) }
-    ensures fault { FailsIn (S.content store.new) result }
+    ensures fault { FailsIn (S.content store.old) (S.content store.new) result }
     ensures told { Told (S.content store.old) (S.content store.new) result
         (λ world. IsFoundFor world asked.now.request.now certified.now.memo.now) }
     ensures fresh { IfOk result (λ found. IfSome found
@@ -120,7 +120,7 @@ fn search_for_caller<S: ReadStore>(
     requires key { asked.now.request.now.key ≡ Some pass.now }
     requires caller { Asks (S.content store.old) (λ world. IsCaller world asked.now.request.now.key facts.old.caller) }
     ensures kept { Kept (S.content store.old) (S.content store.new) }
-    ensures fault { FailsIn (S.content store.new) result }
+    ensures fault { FailsIn (S.content store.old) (S.content store.new) result }
     ensures told { Told (S.content store.old) (S.content store.new) result
         (λ world. IsFoundFor world asked.now.request.now certified.now.memo.now) }
     ensures fresh { IfOk result (λ found. IfSome found

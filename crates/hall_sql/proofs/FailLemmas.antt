@@ -29,14 +29,14 @@ use Rattle.hall_policy.specs.declared.record.PuzzleRow.{PuzzleRow}
 use Rattle.hall_policy.specs.declared.record.PuzzleState.{PuzzleState}
 use Rattle.hall_policy.specs.declared.record.RoundRow.{RoundRow}
 use Rattle.hall_policy.specs.declared.record.Ruling.{Ruling}
-use Rattle.hall_store.specs.Store.{Fails, HasNoRound, IsRefusedNext, RoundCanFail}
+use Rattle.hall_store.specs.Store.{CanFailIn, CanRefuseIn, Fails, HasNoRound, IsRefusedNext, MoreFaults, RoundCanFail}
 use Rattle.hall_store.specs.declared.change.Change.{Change}
 use Rattle.hall_store.specs.declared.change.Change.TheVariants.{Import, PutPuzzle, SetState, PutRound, SetRoundFlag}
 use Rattle.hall_store.specs.declared.change.Change.TheVariants.{AddAnswer, AddAnswers, AddProtest, RuleProtest}
 use Rattle.hall_store.specs.declared.change.RoundFlag.{RoundFlag}
 use Rattle.hall_store.specs.declared.fault.StoreFault.{StoreFault}
 use Rattle.hall_store.specs.declared.fault.StoreFault.TheVariants.{Failed}
-use Rattle.hall_sql.specs.CanFail.{CanFail, CanRefuse, HasReason, KeepsBadRow, RefusesChange}
+use Rattle.hall_sql.specs.CanFail.{HasReason, KeepsBadRow, RefusesChange}
 use Rattle.hall_sql.specs.CanFail.{RefusesPuzzle, StoreCanFail}
 use Rattle.hall_sql.specs.Cause.{FeedFails, IsStoreCause, ReadFails, RoundFails, StopsAtRow}
 use Rattle.hall_sql.specs.Columns.{answer_params, person_params, protest_params}
@@ -66,27 +66,26 @@ use Rattle.hall_sql.proofs.Wordings.{Wording, hall_in, worded}
 
 -- ---- reasons
 
--- what is said of a clean disk
-abbrev Reason : (Database → Type 0) → State → Type 0
-Reason Bad s = (0 < s.faults) ⊎ ((s.is_open ≡ false) ⊎ Bad s.now)
+-- what is said of a clean disk: the device failed in the call, or it is shut, or its tables are bad in this sense
+abbrev Reason : (Database → Type 0) → State → State → Type 0
+Reason Bad old new = MoreFaults old.faults new.faults ⊎ HasReason Bad new
 
 -- one that is shut needs no other
-while_open : (Bad : Database → Type 0) (s : State) → (IsTrue s.is_open → Reason Bad s) → Reason Bad s
+while_open : (Bad : Database → Type 0) (s : State) → (IsTrue s.is_open → Bad s.now) → (s.is_open ≡ false) ⊎ Bad s.now
 while_open Bad s why = go s.is_open refl
   where
-    go : (b : Bool) → s.is_open ≡ b → Reason Bad s
-    go true is = why is
-    go false is = inr (inl is)
+    go : (b : Bool) → s.is_open ≡ b → (s.is_open ≡ false) ⊎ Bad s.now
+    go true is = inr (why is)
+    go false is = inl is
 
-module _ (Bad : Database → Type 0) (old new : State) (stayed : KeptRows old new) (clean : HasCleanDisk new) where
-  by_store : IsStoreCause old new → Reason Bad new
-  by_store (inl (inl more)) = inl (omega (arith, more))
-  by_store (inl (inr many)) = inl (omega (arith, many))
-  by_store (inr shut) = while_open Bad new (λ opens. absurd (let no : false ≡ true = sym shut
-      ∙ stayed.follows.opened clean opens in cc))
+module _ (Bad : Database → Type 0) (old new : State) (stayed : KeptRows old new) where
+  by_store : IsStoreCause old new → Reason Bad old new
+  by_store (inl more) = inl more
+  by_store (inr shut) = inr (λ clean. while_open Bad new (λ opens. absurd (let no : false ≡ true = sym shut
+      ∙ stayed.follows.opened clean opens in cc)))
 
-  by_tables : Bad old.now → Reason Bad new
-  by_tables bad = while_open Bad new (λ opens. inr (inr (subst Bad (sym (stayed.same clean opens)) bad)))
+  by_tables : Bad old.now → Reason Bad old new
+  by_tables bad = inr (λ clean. while_open Bad new (λ opens. subst Bad (sym (stayed.same clean opens)) bad))
 
 doubtful : (s : State) → HasCleanDisk s ⊎ (¬ (HasCleanDisk s))
 doubtful s = elim (cases_Bool (nat_eq (doubt s.is_clean) 0)) [
@@ -99,19 +98,27 @@ doubtful s = elim (cases_Bool (nat_eq (doubt s.is_clean) 0)) [
 abbrev KeepsUnread : Database → Type 0
 KeepsUnread db = KeepsBadRow db.trees
 
--- where a call failed, the state says why
-by_reason : (Bad : Database → Type 0) {R : Type 0} (result : Result R StoreFault) (Why : Type 0) (new : State)
+-- of a disk that isn't clean nothing need be said
+when_clean : (P Q : Type 0) (new : State) → (HasCleanDisk new → P ⊎ (HasCleanDisk new → Q)) → P ⊎ (HasCleanDisk new → Q)
+when_clean P Q new why = elim (doubtful new) [
+  | inl clean ↦ why clean
+  | inr dirty ↦ inr (λ clean. absurd (dirty clean))
+]
+
+-- where a call failed, the states before and after it say why
+by_reason : (Bad : Database → Type 0) {R : Type 0} (result : Result R StoreFault) (Why : Type 0) (old new : State)
     → (HasCleanDisk new → Fails Why result)
-    → (HasCleanDisk new → Why → Reason Bad new) → Fails (HasReason Bad new) result
-by_reason Bad (Ok x) Why new cause why = tt
-by_reason Bad (Err e) Why new cause why = λ failed clean. why clean (cause clean failed)
+    → (HasCleanDisk new → Why → Reason Bad old new) → Fails (Reason Bad old new) result
+by_reason Bad (Ok x) Why old new cause why = tt
+by_reason Bad (Err e) Why old new cause why = λ failed. when_clean (MoreFaults old.faults new.faults)
+    ((new.is_open ≡ false) ⊎ Bad new.now) new (λ clean. why clean (cause clean failed))
 
 -- a read whose cause lies in the store alone
 pub store_fault : {R : Type 0} (result : Result R StoreFault) (old new : State) → KeptTables old new
-    → (HasCleanDisk new → Fails (IsStoreCause old new) result) → Fails (StoreCanFail new) result
+    → (HasCleanDisk new → Fails (IsStoreCause old new) result) → Fails (StoreCanFail old new) result
 store_fault result old new rested cause =
-    by_reason (λ _. ⊥) result (IsStoreCause old new) new cause
-    (λ clean. by_store (λ _. ⊥) old new (rested_stayed rested) clean)
+    by_reason (λ _. ⊥) result (IsStoreCause old new) old new cause
+    (λ clean. by_store (λ _. ⊥) old new (rested_stayed rested))
 
 -- ---- reads
 
@@ -146,43 +153,45 @@ module _ {old new : State} (hall : IsHall old) (rested : KeptTables old new) whe
   was_clean : HasCleanDisk new → HasCleanDisk old
   was_clean clean = omega (arith, rested.follows.lasts.clean, clean)
 
-  by_read : HasCleanDisk new → IsBad old new → Reason KeepsUnread new
-  by_read clean (inl cause) = by_store KeepsUnread old new stayed clean cause
-  by_read clean (inr bad) = by_tables KeepsUnread old new stayed clean bad
+  by_read : IsBad old new → Reason KeepsUnread old new
+  by_read (inl cause) = by_store KeepsUnread old new stayed cause
+  by_read (inr bad) = by_tables KeepsUnread old new stayed bad
 
   -- of a round it is also that the world keeps none, with its lists, under the id
-  by_round : (id : List ℕ) → HasCleanDisk new → RoundFails id old new → RoundCanFail id (content_of new)
+  by_round : (id : List ℕ) → HasCleanDisk new → RoundFails id old new
+      → RoundCanFail id (content_of old) (content_of new)
   by_round id clean fails = elim (of_round id old new hall (was_clean clean) fails) [
-    | inl bad ↦ inl (λ late. by_read late bad)
+    | inl bad ↦ inl (by_read bad)
     | inr none ↦ at_open none new.is_open refl
   ]
     where
       at_open : HasNoRound (world_of old.now.trees) id → (b : Bool) → new.is_open ≡ b
-          → RoundCanFail id (content_of new)
+          → RoundCanFail id (content_of old) (content_of new)
       at_open none true is = inr (λ late. (
         is,
         subst (λ (db : Database). HasNoRound (world_of db.trees) id)
             (sym (stayed.same late is)) none,
       ))
-      at_open none false is = inl (λ late. inr (inl is))
+      at_open none false is = inl (inr (λ late. inl is))
 
   module _ {R : Type 0} (result : Result R StoreFault) where
     pub read_fault : {X : Type 0} (read : Row → Option X) (sql : List ℕ) (params : Row) → TellsUnread read sql params
-        → (HasCleanDisk new → Fails (ReadFails read sql params old new) result) → Fails (CanFail new) result
+        → (HasCleanDisk new → Fails (ReadFails read sql params old new) result)
+        → Fails (CanFailIn (content_of old) (content_of new)) result
     read_fault read sql params unread cause =
-        by_reason KeepsUnread result (ReadFails read sql params old new) new cause
-        (λ clean why. by_read clean (of_rows read sql params unread old new hall (was_clean clean) why))
+        by_reason KeepsUnread result (ReadFails read sql params old new) old new cause
+        (λ clean why. by_read (of_rows read sql params unread old new hall (was_clean clean) why))
 
     pub round_fault : (id : List ℕ) → (HasCleanDisk new → Fails (RoundFails id old new) result)
-        → Fails (RoundCanFail id (content_of new)) result
+        → Fails (RoundCanFail id (content_of old) (content_of new)) result
     round_fault id cause = at result cause
       where
         at : (r : Result R StoreFault) → (HasCleanDisk new → Fails (RoundFails id old new) r)
-            → Fails (RoundCanFail id (content_of new)) r
+            → Fails (RoundCanFail id (content_of old) (content_of new)) r
         at (Ok x) why = tt
         at (Err e) why = λ failed. elim (doubtful new) [
           | inl clean ↦ by_round id clean (why clean failed)
-          | inr dirty ↦ inl (λ clean. absurd (dirty clean))
+          | inr dirty ↦ inl (inr (λ clean. absurd (dirty clean)))
         ]
 
 -- ---- rows that are fed
@@ -228,18 +237,20 @@ module _ {X : Type 0} (read : Row → Option X) (sql : List ℕ) (params : Row) 
         )
 
     of_feed : HasCleanDisk new → FeedFails read Takes Refuses sql params old new before after
-        → CanFail new ⊎ IsRefusedNext Takes Refuses AreRows (content_of old) (content_of new) before after
-    of_feed clean (inl cause) = inl (λ late. by_store KeepsUnread old new (rested_stayed rested) late cause)
+        → CanFailIn (content_of old) (content_of new)
+        ⊎ IsRefusedNext Takes Refuses AreRows (content_of old) (content_of new) before after
+    of_feed clean (inl cause) = inl (by_store KeepsUnread old new (rested_stayed rested) cause)
     of_feed clean (inr it) = at_open new.is_open refl
       where
         was : HasCleanDisk old
         was = omega (arith, rested.follows.lasts.clean, clean)
 
         turned : (opens : IsTrue new.is_open) → IsTurnedAway read Refuses after it.row
-            → CanFail new ⊎ IsRefusedNext Takes Refuses AreRows (content_of old) (content_of new) before after
+            → CanFailIn (content_of old) (content_of new)
+            ⊎ IsRefusedNext Takes Refuses AreRows (content_of old) (content_of new) before after
         turned opens (inl none) =
             let has = of_hall old hall was (rested.follows.opened clean opens) in
-            inl (λ late. by_tables KeepsUnread old new (rested_stayed rested) late
+            inl (by_tables KeepsUnread old new (rested_stayed rested)
             (unread old (it.rows ++ it.row ∷ []) has it.begun (it.row, last_there it.rows it.row, none)))
         turned opens (inr refused) =
             let opened = rested.follows.opened clean opens in
@@ -253,19 +264,19 @@ module _ {X : Type 0} (read : Row → Option X) (sql : List ℕ) (params : Row) 
                   (opens, goes_on has was opened it refused.0 refused.1),
             )
 
-        at_open : (b : Bool) → new.is_open ≡ b → CanFail new ⊎ IsRefusedNext Takes Refuses AreRows (content_of old)
-            (content_of new) before after
+        at_open : (b : Bool) → new.is_open ≡ b → CanFailIn (content_of old) (content_of new)
+            ⊎ IsRefusedNext Takes Refuses AreRows (content_of old) (content_of new) before after
         at_open true is = turned is it.stops
-        at_open false is = inl (λ late. inr (inl is))
+        at_open false is = inl (inr (λ late. inl is))
 
     pub fed_fault : (result : Result (Unit {0}) StoreFault)
         → (HasCleanDisk new → Fails (FeedFails read Takes Refuses sql params old new before after) result)
-        → IfErr result (λ fault. fault ≡ Failed → CanFail new ⊎ IsRefusedNext Takes Refuses AreRows (content_of old)
-        (content_of new) before after)
+        → IfErr result (λ fault. fault ≡ Failed → CanFailIn (content_of old) (content_of new)
+        ⊎ IsRefusedNext Takes Refuses AreRows (content_of old) (content_of new) before after)
     fed_fault (Ok done) cause = tt
     fed_fault (Err e) cause = λ failed. elim (doubtful new) [
       | inl clean ↦ of_feed clean (cause clean failed)
-      | inr dirty ↦ inl (λ clean. absurd (dirty clean))
+      | inr dirty ↦ inl (inr (λ clean. absurd (dirty clean)))
     ]
 
 -- ---- writes
@@ -276,18 +287,21 @@ IsTold change old new = IsStoreCause old new ⊎ (KeepsUnread old.now ⊎ Refuse
 
 change_fault : {R : Type 0} (change : Change) (old new : State) (result : Result R StoreFault) (Why : Type 0)
     → OnErr result (KeptRows old new) → (HasCleanDisk new → Fails Why result)
-    → (HasCleanDisk old → Why → IsTold change old new) → Fails (CanRefuse change new) result
+    → (HasCleanDisk old → Why → IsTold change old new)
+    → Fails (CanRefuseIn change (content_of old) (content_of new)) result
 change_fault change old new (Ok x) Why stayed cause told = tt
-change_fault change old new (Err e) Why stayed cause told = λ failed clean.
-    let was : HasCleanDisk old = omega (arith, stayed.follows.lasts.clean, clean) in
-    go clean (told was (cause clean failed))
+change_fault change old new (Err e) Why stayed cause told =
+    by_reason Bad (Err e) Why old new cause (λ clean why. go (told (was clean) why))
   where
     Bad : Database → Type 0
     Bad db = KeepsUnread db ⊎ RefusesChange change db
 
-    go : HasCleanDisk new → IsTold change old new → Reason Bad new
-    go clean (inl store) = by_store Bad old new stayed clean store
-    go clean (inr bad) = by_tables Bad old new stayed clean bad
+    was : HasCleanDisk new → HasCleanDisk old
+    was clean = omega (arith, stayed.follows.lasts.clean, clean)
+
+    go : IsTold change old new → Reason Bad old new
+    go (inl store) = by_store Bad old new stayed store
+    go (inr bad) = by_tables Bad old new stayed bad
 
 -- one statement, or several of which one is refused
 refused_told : {A B C : Type 0} → A ⊎ C → A ⊎ (B ⊎ C)
@@ -312,7 +326,7 @@ person_told person mid left has (inr it) = inr it
 module _ {R : Type 0} (old new : State) (result : Result R StoreFault) (hall : IsHall old) where
   pub import_fault : {S : Type 0} (g : Ghosts S) (people : List Person)
       → OnErr result (KeptRows old new) → (HasCleanDisk new → Fails (ImportFails g people old new) result)
-      → Fails (CanRefuse (Import people) new) result
+      → Fails (CanRefuseIn (Import people) (content_of old) (content_of new)) result
   import_fault g people stayed cause =
       change_fault (Import people) old new result (ImportFails g people old new) stayed cause (λ was. go)
     where
@@ -330,14 +344,14 @@ module _ {R : Type 0} (old new : State) (result : Result R StoreFault) (hall : I
 
   pub puzzle_fault : (row : PuzzleRow)
       → OnErr result (KeptRows old new) → (HasCleanDisk new → Fails (PutPuzzleFails row old new) result)
-      → Fails (CanRefuse (PutPuzzle row) new) result
+      → Fails (CanRefuseIn (PutPuzzle row) (content_of old) (content_of new)) result
   puzzle_fault row stayed cause =
       change_fault (PutPuzzle row) old new result (PutPuzzleFails row old new) stayed cause
       (λ was why. refused_told (put_told row old new why))
 
   pub state_fault : (key : PuzzleKey) (known : PuzzleState)
       → OnErr result (KeptRows old new) → (HasCleanDisk new → Fails (SetStateFails key known old new) result)
-      → Fails (CanRefuse (SetState key known) new) result
+      → Fails (CanRefuseIn (SetState key known) (content_of old) (content_of new)) result
   state_fault key known stayed cause =
       change_fault (SetState key known) old new result (SetStateFails key known old new) stayed cause go
     where
@@ -354,13 +368,13 @@ module _ {R : Type 0} (old new : State) (result : Result R StoreFault) (hall : I
 
   pub put_round_fault : (row : RoundRow)
       → OnErr result (KeptRows old new) → (HasCleanDisk new → Fails (PutRoundFails row old new) result)
-      → Fails (CanRefuse (PutRound row) new) result
+      → Fails (CanRefuseIn (PutRound row) (content_of old) (content_of new)) result
   put_round_fault row stayed cause =
       change_fault (PutRound row) old new result (PutRoundFails row old new) stayed cause (λ was. refused_told)
 
   pub flag_fault : (id : List ℕ) (flag : RoundFlag)
       → OnErr result (KeptRows old new) → (HasCleanDisk new → Fails (SetFlagFails id flag old new) result)
-      → Fails (CanRefuse (SetRoundFlag id flag) new) result
+      → Fails (CanRefuseIn (SetRoundFlag id flag) (content_of old) (content_of new)) result
   flag_fault id flag stayed cause =
       change_fault (SetRoundFlag id flag) old new result (SetFlagFails id flag old new) stayed cause go
     where
@@ -372,28 +386,28 @@ module _ {R : Type 0} (old new : State) (result : Result R StoreFault) (hall : I
   pub answer_fault : (row : AnswerRow)
       → OnErr result (KeptRows old new) → (HasCleanDisk new → Fails
       (RunFails ADD_ANSWER.now (answer_params row) old new) result)
-      → Fails (CanRefuse (AddAnswer row) new) result
+      → Fails (CanRefuseIn (AddAnswer row) (content_of old) (content_of new)) result
   answer_fault row stayed cause =
       change_fault (AddAnswer row) old new result (RunFails ADD_ANSWER.now (answer_params row) old new) stayed cause
       (λ was. refused_told)
 
   pub joint_fault : (rows : List AnswerRow)
       → OnErr result (KeptRows old new) → (HasCleanDisk new → Fails (AddAnswersFails rows old new) result)
-      → Fails (CanRefuse (AddAnswers rows) new) result
+      → Fails (CanRefuseIn (AddAnswers rows) (content_of old) (content_of new)) result
   joint_fault rows stayed cause =
       change_fault (AddAnswers rows) old new result (AddAnswersFails rows old new) stayed cause (λ was. refused_told)
 
   pub protest_fault : (row : ProtestRow)
       → OnErr result (KeptRows old new) → (HasCleanDisk new → Fails
       (RunFails ADD_PROTEST.now (protest_params row) old new) result)
-      → Fails (CanRefuse (AddProtest row) new) result
+      → Fails (CanRefuseIn (AddProtest row) (content_of old) (content_of new)) result
   protest_fault row stayed cause =
       change_fault (AddProtest row) old new result (RunFails ADD_PROTEST.now (protest_params row) old new) stayed cause
       (λ was. refused_told)
 
   pub ruling_fault : (key : ProtestKey) (ruling : Ruling)
       → OnErr result (KeptRows old new) → (HasCleanDisk new → Fails (RuleFails key ruling old new) result)
-      → Fails (CanRefuse (RuleProtest key ruling) new) result
+      → Fails (CanRefuseIn (RuleProtest key ruling) (content_of old) (content_of new)) result
   ruling_fault key ruling stayed cause =
       change_fault (RuleProtest key ruling) old new result (RuleFails key ruling old new) stayed cause go
     where

@@ -5,10 +5,10 @@ use Rattle.sqlite.specs.Order.{Row}
 use Rattle.sqlite.specs.Schema.{Schema}
 use Rattle.sqlite.specs.State.{State, HasCleanDisk}
 use Rattle.hall_policy.specs.World.{World}
-use Rattle.hall_store.specs.Store.{Fails}
+use Rattle.hall_store.specs.Store.{CanFailIn, Fails}
 use Rattle.hall_store.specs.declared.fault.StoreFault.{StoreFault}
 use Rattle.hall_store.specs.declared.fault.StoreFault.TheVariants.{Memory, Failed}
-use Rattle.hall_sql.specs.CanFail.{CanFail}
+use Rattle.hall_sql.specs.Content.{content_of}
 use Rattle.hall_sql.specs.Cause.{AreRead, IsFound, ReadFails}
 use Rattle.hall_sql.specs.Counts.{AreSoMany}
 use Rattle.hall_sql.specs.Feed.{AreAll}
@@ -31,10 +31,10 @@ module _ {X R : Type 0} (read : Row → Option X) (sql : List ℕ) (params : Row
     (Means : World → R → Type 0) (hall : IsHall old) (rested : KeptTables old new) where
   reads_by : (Why : Type 0) (P : R → Type 0)
       → ((x : R) → P x → (records : List X) × AreRead read sql params old new records)
-      → (HasCleanDisk new → IfOk result P) → Fails (CanFail new) result → (HasCleanDisk new → Fails Why result)
+      → (HasCleanDisk new → IfOk result P) → Fails (CanFailIn (content_of old) (content_of new)) result → (HasCleanDisk new → Fails Why result)
       → ((x : R) → P x → IsTrue old.is_open → IsHallSchema old.now.schema → AreAllKeyed old.now.trees
       → Means (world_of old.now.trees) x)
-      → Reads old new result Means (AreRecords read sql params old new) (CanFail new) Why
+      → Reads old new result Means (AreRecords read sql params old new) (CanFailIn (content_of old) (content_of new)) Why
   reads_by Why P all has fault cause means = record {
     kept = rested_kept old new rested;
     rested = rested;
@@ -127,8 +127,8 @@ pub refused_rows : {X R : Type 0} (read : Row → Option X) (sql : List ℕ) (pa
 refused_rows read sql params {old} {new} result Means fault hall rested unread is cause =
     let why = λ (clean : HasCleanDisk new). fails_as result (ReadFails read sql params old new) fault is (cause clean)
     in
-    refused result Means (AreRecords read sql params old new) (CanFail new) (ReadFails read sql params old new) fault
-    rested is
+    refused result Means (AreRecords read sql params old new) (CanFailIn (content_of old) (content_of new))
+    (ReadFails read sql params old new) fault rested is
     (read_fault hall rested result read sql params unread why) why
 
 -- ---- what is made of another read

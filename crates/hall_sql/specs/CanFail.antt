@@ -10,6 +10,7 @@ use Rattle.hall_policy.specs.declared.record.ProtestRow.{ProtestRow}
 use Rattle.hall_policy.specs.declared.record.PuzzleRow.{PuzzleRow}
 use Rattle.hall_policy.specs.declared.record.Round.{Round}
 use Rattle.hall_store.specs.Change.{flagged}
+use Rattle.hall_store.specs.Store.{MoreFaults}
 use Rattle.hall_store.specs.declared.change.Change.{Change}
 use Rattle.hall_store.specs.declared.change.Change.TheVariants.{Nothing, Import, PutPuzzle, SetState}
 use Rattle.hall_store.specs.declared.change.Change.TheVariants.{PutRound, SetRoundFlag, AddAnswer}
@@ -74,18 +75,18 @@ RefusesChange (RuleProtest key ruling) db =
 
 -- ---- all of it
 
--- Why a call may have been refused for another cause than being out of memory, where the disk is clean: a fault of the
--- device has been counted, or the connection is shut, or its tables are bad in this sense.
+-- Why a call in which the device didn't fail may have been refused for another cause than being out of memory, where
+-- the disk is clean: the connection is shut, or its tables are bad in this sense.
 abbrev pub HasReason : (Database → Type 0) → State → Type 0
-HasReason Bad s = HasCleanDisk s → (0 < s.faults) ⊎ ((s.is_open ≡ false) ⊎ Bad s.now)
+HasReason Bad s = HasCleanDisk s → (s.is_open ≡ false) ⊎ Bad s.now
 
 -- why one that reads may: a row of the tables is no record
 abbrev pub CanFail : State → Type 0
 CanFail = HasReason (λ db. KeepsBadRow db.trees)
 
--- why one may to which nothing that the tables keep is a cause
-abbrev pub StoreCanFail : State → Type 0
-StoreCanFail = HasReason (λ _. ⊥)
+-- why one may to which nothing that the tables keep is a cause: the device has failed in it, or it is shut
+abbrev pub StoreCanFail : State → State → Type 0
+StoreCanFail old new = MoreFaults old.faults new.faults ⊎ HasReason (λ _. ⊥) new
 
 -- why one that makes the change may: a row of the tables is no record, or they refuse this change
 abbrev pub CanRefuse : Change → State → Type 0

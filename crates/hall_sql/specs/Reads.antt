@@ -3,9 +3,8 @@ use Rattle.std.specs.Prelude.{ℕ, List, [], Option, Result, IfOk}
 use Rattle.sqlite.specs.Order.{Row}
 use Rattle.sqlite.specs.State.{State, HasCleanDisk}
 use Rattle.hall_policy.specs.World.{World}
-use Rattle.hall_store.specs.Store.{Kept, Served, Fails}
+use Rattle.hall_store.specs.Store.{CanFailIn, Kept, Served, Fails}
 use Rattle.hall_store.specs.declared.fault.StoreFault.{StoreFault}
-use Rattle.hall_sql.specs.CanFail.{CanFail}
 use Rattle.hall_sql.specs.Cause.{ReadFails}
 use Rattle.hall_sql.specs.Content.{content_of}
 use Rattle.hall_sql.specs.Standing.{KeptAnyTables, KeptTables}
@@ -26,7 +25,8 @@ pub record Reads {R : Type 0} (old new : State) (result : Result R StoreFault) (
 abbrev pub ReadsRows : {X R : Type 0} → (Row → Option X) → List ℕ → Row → State → State → Result R StoreFault →
     (World → R → Type 0) → Type 0
 ReadsRows read sql params old new result Means =
-    Reads old new result Means (AreRecords read sql params old new) (CanFail new) (ReadFails read sql params old new)
+    Reads old new result Means (AreRecords read sql params old new) (CanFailIn (content_of old) (content_of new))
+    (ReadFails read sql params old new)
 
 -- A read of a whole table, over the tables of either version.
 pub record ReadsTable {X R : Type 0} (read : Row → Option X) (sql : List ℕ) (old new : State)

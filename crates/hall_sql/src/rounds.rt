@@ -255,7 +255,7 @@ pub(crate) fn round<S: Alter>(
     ensures { Reads (state S.Store conn.old) (state S.Store conn.new) result
         (λ world found. IsRoundKept world id.now found)
         (IsRoundRead S.Store id.now (state S.Store conn.old) (state S.Store conn.new))
-        (RoundCanFail id.now (content_of (state S.Store conn.new)))
+        (RoundCanFail id.now (content_of (state S.Store conn.old)) (content_of (state S.Store conn.new)))
         (RoundFails id.now (state S.Store conn.old) (state S.Store conn.new)) }
 {
     let head = head(conn, alloc, id)?;

@@ -117,7 +117,7 @@ impl<S: Alter + Drop> SqlStore<S> {
             AreNone bad.items → AreAllRead hall_schema (state S.Store self.old).now.trees) }
         ensures room { HasCleanDisk (state S.Store self.new) → IfOk result (λ bad.
             AreNone bad.items → HaveRoom all_tables (state S.Store self.old).now.trees) }
-        ensures fault { Fails (StoreCanFail (state S.Store self.new)) result }
+        ensures fault { Fails (StoreCanFail (state S.Store self.old) (state S.Store self.new)) result }
         ensures cause { HasCleanDisk (state S.Store self.new)
             → Fails (IsStoreCause (state S.Store self.old) (state S.Store self.new)) result }
     {
@@ -146,7 +146,7 @@ impl<S: Alter + Drop> ReadStore for SqlStore<S> {
     ghost use Rattle.sqlite.specs.State.{HasCleanDisk};
     ghost use Rattle.hall_policy.specs.Rules.{answers_given, protests_made, puzzles_put};
     ghost use Rattle.hall_store.specs.Caller.{IsKeyHolder};
-    ghost use Rattle.hall_store.specs.Store.{Kept, Fails, puzzles_of, IsRoundKept, RoundCanFail, AreUsing};
+    ghost use Rattle.hall_store.specs.Store.{CanFailIn, Kept, Fails, puzzles_of, IsRoundKept, RoundCanFail, AreUsing};
     ghost use Rattle.hall_store.specs.Store.{IsNumberTaken};
     ghost use Rattle.hall_store.specs.Store.{AreTestersOf, IsListing, is_of, is_in, is_between, people_after};
     ghost use Rattle.hall_store.specs.Store.{HasSubmitted, IsProtestOpen, protests_of, protests_in};
@@ -165,7 +165,6 @@ impl<S: Alter + Drop> ReadStore for SqlStore<S> {
     ghost use Rattle.hall_sql.specs.Reads.{Reads, ReadsRows};
     ghost use Rattle.hall_sql.specs.Whole.{AreRecords, IsRoundRead};
     ghost use Rattle.hall_sql.specs.Cause.{FeedFails, RoundFails};
-    ghost use Rattle.hall_sql.specs.CanFail.{CanFail};
     ghost use Rattle.hall_sql.specs.Content.{content_of};
     ghost use Rattle.hall_sql.specs.Standing.{KeptTables};
 
@@ -248,7 +247,7 @@ impl<S: Alter + Drop> ReadStore for SqlStore<S> {
         ensures { Reads (state S.Store self.old) (state S.Store self.new) result
             (λ world found. IsRoundKept world id.now found)
             (IsRoundRead S.Store id.now (state S.Store self.old) (state S.Store self.new))
-            (RoundCanFail id.now (content_of (state S.Store self.new)))
+            (RoundCanFail id.now (content_of (state S.Store self.old)) (content_of (state S.Store self.new)))
             (RoundFails id.now (state S.Store self.old) (state S.Store self.new)) }
     {
         round(&mut self.conn, alloc, id)
@@ -378,7 +377,8 @@ impl<S: Alter + Drop> ReadStore for SqlStore<S> {
         ensures rested { KeptTables (state S.Store self.old) (state S.Store self.new) }
         ensures fed { Fed K.takes (λ world rows. IsListing world (is_between round.now after.now last.now) rows)
             (content_of (state S.Store self.old)) (content_of (state S.Store self.new)) sink.old result sink.new }
-        ensures fault { IfErr result (λ fault. fault ≡ Failed → CanFail (state S.Store self.new) ⊎ IsRefusedNext
+        ensures fault { IfErr result (λ fault. fault ≡ Failed → CanFailIn
+            (content_of (state S.Store self.old)) (content_of (state S.Store self.new)) ⊎ IsRefusedNext
             K.takes K.refuses (λ world rows. IsListing world (is_between round.now after.now last.now) rows)
             (content_of (state S.Store self.old)) (content_of (state S.Store self.new)) sink.old sink.new) }
         ensures whole { HasCleanDisk (state S.Store self.new) → IfOk result (λ _.
@@ -483,7 +483,8 @@ impl<S: Alter + Drop> ReadStore for SqlStore<S> {
         ensures rested { KeptTables (state S.Store self.old) (state S.Store self.new) }
         ensures fed { Fed K.takes (λ world rows. rows ≡ protests_in world round.now)
             (content_of (state S.Store self.old)) (content_of (state S.Store self.new)) sink.old result sink.new }
-        ensures fault { IfErr result (λ fault. fault ≡ Failed → CanFail (state S.Store self.new)
+        ensures fault { IfErr result (λ fault. fault ≡ Failed → CanFailIn
+            (content_of (state S.Store self.old)) (content_of (state S.Store self.new))
             ⊎ IsRefusedNext K.takes K.refuses (λ world rows. rows ≡ protests_in world round.now)
             (content_of (state S.Store self.old)) (content_of (state S.Store self.new)) sink.old sink.new) }
         ensures whole { HasCleanDisk (state S.Store self.new) → IfOk result (λ _.
@@ -550,7 +551,7 @@ impl<S: Alter + Drop> Store for SqlStore<S> {
     ghost use Rattle.std.specs.Prelude.{OnOk};
     ghost use Rattle.sqlite.specs.Held.{state};
     ghost use Rattle.sqlite.specs.State.{HasCleanDisk};
-    ghost use Rattle.hall_store.specs.Store.{Fails, Asks};
+    ghost use Rattle.hall_store.specs.Store.{CanRefuseIn, Fails, Asks};
     ghost use Rattle.hall_store.specs.Change.{CanAddAnswer, CanAddAnswers, CanAddProtest};
     ghost use Rattle.hall_store.specs.declared.change.Change.TheVariants.{Import, PutPuzzle, SetState, PutRound};
     ghost use Rattle.hall_store.specs.declared.change.Change.TheVariants.{SetRoundFlag, AddAnswer, AddAnswers};
@@ -563,12 +564,12 @@ impl<S: Alter + Drop> Store for SqlStore<S> {
     ghost use Rattle.hall_sql.specs.WriteCause.{ImportFails, PutPuzzleFails, PutRoundFails, RuleFails, RunFails};
     ghost use Rattle.hall_sql.specs.WriteCause.{SetFlagFails, SetStateFails};
     ghost use Rattle.hall_sql.specs.RoundPuts.{PutsRows};
-    ghost use Rattle.hall_sql.specs.CanFail.{CanRefuse};
     ghost use Rattle.hall_sql.specs.Content.{MakesInTables, content_of};
 
     fn import(&mut self, alloc: Global, people: &People) -> Result<(), StoreFault>
         ensures wrote { MakesInTables (Import people.now) (state S.Store self.old) (state S.Store self.new) result }
-        ensures fault { Fails (CanRefuse (Import people.now) (state S.Store self.new)) result }
+        ensures fault { Fails (CanRefuseIn (Import people.now)
+            (content_of (state S.Store self.old)) (content_of (state S.Store self.new))) result }
         ensures cause { HasCleanDisk (state S.Store self.new) → Fails
             (ImportFails S.Store people.now (state S.Store self.old) (state S.Store self.new)) result }
     {
@@ -579,7 +580,8 @@ impl<S: Alter + Drop> Store for SqlStore<S> {
         ensures wrote { MakesInTables (PutPuzzle row) (state S.Store self.old) (state S.Store self.new) result }
         ensures text { HasCleanDisk (state S.Store self.new)
             → OnOk result (HasPuzzleRow row (state S.Store self.new).now) }
-        ensures fault { Fails (CanRefuse (PutPuzzle row) (state S.Store self.new)) result }
+        ensures fault { Fails (CanRefuseIn (PutPuzzle row)
+            (content_of (state S.Store self.old)) (content_of (state S.Store self.new))) result }
         ensures cause { HasCleanDisk (state S.Store self.new) → Fails
             (PutPuzzleFails row (state S.Store self.old) (state S.Store self.new)) result }
     {
@@ -596,7 +598,8 @@ impl<S: Alter + Drop> Store for SqlStore<S> {
             result }
         ensures text { HasCleanDisk (state S.Store self.new) → OnOk result
             (HasPuzzleState key.now known (state S.Store self.old).now (state S.Store self.new).now) }
-        ensures fault { Fails (CanRefuse (SetState key.now known) (state S.Store self.new)) result }
+        ensures fault { Fails (CanRefuseIn (SetState key.now known)
+            (content_of (state S.Store self.old)) (content_of (state S.Store self.new))) result }
         ensures cause { HasCleanDisk (state S.Store self.new) → Fails
             (SetStateFails key.now known (state S.Store self.old) (state S.Store self.new)) result }
     {
@@ -607,7 +610,8 @@ impl<S: Alter + Drop> Store for SqlStore<S> {
         ensures wrote { MakesInTables (PutRound row) (state S.Store self.old) (state S.Store self.new) result }
         ensures rows { HasCleanDisk (state S.Store self.new) → OnOk result
             (PutsRows row (state S.Store self.old).now (state S.Store self.new).now) }
-        ensures fault { Fails (CanRefuse (PutRound row) (state S.Store self.new)) result }
+        ensures fault { Fails (CanRefuseIn (PutRound row)
+            (content_of (state S.Store self.old)) (content_of (state S.Store self.new))) result }
         ensures cause { HasCleanDisk (state S.Store self.new) → Fails
             (PutRoundFails row (state S.Store self.old) (state S.Store self.new)) result }
     {
@@ -622,7 +626,8 @@ impl<S: Alter + Drop> Store for SqlStore<S> {
     ) -> Result<(), StoreFault>
         ensures wrote { MakesInTables (SetRoundFlag id.now flag) (state S.Store self.old) (state S.Store self.new)
             result }
-        ensures fault { Fails (CanRefuse (SetRoundFlag id.now flag) (state S.Store self.new)) result }
+        ensures fault { Fails (CanRefuseIn (SetRoundFlag id.now flag)
+            (content_of (state S.Store self.old)) (content_of (state S.Store self.new))) result }
         ensures cause { HasCleanDisk (state S.Store self.new) → Fails
             (SetFlagFails id.now flag (state S.Store self.old) (state S.Store self.new)) result }
     {
@@ -632,7 +637,8 @@ impl<S: Alter + Drop> Store for SqlStore<S> {
     fn add_answer(&mut self, _alloc: Global, row: AnswerRow) -> Result<(), StoreFault>
         requires { Asks (content_of (state S.Store self.old)) (λ world. CanAddAnswer world row) }
         ensures wrote { MakesInTables (AddAnswer row) (state S.Store self.old) (state S.Store self.new) result }
-        ensures fault { Fails (CanRefuse (AddAnswer row) (state S.Store self.new)) result }
+        ensures fault { Fails (CanRefuseIn (AddAnswer row)
+            (content_of (state S.Store self.old)) (content_of (state S.Store self.new))) result }
         ensures cause { HasCleanDisk (state S.Store self.new) → Fails
             (RunFails ADD_ANSWER.now (answer_params row) (state S.Store self.old) (state S.Store self.new)) result }
     {
@@ -642,7 +648,8 @@ impl<S: Alter + Drop> Store for SqlStore<S> {
     fn add_answers(&mut self, alloc: Global, rows: &JointAnswers) -> Result<(), StoreFault>
         requires { Asks (content_of (state S.Store self.old)) (λ world. CanAddAnswers world rows.now) }
         ensures wrote { MakesInTables (AddAnswers rows.now) (state S.Store self.old) (state S.Store self.new) result }
-        ensures fault { Fails (CanRefuse (AddAnswers rows.now) (state S.Store self.new)) result }
+        ensures fault { Fails (CanRefuseIn (AddAnswers rows.now)
+            (content_of (state S.Store self.old)) (content_of (state S.Store self.new))) result }
         ensures cause { HasCleanDisk (state S.Store self.new) → Fails
             (AddAnswersFails rows.now (state S.Store self.old) (state S.Store self.new)) result }
     {
@@ -652,7 +659,8 @@ impl<S: Alter + Drop> Store for SqlStore<S> {
     fn add_protest(&mut self, _alloc: Global, row: ProtestRow) -> Result<(), StoreFault>
         requires { Asks (content_of (state S.Store self.old)) (λ world. CanAddProtest world row) }
         ensures wrote { MakesInTables (AddProtest row) (state S.Store self.old) (state S.Store self.new) result }
-        ensures fault { Fails (CanRefuse (AddProtest row) (state S.Store self.new)) result }
+        ensures fault { Fails (CanRefuseIn (AddProtest row)
+            (content_of (state S.Store self.old)) (content_of (state S.Store self.new))) result }
         ensures cause { HasCleanDisk (state S.Store self.new) → Fails
             (RunFails ADD_PROTEST.now (protest_params row) (state S.Store self.old) (state S.Store self.new)) result }
     {
@@ -667,7 +675,8 @@ impl<S: Alter + Drop> Store for SqlStore<S> {
     ) -> Result<(), StoreFault>
         ensures wrote { MakesInTables (RuleProtest key.now ruling) (state S.Store self.old) (state S.Store self.new)
             result }
-        ensures fault { Fails (CanRefuse (RuleProtest key.now ruling) (state S.Store self.new)) result }
+        ensures fault { Fails (CanRefuseIn (RuleProtest key.now ruling)
+            (content_of (state S.Store self.old)) (content_of (state S.Store self.new))) result }
         ensures cause { HasCleanDisk (state S.Store self.new) → Fails
             (RuleFails key.now ruling (state S.Store self.old) (state S.Store self.new)) result }
     {

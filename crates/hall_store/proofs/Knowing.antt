@@ -1,7 +1,7 @@
 -- What was found stays true over calls that leave the world.
 use Rattle.std.proofs.Common.{◌≡◌, ◌⊎◌, ℕ, ◌≤◌, arith, inl, inr, subst, sym, ◌∙◌, refl, Result, Ok, Err, IfOk}
 use Rattle.hall_policy.specs.World.{World}
-use Rattle.hall_store.specs.Store.{Content, Leads, LeavesNoOther, Kept, MoreFaults, Told, Served, Over}
+use Rattle.hall_store.specs.Store.{CanFailIn, Content, Leads, LeavesNoOther, Kept, MoreFaults, Told, Served, Over}
 
 -- more faults over one of two calls are more over both
 pub more_before : (a b c : ℕ) → MoreFaults a b → b ≤ c → MoreFaults a c
@@ -73,6 +73,11 @@ kept_then a b c first second =
 pub carried : (P : World → Type 0) (a b : Content) → Kept a b → (a.honest → a.serves → P a.world) → b.honest → b.serves
     → P b.world
 carried P a b kept before h s = subst P (sym (kept.world h s)) (before (kept.honest h) (kept.serves h s))
+
+-- what can fail in a later call can fail in both
+pub fails_after : (a b c : Content) → a.faults ≤ b.faults → CanFailIn b c → CanFailIn a c
+fails_after a b c on (inl more) = inl (more_after a.faults b.faults c.faults on more)
+fails_after a b c on (inr can) = inr can
 
 -- what a later call tells, after a call that left the world and after which the store still served
 pub told_through : {R E : Type 0} (r : Result R E) (M N : World → R → Type 0) (a b c : Content) → Kept b c

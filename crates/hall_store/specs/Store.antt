@@ -32,7 +32,8 @@ use Rattle.hall_store.specs.Change.{changed}
 -- `writes` is a number that one write may raise by one, and nothing else raises. Which one is the store's own matter: a
 -- store may count its writes, or say 0 for ever. So what is proved of all stores bounds how many writes are made.
 -- `may_leave`, the worlds that the next open may find, were the program stopped at this moment. `can_fail`, a call that
--- only reads may be refused for another cause than being out of memory; `can_refuse`, one that makes the change may.
+-- only reads, and in which the device didn't fail, may be refused for another cause than being out of memory;
+-- `can_refuse`, such a one that makes the change may.
 pub record Content : Type 1 where
   pub honest : Type 0
   pub serves : Type 0
@@ -92,6 +93,15 @@ Told old new (Ok answer) Means =
     (new.honest → old.serves → new.serves) × (new.honest → new.serves → Means new.world answer)
 Told old new (Err fault) Means = Unit {0}
 
+-- Why a call that only reads may be refused, other than out of memory: its device has failed in it, or as the content
+-- tells that it leaves.
+abbrev pub CanFailIn : Content → Content → Type 0
+CanFailIn old new = MoreFaults old.faults new.faults ⊎ new.can_fail
+
+-- so one that makes the change may
+abbrev pub CanRefuseIn : Change → Content → Content → Type 0
+CanRefuseIn change old new = MoreFaults old.faults new.faults ⊎ new.can_refuse change
+
 -- Failed is answered for such a cause alone.
 abbrev pub Fails : {R : Type 0} → Type 0 → Result R StoreFault → Type 0
 Fails cause result = IfErr result (λ fault. fault ≡ Failed → cause)
@@ -139,8 +149,8 @@ abbrev pub HasNoRound : World → List ℕ → Type 0
 HasNoRound world id = (¬ IsRoundKept world id None) × (¬ HasWholeList world id)
 
 -- why a read of the round may be refused, other than out of memory: as any read may be, or no answer is right
-abbrev pub RoundCanFail : List ℕ → Content → Type 0
-RoundCanFail id content = content.can_fail ⊎ (content.honest → content.serves × HasNoRound content.world id)
+abbrev pub RoundCanFail : List ℕ → Content → Content → Type 0
+RoundCanFail id old new = CanFailIn old new ⊎ (new.honest → new.serves × HasNoRound new.world id)
 
 -- the names of those who test the round, none twice; no order is promised
 pub record AreTestersOf (world : World) (round : List ℕ) (names : List (List ℕ)) : Type 0 where

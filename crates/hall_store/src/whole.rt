@@ -16,7 +16,7 @@ pub type Tester = (TesterKey, ());
 pub trait WholeStore: ReadStore {
     ghost use Rattle.std.specs.Prelude.{◌≡◌};
     ghost use Rattle.std.specs.FinMap.{entries, values};
-    ghost use Rattle.hall_store.specs.Store.{Kept, Served, Fails};
+    ghost use Rattle.hall_store.specs.Store.{CanFailIn, Kept, Served, Fails};
     ghost use Rattle.hall_store.specs.Whole.{AreUnderOwnKeys};
 
     /// Tells a proof that each row of the world stands under its own key.
@@ -28,24 +28,24 @@ pub trait WholeStore: ReadStore {
     fn all_places(&mut self, alloc: Global) -> Result<Vec<Place>, StoreFault>
         ensures kept { Kept (Self.content self.old) (Self.content self.new) }
         ensures served { Served (Self.content self.new) result (λ world places. places.items ≡ entries world.places) }
-        ensures fault { Fails (Self.content self.new).can_fail result };
+        ensures fault { Fails (CanFailIn (Self.content self.old) (Self.content self.new)) result };
 
     /// Each tester of each round, in the order of their keys; of a round that isn't there too.
     fn all_testers(&mut self, alloc: Global) -> Result<Vec<Tester>, StoreFault>
         ensures kept { Kept (Self.content self.old) (Self.content self.new) }
         ensures served { Served (Self.content self.new) result
             (λ world testers. testers.items ≡ entries world.testers) }
-        ensures fault { Fails (Self.content self.new).can_fail result };
+        ensures fault { Fails (CanFailIn (Self.content self.old) (Self.content self.new)) result };
 
     /// All answers, in the order of their keys.
     fn all_answers(&mut self, alloc: Global) -> Result<Vec<AnswerRow>, StoreFault>
         ensures kept { Kept (Self.content self.old) (Self.content self.new) }
         ensures served { Served (Self.content self.new) result (λ world rows. rows.items ≡ values world.answers) }
-        ensures fault { Fails (Self.content self.new).can_fail result };
+        ensures fault { Fails (CanFailIn (Self.content self.old) (Self.content self.new)) result };
 
     /// All protests, in the order of their keys.
     fn all_protests(&mut self, alloc: Global) -> Result<Vec<ProtestRow>, StoreFault>
         ensures kept { Kept (Self.content self.old) (Self.content self.new) }
         ensures served { Served (Self.content self.new) result (λ world rows. rows.items ≡ values world.protests) }
-        ensures fault { Fails (Self.content self.new).can_fail result };
+        ensures fault { Fails (CanFailIn (Self.content self.old) (Self.content self.new)) result };
 }

@@ -10,13 +10,13 @@ use Rattle.sqlite.specs.State.{State, HasCleanDisk}
 use Rattle.sqlite.specs.Steps.{over_memory}
 use Rattle.hall_grid.specs.Device.{Tally}
 use Rattle.hall_store.specs.Maps.{empty_world}
-use Rattle.hall_store.specs.Store.{Content, Kept}
+use Rattle.hall_store.specs.Store.{CanFailIn, Content, Kept}
 use Rattle.hall_store.specs.declared.fault.StoreFault.{StoreFault}
 use Rattle.hall_store.specs.declared.fault.StoreFault.TheVariants as store
-use Rattle.hall_store.proofs.Knowing.{kept_then}
+use Rattle.hall_store.proofs.Knowing.{kept_then, more_after}
 use Rattle.hall_sql.specs.AllRead.{AreAllRead}
 use Rattle.hall_sql.specs.BadRows.{HaveRoom}
-use Rattle.hall_sql.specs.CanFail.{CanFail, StoreCanFail}
+use Rattle.hall_sql.specs.CanFail.{StoreCanFail}
 use Rattle.hall_sql.specs.Cause.{IsStoreCause}
 use Rattle.hall_sql.specs.CopyCause.{CannotCopy}
 use Rattle.hall_sql.specs.FillCause.{TablesFail}
@@ -134,25 +134,28 @@ copy_text budget source left empty filled last count text status migrates (check
 
 -- where each row was a record, it is still one, so that no row is a cause
 pub reads_fail : (old new : State) → Kept (content_of old) (content_of new)
-    → (HasCleanDisk old → IsTrue old.is_open → AreAllRead hall_schema old.now.trees) → CanFail new
-    → StoreCanFail new
-reads_fail old new kept whole can clean = elim (can clean) [
-  | inl counted ↦ inl counted
-  | inr (inl shut) ↦ inr (inl shut)
-  | inr (inr unread) ↦ elim (cases_Bool new.is_open) [
+    → (HasCleanDisk old → IsTrue old.is_open → AreAllRead hall_schema old.now.trees)
+    → CanFailIn (content_of old) (content_of new) → StoreCanFail old new
+reads_fail old new kept whole (inl more) = inl more
+reads_fail old new kept whole (inr can) = inr (λ clean. elim (can clean) [
+  | inl shut ↦ inl shut
+  | inr unread ↦ elim (cases_Bool new.is_open) [
     | inl opens ↦
         let was = kept.honest clean in
         absurd (unread (still_read old new kept.writes (whole was (kept.serves clean opens)) clean opens))
-    | inr shut ↦ inr (inl shut)
+    | inr shut ↦ inl shut
   ]
-]
+])
 
 -- so of the present version, after each of its rows was found to be a record
 pub present_fails : (old mid new : State) → KeptTables old mid → Kept (content_of mid) (content_of new)
-    → (HasCleanDisk mid → AreAllRead hall_schema old.now.trees) → CanFail new → StoreCanFail new
-present_fails old mid new rested kept whole =
-    reads_fail mid new kept
-    (λ was opens. subst (λ (d : Database). AreAllRead hall_schema d.trees) (sym (rested.same was opens)) (whole was))
+    → (HasCleanDisk mid → AreAllRead hall_schema old.now.trees) → CanFailIn (content_of mid) (content_of new)
+    → StoreCanFail old new
+present_fails old mid new rested kept whole can = elim (reads_fail mid new kept
+    (λ was opens. subst (λ (d : Database). AreAllRead hall_schema d.trees) (sym (rested.same was opens)) (whole was)) can) [
+  | inl more ↦ inl (more_after old.faults mid.faults new.faults rested.follows.lasts.counts more)
+  | inr why ↦ inr why
+]
 
 -- the store failed where that is what is told
 pub store_failed : {R : Type 0} (fault : StoreFault) (e : ToolFault) → ((fault ≡ store.Memory) × (e ≡ Memory))
@@ -169,11 +172,12 @@ no_cause old new (inl (inr top)) = omega (arith, top)
 no_cause old new (inr shut) = let no : false ≡ true = sym shut ∙ (memory_serves old).1 in cc
 
 -- and nothing is
-never_fails : (held : Held MemStore) → ¬ (StoreCanFail (state over_memory held))
-never_fails held can = elim (can (memory_serves held).0) [
-  | inl counted ↦ omega (arith, counted)
-  | inr (inl shut) ↦ let no : false ≡ true = sym shut ∙ (memory_serves held).1 in cc
-  | inr (inr none) ↦ none
+never_fails : (old new : Held MemStore) → ¬ (StoreCanFail (state over_memory old) (state over_memory new))
+never_fails old new (inl (inl more)) = omega (arith, more)
+never_fails old new (inl (inr top)) = omega (arith, top)
+never_fails old new (inr can) = elim (can (memory_serves new).0) [
+  | inl shut ↦ let no : false ≡ true = sym shut ∙ (memory_serves new).1 in cc
+  | inr none ↦ none
 ]
 
 -- the tables that were to take the rows had none
@@ -210,9 +214,10 @@ module _ (source left : State) (empty : Held MemStore) (bare : IsBareDatabase ha
     pub copy_unread : (filled last : Held MemStore) (count : ℕ)
         → Migrates source left (state over_memory empty) (state over_memory filled) (Ok (Done count))
         → Kept (content_of (state over_memory filled)) (content_of (state over_memory last))
-        → CanFail (state over_memory last) → CopyFails source left
+        → CanFailIn (content_of (state over_memory filled)) (content_of (state over_memory last))
+        → CopyFails source left
     copy_unread filled last count migrates kept can clean =
-        absurd (never_fails last (reads_fail (state over_memory filled) (state over_memory last) kept
+        absurd (never_fails filled last (reads_fail (state over_memory filled) (state over_memory last) kept
         (λ was opens. (migrates.taken clean was).read) can))
 
 -- after each row was found to be a record

@@ -46,11 +46,11 @@ no_other world round given (found, (Repeat, first, decided)) other = decided.0
 no_other world round given (found, (Allow, first, decided)) other = other.0 decided.0.0 decided.0.2
 
 -- so another reply was told by a device that wasn't honest
-pub other_fails : (new : Content) (round : List ℕ) (given : Reply) → IsTableOver new round given
-    → IsOtherReply given → MayFail new
-other_fails new round given (inl over) other =
+pub other_fails : (old new : Content) (round : List ℕ) (given : Reply) → IsTableOver new round given
+    → IsOtherReply given → MayFail old new
+other_fails old new round given (inl over) other =
     inr (λ honest. absurd (no_other new.world round given (over honest).1 other))
-other_fails new round given (inr always) other =
+other_fails old new round given (inr always) other =
     inr (λ honest. absurd (no_other new.world round given (always new.world) other))
 
 pub word_low : (byte : ℕ) → IsTrue (is_word_byte byte) → byte < 128

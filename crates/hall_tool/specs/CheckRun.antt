@@ -89,7 +89,7 @@ OldFails old new =
 
 -- Why nothing was found of a hall, which was left so: of tables of the present version, for nothing that they keep.
 abbrev pub FoundFails : {S : Type 0} → Ghosts S → FoundHall S → Held S → Type 0
-FoundFails g (Present held) last = StoreCanFail (state g last)
+FoundFails g (Present held) last = StoreCanFail (state g held) (state g last)
 FoundFails g (Old held) last = OldFails (state g held) (state g last)
 
 -- ---- the command

@@ -45,4 +45,4 @@ pub record IsInitRun {S R W : Type 0} (k : Kinds S R W) (list : List ℕ) (old n
   pub part : IsErrOf result tool.Device → (line : List ℕ) × (status : ℕ) × InitText list old new line status
       × WritesPart (k.streams.contents writer.device) (k.streams.contents written.device) line
   pub memory : IsErrOf result tool.Memory → KeptWorld old new × (written ≡ writer)
-  pub store : IsErrOf result tool.Store → ListCanFail list new × KeptWorld old new × (written ≡ writer)
+  pub store : IsErrOf result tool.Store → ListCanFail list old new × KeptWorld old new × (written ≡ writer)

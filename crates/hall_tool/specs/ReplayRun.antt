@@ -29,7 +29,7 @@ pub record IsSeedRun {S R W : Type 0} (k : Kinds S R W) (list : List ℕ) (old n
       × WritesPart (k.streams.contents writer.device) (k.streams.contents written.device) line
   pub memory : IsErrOf result tool.Memory → written ≡ writer
   pub store : IsErrOf result tool.Store → written ≡ writer
-  pub cause : IsErrOf result tool.Store → ListCanFail list new
+  pub cause : IsErrOf result tool.Store → ListCanFail list old new
 
 -- 0 exactly where the records ended well, 2 where what was left is none; a fault is a fault
 abbrev pub replay_end : {U : Type 0} → Result U ReplayFault → Result ℕ ToolFault

@@ -23,8 +23,8 @@ IsSeeded list old new (Denied rule) = IsListAnswered list old new (reply.Denied 
 IsSeeded list old new (Added count) = IsListAnswered list old new (reply.Import count)
 
 -- the list's import may be refused for another cause than being out of memory
-abbrev pub ListCanFail : List ℕ → Content → Type 0
-ListCanFail list content = (people : List Person) × (people_in list ≡ Ok people) × SeedCanFail people content
+abbrev pub ListCanFail : List ℕ → Content → Content → Type 0
+ListCanFail list old new = (people : List Person) × (people_in list ≡ Ok people) × SeedCanFail people old new
 
 -- What a stop in the import of a list, or after it, leaves: what is left in the import of the people that it spells, so
 -- all of them or none; or a world that a stop before it could leave.

@@ -1,7 +1,7 @@
 //! The command `check`: whether a database file is a hall's, whole, and sane.
 ghost use Rattle.std.specs.Prelude.{◌≡◌, ◌++◌, Err, IfOk, IfErr, IsErrOf, string_bytes};
 ghost use Rattle.sqlite.specs.Held.{state};
-ghost use Rattle.hall_store.specs.Store.{Kept};
+ghost use Rattle.hall_store.specs.Store.{CanFailIn, Kept};
 ghost use Rattle.hall_sql.specs.CanFail.{StoreCanFail};
 ghost use Rattle.hall_sql.specs.Content.{content_of};
 ghost use Rattle.hall_sql.specs.Standing.{KeptTablesIn};
@@ -44,7 +44,7 @@ fn world_ending<S: WholeStore>(
     ensures text { IfOk result (λ ending. ((S.content store.new).honest → (S.content store.new).serves)
         × WorldText budget (S.content store.new).honest (S.content store.old).world (string_bytes ending.line)
         ending.status) }
-    ensures fault { IsErrOf result ToolFault.Store → (S.content store.new).can_fail }
+    ensures fault { IsErrOf result ToolFault.Store → CanFailIn (S.content store.old) (S.content store.new) }
     ensures cause { IfErr result IsOfMemoryOrStore }
 {
     match check(alloc, store, budget) {
@@ -62,7 +62,7 @@ fn present_ending<S: Alter + Drop>(
     ensures kept { Kept (content_of (state S.Store store.old)) (content_of (state S.Store store.new)) }
     ensures text { IfOk result (λ ending. PresentText budget (state S.Store store.old) (state S.Store store.new)
         (string_bytes ending.line) ending.status) }
-    ensures fault { IsErrOf result ToolFault.Store → StoreCanFail (state S.Store store.new) }
+    ensures fault { IsErrOf result ToolFault.Store → StoreCanFail (state S.Store store.old) (state S.Store store.new) }
     ensures cause { IfErr result IsOfMemoryOrStore }
 {
     // A row that is no record is told before any call that would fail at it.

@@ -64,7 +64,8 @@ pub fn init_run<S: Store, W: Write>(
     // Another fault leaves the world and the writer.
     ensures memory { IsErrOf result ToolFault.Memory → KeptWorld (S.content (kept_by desk.old))
         (S.content (kept_by desk.new)) × (writer.new ≡ writer.old) }
-    ensures store { IsErrOf result ToolFault.Store → ListCanFail list.now (S.content (kept_by desk.new))
+    ensures store { IsErrOf result ToolFault.Store → ListCanFail list.now
+        (S.content (kept_by desk.old)) (S.content (kept_by desk.new))
         × KeptWorld (S.content (kept_by desk.old)) (S.content (kept_by desk.new)) × (writer.new ≡ writer.old) }
 {
     desk.at_rest();

@@ -71,7 +71,8 @@ pub(crate) fn seed_desk<S: Store>(
     ensures refused { (refusal : Refusal) → people_in list.now ≡ Err refusal → desk.new ≡ desk.old }
     ensures left { OnErr result (KeptWorld (S.content (kept_by desk.old)) (S.content (kept_by desk.new))) }
     ensures cause { IfErr result (λ e. (e ≡ ToolFault.Memory) ⊎ (e ≡ ToolFault.Store)) }
-    ensures fault { IsErrOf result ToolFault.Store → ListCanFail list.now (S.content (kept_by desk.new)) }
+    ensures fault { IsErrOf result ToolFault.Store → ListCanFail list.now
+        (S.content (kept_by desk.old)) (S.content (kept_by desk.new)) }
 {
     match read_people(alloc, list) {
         Ok(people) => match desk.try_seed(alloc, &people) {
@@ -138,7 +139,8 @@ pub fn seed_run<S: Store, W: Write>(
     // Another fault leaves the writer as it was.
     ensures memory { IsErrOf result ToolFault.Memory → writer.new ≡ writer.old }
     ensures store { IsErrOf result ToolFault.Store → writer.new ≡ writer.old }
-    ensures cause { IsErrOf result ToolFault.Store → ListCanFail list.now (S.content (kept_by desk.new)) }
+    ensures cause { IsErrOf result ToolFault.Store → ListCanFail list.now
+        (S.content (kept_by desk.old)) (S.content (kept_by desk.new)) }
 {
     let seeded = seed_desk(alloc, desk, list)?;
     let ending = seeded_ending(alloc, seeded)?;

@@ -82,7 +82,8 @@ fn table_of<S: ReadStore>(
         × IsTableOver (S.content (kept_by desk.new)) round given
         × IsTableWritten given (string_bytes a.line) a.status) }
     ensures cause { IfErr result IsOfMemoryOrStore }
-    ensures fault { IsErrOf result ToolFault.Store → MayFail (S.content (kept_by desk.new)) }
+    ensures fault { IsErrOf result ToolFault.Store → MayFail
+        (S.content (kept_by desk.old)) (S.content (kept_by desk.new)) }
 {
     let Some(t) = Moment::new(0) else {
         unreachable!()
@@ -109,7 +110,8 @@ fn table_ending<S: ReadStore>(
     ensures text { IfOk result
         (λ a. TableText round.now (S.content (kept_by desk.new)) (string_bytes a.line) a.status) }
     ensures cause { IfErr result IsOfMemoryOrStore }
-    ensures fault { IsErrOf result ToolFault.Store → MayFail (S.content (kept_by desk.new)) }
+    ensures fault { IsErrOf result ToolFault.Store → MayFail
+        (S.content (kept_by desk.old)) (S.content (kept_by desk.new)) }
 {
     match round_id(alloc, round)? {
         Some(id) => table_of(alloc, desk, id),
@@ -140,7 +142,8 @@ pub fn table_run<S: ReadStore, W: Write>(
     // Another fault leaves the writer as it was.
     ensures memory { IsErrOf result ToolFault.Memory → writer.new ≡ writer.old }
     ensures store { IsErrOf result ToolFault.Store → writer.new ≡ writer.old }
-    ensures fault { IsErrOf result ToolFault.Store → MayFail (S.content (kept_by desk.new)) }
+    ensures fault { IsErrOf result ToolFault.Store → MayFail
+        (S.content (kept_by desk.old)) (S.content (kept_by desk.new)) }
 {
     let ending = table_ending(alloc, desk, round)?;
     write_all(writer, ending.line.as_bytes())?;

@@ -44,5 +44,7 @@ returns-clause-stops g c =
 
 pub returns-clause-fault : goal.returns-clause-fault
 returns-clause-fault g c =
-    seed_fails c.commit.result c.args.people.now c.in_ok-plan.plan.change (g.S.ReadStore.content c.commit.new.store)
-    c.in_ok-plan.ensures.changes (λ none. (c.commit.ensures.nothing none).0) c.commit.ensures.fault
+    let plan = c.in_ok-plan.ensures in
+    seed_fails c.commit.result c.args.people.now c.in_ok-plan.plan.change (g.S.ReadStore.content c.args.store.now)
+    (g.S.ReadStore.content c.plan_seed.new.store) (g.S.ReadStore.content c.commit.new.store) plan.changes
+    (λ none. (c.commit.ensures.nothing none).0) plan.kept.counts c.commit.ensures.fault

@@ -15,9 +15,10 @@ returns-in-Ok-clause-told g c =
 
 pub returns-in-Ok-clause-fault : goal.returns-in-Ok-clause-fault
 returns-in-Ok-clause-fault g c = λ failed.
+    let old = g.S.ReadStore.content (kept_by c.args.desk.now) in
     let new = g.S.ReadStore.content (kept_by c.plan-planned.new.self) in
     let told = table_told new c.args.round c.in-Ok.plan c.in-Some.t c.in-Some.ensures.value c.in-Ok.ensures.planned in
-    other_fails new c.args.round (planned_reply c.in-Ok.plan) told (c.written_of.ensures.fault failed)
+    other_fails old new c.args.round (planned_reply c.in-Ok.plan) told (c.written_of.ensures.fault failed)
 
 pub returns-in-Err-clause-cause : goal.returns-in-Err-clause-cause
 returns-in-Err-clause-cause g c = elim c.told.ensures [
