@@ -8,7 +8,7 @@ use Rattle.serde_json.specs.View.{items_of}
 use Rattle.serde_json.specs.Written.{items_outline, compact_text}
 use Rattle.hall_desk.specs.ListedAnswers.{listed_answer_data, answers_data}
 use Rattle.hall_desk.specs.Lines.{lines_tokens, open_tokens}
-use Rattle.hall_desk.specs.Telling.{Adds, tokens_of}
+use Rattle.hall_desk.specs.Telling.{AddsTokens, tokens_of}
 use Rattle.hall_desk.specs.declared.reply.AnswerLine.{AnswerLine}
 use Rattle.hall_desk.proofs.JsonTold.{prints}
 
@@ -22,7 +22,7 @@ items_end (line ∷ lines) =
 
 -- the lines whose list and object are ended print as the listing's text
 pub listing_prints : (lines : List AnswerLine) (told listed ended : List Token) → told ≡ open_tokens lines
-    → Adds told listed (end_array ∷ []) → Adds listed ended (end_object ∷ [])
+    → AddsTokens told listed (end_array ∷ []) → AddsTokens listed ended (end_object ∷ [])
     → print ended ≡ compact_text (answers_data lines)
 listing_prints lines told listed ended begun list object =
     prints (answers_data lines) [] ended refl

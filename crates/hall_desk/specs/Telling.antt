@@ -10,5 +10,5 @@ abbrev pub tokens_of : Data → List Token
 tokens_of d = json_tokens (outline d)
 
 -- the new tokens are the old ones, and more after them
-pub record Adds (old new more : List Token) : Type 0 where
+pub record AddsTokens (old new more : List Token) : Type 0 where
   pub same : new ≡ old ++ more

@@ -6,7 +6,7 @@ ghost use Rattle.hall_policy.specs.declared.record.AnswerRow.{AnswerRow};
 ghost use Rattle.hall_desk.specs.ListedAnswers.{listed_answer_data};
 ghost use Rattle.hall_desk.specs.Lines.{BeginsLines, IsLineAdded};
 ghost use Rattle.hall_desk.specs.Shown.{answer_line};
-ghost use Rattle.hall_desk.specs.Telling.{Adds, tokens_of};
+ghost use Rattle.hall_desk.specs.Telling.{AddsTokens, tokens_of};
 ghost use Rattle.hall_desk.specs.declared.lines.Lines.{Lines};
 
 use crate::reply::AnswersText;
@@ -115,7 +115,7 @@ fn tell_answer(
     row: &AnswerRow,
     shows: bool,
 ) -> Result<(), AllocError>
-    ensures { OnOk result (Adds told.old told.new (tokens_of (listed_answer_data (answer_line shows row.now)))) }
+    ensures { OnOk result (AddsTokens told.old told.new (tokens_of (listed_answer_data (answer_line shows row.now)))) }
 {
     told.open()?;
     told.checked_at("answer", &row.answer)?;

@@ -7,7 +7,7 @@ ghost use Rattle.serde_json.specs.Find.{of_integer};
 ghost use Rattle.json.specs.Tree.{members_tokens};
 ghost use Rattle.serde_json.specs.Written.{members_outline, number_text};
 ghost use Rattle.hall_desk.specs.ListedAnswers.{verdict_member};
-ghost use Rattle.hall_desk.specs.Telling.{Adds};
+ghost use Rattle.hall_desk.specs.Telling.{AddsTokens};
 
 use hall_grid::Broken;
 use hall_policy::{Checked, TextKind, Within};
@@ -65,49 +65,49 @@ impl Telling {
 
     /// Begins an object.
     pub fn open(&mut self) -> Result<(), AllocError>
-        ensures { OnOk result (Adds self.old self.new (begin_object ∷ [])) }
+        ensures { OnOk result (AddsTokens self.old self.new (begin_object ∷ [])) }
     {
         self.out.begin_object()
     }
 
     /// Ends an object.
     pub fn close(&mut self) -> Result<(), AllocError>
-        ensures { OnOk result (Adds self.old self.new (end_object ∷ [])) }
+        ensures { OnOk result (AddsTokens self.old self.new (end_object ∷ [])) }
     {
         self.out.end_object()
     }
 
     /// Begins a list.
     pub fn open_list(&mut self) -> Result<(), AllocError>
-        ensures { OnOk result (Adds self.old self.new (begin_array ∷ [])) }
+        ensures { OnOk result (AddsTokens self.old self.new (begin_array ∷ [])) }
     {
         self.out.begin_array()
     }
 
     /// Ends a list.
     pub fn close_list(&mut self) -> Result<(), AllocError>
-        ensures { OnOk result (Adds self.old self.new (end_array ∷ [])) }
+        ensures { OnOk result (AddsTokens self.old self.new (end_array ∷ [])) }
     {
         self.out.end_array()
     }
 
     /// The name of a member whose value comes next.
     pub fn name(&mut self, name: &str) -> Result<(), AllocError>
-        ensures { OnOk result (Adds self.old self.new (key name.now ∷ [])) }
+        ensures { OnOk result (AddsTokens self.old self.new (key name.now ∷ [])) }
     {
         self.out.key(name)
     }
 
     /// A text of a list.
     pub fn text(&mut self, text: &str) -> Result<(), AllocError>
-        ensures { OnOk result (Adds self.old self.new (string text.now ∷ [])) }
+        ensures { OnOk result (AddsTokens self.old self.new (string text.now ∷ [])) }
     {
         self.out.string(text)
     }
 
     /// A member that is a text.
     pub fn text_at(&mut self, name: &str, text: &str) -> Result<(), AllocError>
-        ensures { OnOk result (Adds self.old self.new (key name.now ∷ string text.now ∷ [])) }
+        ensures { OnOk result (AddsTokens self.old self.new (key name.now ∷ string text.now ∷ [])) }
     {
         self.out.key(name)?;
         self.out.string(text)
@@ -119,14 +119,14 @@ impl Telling {
         name: &str,
         text: &Checked<K>,
     ) -> Result<(), AllocError>
-        ensures { OnOk result (Adds self.old self.new (key name.now ∷ string text.now ∷ [])) }
+        ensures { OnOk result (AddsTokens self.old self.new (key name.now ∷ string text.now ∷ [])) }
     {
         self.text_at(name, text.as_str())
     }
 
     /// A member that is a number.
     pub fn number_at(&mut self, name: &str, n: u64) -> Result<(), AllocError>
-        ensures { OnOk result (Adds self.old self.new (key name.now ∷ number (decimal n) ∷ [])) }
+        ensures { OnOk result (AddsTokens self.old self.new (key name.now ∷ number (decimal n) ∷ [])) }
     {
         self.out.key(name)?;
         self.out.u64(n)
@@ -138,7 +138,7 @@ impl Telling {
         name: &str,
         n: Within<LEAST, MOST>,
     ) -> Result<(), AllocError>
-        ensures { OnOk result (Adds self.old self.new (key name.now ∷ number (decimal n.entry) ∷ [])) }
+        ensures { OnOk result (AddsTokens self.old self.new (key name.now ∷ number (decimal n.entry) ∷ [])) }
     {
         self.number_at(name, n.get())
     }
@@ -146,7 +146,7 @@ impl Telling {
     /// A member that is a whole number.
     pub fn integer_at(&mut self, name: &str, n: i64) -> Result<(), AllocError>
         ensures { OnOk result
-            (Adds self.old self.new (key name.now ∷ number (number_text (of_integer n)) ∷ [])) }
+            (AddsTokens self.old self.new (key name.now ∷ number (number_text (of_integer n)) ∷ [])) }
     {
         self.out.key(name)?;
         self.out.i64(n)
@@ -159,7 +159,7 @@ impl Telling {
         verdict: Option<Broken>,
     ) -> Result<(), AllocError>
         ensures { OnOk result
-            (Adds self.old self.new (members_tokens (members_outline (verdict_member verdict)))) }
+            (AddsTokens self.old self.new (members_tokens (members_outline (verdict_member verdict)))) }
     {
         match verdict {
             None => self.close(),
@@ -173,7 +173,7 @@ impl Telling {
 
     /// A member that is true or false.
     pub fn flag_at(&mut self, name: &str, flag: bool) -> Result<(), AllocError>
-        ensures { OnOk result (Adds self.old self.new (key name.now ∷ boolean flag ∷ [])) }
+        ensures { OnOk result (AddsTokens self.old self.new (key name.now ∷ boolean flag ∷ [])) }
     {
         self.out.key(name)?;
         self.out.boolean(flag)

@@ -5,7 +5,7 @@ use Rattle.std.specs.Prelude.{All}
 use Rattle.std.proofs.lemmas.Option.{same_Some}
 use Rattle.std.proofs.lemmas.List.{append-nil}
 use Rattle.std.proofs.lemmas.List.Elements.{All-append, All-cons, All-nil}
-use Rattle.hall_http.specs.Peer.{Traffic, IsLater}
+use Rattle.hall_http.specs.Peer.{Traffic, IsLaterOn}
 use Rattle.hall_http.specs.Crowd.{AllLeave, AreGone, AreKept, AreStill, ComesTo, HasGone, HaveGoneSince, HaveBecome}
 use Rattle.hall_http.specs.Crowd.{IsAt}
 use Rattle.hall_http.specs.Crowd.{IsHereOrGone, MayLose, Past, Receives, WasAt, WentLater, number_past, traffic_past}
@@ -124,15 +124,15 @@ module _ {P : Type 0} (traffic : P → Traffic) where
         same_Some k j (sym at ∙ subst (λ (place : ℕ). IsAt s place j) (sym here) there)
 
     module _ (place : ℕ) (k : Client P) (at : IsAt s place k) where
-      is_later : (t : Traffic) → t.number ≡ (traffic k.peer).number → WasBefore many s t → IsLater (traffic k.peer) t
+      is_later : (t : Traffic) → t.number ≡ (traffic k.peer).number → WasBefore many s t → IsLaterOn (traffic k.peer) t
       is_later t same (inl (other, (j, there, later))) =
-          subst (λ (j : Client P). IsLater (traffic j.peer) t)
+          subst (λ (j : Client P). IsLaterOn (traffic j.peer) t)
           (sym (same_one place other k j at there (sym same ∙ later.number))) later
       is_later t same (inr high) =
           absurd (omega (arith, (kept.numbered.counted place k at).1, same, high))
 
       abbrev IsIt : Past P → Type 0
-      IsIt one = number_past traffic one ≡ (traffic k.peer).number → IsLater (traffic k.peer) (traffic_past traffic one)
+      IsIt one = number_past traffic one ≡ (traffic k.peer).number → IsLaterOn (traffic k.peer) (traffic_past traffic one)
 
       all_later : All IsIt (s.gone.items ++ passes.last)
       all_later =
@@ -160,7 +160,7 @@ module _ {P : Type 0} (traffic : P → Traffic) where
           found_later
           (after.numbered.found ((traffic k.peer).number) (within.0, omega (arith, within.1, order)))
 
-    later_still : (t v : Traffic) → IsLater t v → IsHereOrGone traffic u v → IsHereOrGone traffic u t
+    later_still : (t v : Traffic) → IsLaterOn t v → IsHereOrGone traffic u v → IsHereOrGone traffic u t
     later_still t v first (inl (place, l, at, second)) =
         inl (place, l, at, later_then t v (traffic l.peer) first second)
     later_still t v first (inr (front, one, rest, is, second)) =

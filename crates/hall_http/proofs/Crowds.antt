@@ -9,12 +9,12 @@ use Rattle.std.proofs.lemmas.List.{append-nil, take-append-drop, set-get_or}
 use Rattle.std.proofs.lemmas.List.Elements.{All-nil, All-push, All-append}
 use Rattle.hall_http.specs.Served.{refusal}
 use Rattle.hall_http.specs.Connection.{Exchange, LeavesOpen, requests_of}
-use Rattle.hall_http.specs.Peer.{Traffic, IsLater, IsUntouched}
+use Rattle.hall_http.specs.Peer.{Traffic, IsLaterOn, IsUntouched}
 use Rattle.hall_http.specs.Crowd.{AreApart, AreKept, AreThose, AreConnectionsTold, HasGone, IsAt, AreGone, IsPast}
 use Rattle.hall_http.specs.Crowd.{IsHandedOut, AnswersNoMore, AreAnsweredOf, AreStill, ComesTo, HasAt, IsHeldAt, MayGo}
 use Rattle.hall_http.specs.Crowd.{MayWaitAfter, Past, Serves, WaitsAt, number_past, traffic_past}
 use Rattle.hall_http.specs.Head.{HasNoWholeRequest, IsWholeRequest}
-use Rattle.hall_http.specs.History.{ConnectionHistory, Stands, IsReplying, Ends}
+use Rattle.hall_http.specs.History.{ConnectionHistory, StandsSo, IsReplying, Ends}
 use Rattle.hall_http.specs.Turns.{GroupedSession}
 use Rattle.hall_http.specs.Turns.{Turn, Service, of, AreOpenButLast, AreSent, HasEnded, IsConnectionTold, IsClient}
 use Rattle.hall_http.specs.Turns.{IsNextRequest}
@@ -82,7 +82,7 @@ module _ (t : ConnectionHistory) (k : Connection) (over : Bool) (at_end : t.ende
   refusing_told : IsRefusedAfter t.exchanges t.went → Ends end.BadHead t k.inbox → Told t k over off
   refusing_told refused why = inr (refused, refused_rightly t k over why at_end, no_request t k off why quiet)
 
-  told_by : (s : State) → Stands s t k → Told t k over off
+  told_by : (s : State) → StandsSo s t k → Told t k over off
   told_by state.Looking free = inl (inl free.told)
   told_by state.Reading (free, unfinished, seldom) = inl (inl free.told)
   told_by (state.Writing None) (r, goes_on) = replying_told t k over off r
@@ -100,7 +100,7 @@ replying_opened : (t : ConnectionHistory) (k : Connection) → IsReplying t k �
 replying_opened t k r = inr (r.before, r.last, r.is_last.all, r.opened)
 
 -- nothing was answered after a request that closes the connection
-opened_by : (s : State) (t : ConnectionHistory) (k : Connection) → Stands s t k → AreOpenButLast t.exchanges
+opened_by : (s : State) (t : ConnectionHistory) (k : Connection) → StandsSo s t k → AreOpenButLast t.exchanges
 opened_by state.Looking t k free = inl free.goes_on.0
 opened_by state.Reading t k (free, unfinished, seldom) = inl free.goes_on.0
 opened_by (state.Writing None) t k (r, goes_on) = inl goes_on.0
@@ -628,7 +628,7 @@ module _ {P : Type 0} (traffic : P → Traffic) where
 
     -- at the place there is nobody, or one that was there
     still_place : (u : Clients P) → u.places.items ≡ slice_set s.places.items place new
-        → ((l : Client P) → new ≡ Some l → (k : Client P) × (old ≡ Some k) × IsLater (traffic k.peer) (traffic l.peer))
+        → ((l : Client P) → new ≡ Some l → (k : Client P) × (old ≡ Some k) × IsLaterOn (traffic k.peer) (traffic l.peer))
         → AreStill traffic s u
     still_place u items one other l at =
         elim (where_is s.places.items place new inside other l (rw (sym items) at)) [
@@ -642,14 +642,14 @@ module _ {P : Type 0} (traffic : P → Traffic) where
         → AreStill traffic s u
     still_free u items none = still_place u items (λ l e. let clash = sym none ∙ e in absurd cc)
 
-    still_one : (k l : Client P) → old ≡ Some k → new ≡ Some l → IsLater (traffic k.peer) (traffic l.peer)
+    still_one : (k l : Client P) → old ≡ Some k → new ≡ Some l → IsLaterOn (traffic k.peer) (traffic l.peer)
         → AreStill traffic s after
     still_one k l was now later =
         still_place after refl
         (λ w e. (
           k,
           was,
-          subst (λ (w : Client P). IsLater (traffic k.peer) (traffic w.peer)) (same_Some l w (sym now ∙ e)) later,
+          subst (λ (w : Client P). IsLaterOn (traffic k.peer) (traffic w.peer)) (same_Some l w (sym now ∙ e)) later,
         ))
 
     none_changed : old ≡ None → new ≡ None → (few many : ℕ) (turns : List Turn) → AreKept traffic few many turns s

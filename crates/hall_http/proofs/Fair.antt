@@ -11,7 +11,8 @@ use Rattle.std.proofs.lemmas.List.{append-nil, length_push, map-append, take-app
 use Rattle.std.proofs.lemmas.List.Elements.{All-pop}
 use Rattle.std.proofs.lemmas.Map.Keys.{IsDistinct-cons, IsDistinct-head, IsDistinct-tail}
 use Rattle.hall_http.specs.Coming.{Heard, Nexts, logged, turn, turns_in}
-use Rattle.hall_http.specs.Fair.{AreDistinct, CanGoOn, NobodyTwice, Owes, PassesBy, Stands, WasHeard, turn_at, turned}
+use Rattle.hall_http.specs.Fair.{AreDistinctPlaces, CanGoOn, NobodyTwice, Owes}
+use Rattle.hall_http.specs.Fair.{PassesBy, StandsInLine, WasHeard, turn_at, turned}
 use Rattle.hall_http.specs.Limits.{most_connections}
 use Rattle.hall_http.specs.Line.{has}
 use Rattle.hall_http.specs.Queue.{ComeBehind, GoesAhead, IsFirst, called}
@@ -47,7 +48,7 @@ all_without P [] (y ∷ ys) zs is = all_without P [] ys zs is.1
 all_without P (x ∷ xs) ys zs is = (is.0, all_without P xs ys zs is.1)
 
 -- those of a list of which none is twice, without some of them
-distinct_without : (xs ys zs : List ℕ) → AreDistinct (xs ++ ys ++ zs) → AreDistinct (xs ++ zs)
+distinct_without : (xs ys zs : List ℕ) → AreDistinctPlaces (xs ++ ys ++ zs) → AreDistinctPlaces (xs ++ zs)
 distinct_without [] [] zs is = is
 distinct_without [] (y ∷ ys) zs is =
     distinct_without [] ys zs (IsDistinct-tail (λ one other. one == other) y (ys ++ zs) is)
@@ -57,10 +58,10 @@ distinct_without (x ∷ xs) ys zs is =
     (IsDistinct-head (λ one other. one == other) x (xs ++ ys ++ zs) is))
     (distinct_without xs ys zs (IsDistinct-tail (λ one other. one == other) x (xs ++ ys ++ zs) is))
 
-distinct_front : (xs ys : List ℕ) → AreDistinct (xs ++ ys) → AreDistinct xs
+distinct_front : (xs ys : List ℕ) → AreDistinctPlaces (xs ++ ys) → AreDistinctPlaces xs
 distinct_front xs ys is =
-    subst AreDistinct (append-nil xs)
-    (distinct_without xs ys [] (subst AreDistinct (sym (append-nil (xs ++ ys))) is))
+    subst AreDistinctPlaces (append-nil xs)
+    (distinct_without xs ys [] (subst AreDistinctPlaces (sym (append-nil (xs ++ ys))) is))
 
 or_either : (one other : Bool) → (one || other) ≡ true → (one ≡ true) ⊎ (other ≡ true)
 or_either true other is = inl refl
@@ -133,10 +134,10 @@ heard_or heard count told one (front, rest, held, is, long) =
 
 -- whoever is in line stands so at first
 stands_first : (P : Type 0) (queue : Queue) (place : ℕ) → has queue.waiting.items place ≡ true
-    → Stands {P = P} [] place queue.waiting.items
+    → StandsInLine {P = P} [] place queue.waiting.items
 stands_first P queue place waits =
     let (ahead, behind, found) = stands_in queue.waiting.items place waits in
-    (ahead, behind, found, distinct_front ahead (place ∷ behind) (subst AreDistinct found queue.line.1))
+    (ahead, behind, found, distinct_front ahead (place ∷ behind) (subst AreDistinctPlaces found queue.line.1))
 
 module _ {P : Type 0} where
   -- one is let go that doesn't stand in line
@@ -206,7 +207,7 @@ module _ {P : Type 0} where
 
   -- whoever stands so still does where others come behind
   stands_behind : (rest : Nexts P) (place : ℕ) (line more then : List ℕ) → then ≡ line ++ more
-      → Stands rest place line → Stands rest place then
+      → StandsInLine rest place line → StandsInLine rest place then
   stands_behind rest place line more then is (ahead, behind, found, apart) = (
     ahead,
     behind ++ more,
@@ -215,8 +216,8 @@ module _ {P : Type 0} where
   )
 
   -- also where this was next, by which nobody had a turn
-  stands_on : (rest : Nexts P) (one : Next P) (place : ℕ) (line : List ℕ) → turn_at one ≡ [] → Stands rest place line
-      → Stands (rest ++ one ∷ []) place line
+  stands_on : (rest : Nexts P) (one : Next P) (place : ℕ) (line : List ℕ) → turn_at one ≡ [] → StandsInLine rest place line
+      → StandsInLine (rest ++ one ∷ []) place line
   stands_on rest one place line none (ahead, behind, found, apart) = (
     ahead,
     behind,
@@ -238,17 +239,17 @@ module _ {P : Type 0} where
 
   -- whoever stands so does still after the turn of another, who was the first
   stands_turn : (rest : Nexts P) (place first : ℕ) (line more then : List ℕ) → first ≢ place
-      → line ++ more ≡ first ∷ then → Stands rest place line → Stands (rest ++ next.Turn first ∷ []) place then
+      → line ++ more ≡ first ∷ then → StandsInLine rest place line → StandsInLine (rest ++ next.Turn first ∷ []) place then
   stands_turn rest place first line more then other goes (ahead, behind, found, apart) =
       let (less, were, are) = stands_next rest place first ahead behind line more then other found goes in
       let all : turned rest ++ ahead ≡ turned (rest ++ next.Turn first ∷ []) ++ less =
       ap (λ xs. turned rest ++ xs) were ∙ sym (append_assoc (turned rest) (first ∷ []) less)
       ∙ ap (λ xs. xs ++ less) (sym (turned_more rest (next.Turn first))) in
-      (less, behind ++ more, are, subst AreDistinct all apart)
+      (less, behind ++ more, are, subst AreDistinctPlaces all apart)
 
   -- and where another, who was the first, is let go
   stands_gone : (rest : Nexts P) (place first : ℕ) (line more then : List ℕ) → first ≢ place
-      → line ++ more ≡ first ∷ then → Stands rest place line → Stands (rest ++ next.Gone first ∷ []) place then
+      → line ++ more ≡ first ∷ then → StandsInLine rest place line → StandsInLine (rest ++ next.Gone first ∷ []) place then
   stands_gone rest place first line more then other goes (ahead, behind, found, apart) =
       let (less, were, are) = stands_next rest place first ahead behind line more then other found goes in
       let all : turned rest ++ ahead ≡ (turned rest ++ first ∷ []) ++ less =
@@ -257,12 +258,12 @@ module _ {P : Type 0} where
         less,
         behind ++ more,
         are,
-        distinct_without (turned rest) (first ∷ []) less (subst AreDistinct all apart),
+        distinct_without (turned rest) (first ∷ []) less (subst AreDistinctPlaces all apart),
       )
 
   -- whoever stands so stands so after this, by which it has no turn and isn't let go
   stands_then : (rest : Nexts P) (one : Next P) (place : ℕ) (old new : Queue) → CallsOne old one new
-      → PassesBy place one → Stands rest place old.waiting.items → Stands (rest ++ one ∷ []) place new.waiting.items
+      → PassesBy place one → StandsInLine rest place old.waiting.items → StandsInLine (rest ++ one ∷ []) place new.waiting.items
   stands_then rest (next.Turn first) place old new (called, (more, goes), few) other is =
       stands_turn rest place first old.waiting.items more new.waiting.items other goes is
   stands_then rest (next.Newcomer first peer) place old new ((called, more, come), waits) other is =
@@ -285,7 +286,7 @@ module _ {P : Type 0} where
 
   -- what this makes of one who can go on from it on: a newcomer, since of a turn nothing was heard yet
   begins : (heard : List Heard) (count place : ℕ) (one : Next P) (old new : Queue) → length heard ≡ count
-      → CallsOne old one new → CanGoOn heard count one place → Stands {P = P} [] place new.waiting.items
+      → CallsOne old one new → CanGoOn heard count one place → StandsInLine {P = P} [] place new.waiting.items
   begins heard count place (next.Newcomer other peer) old new all (come, waits) is =
       stands_first P new place (subst (λ n. has new.waiting.items n ≡ true) is waits)
   begins heard count place (next.Turn other) old new all calls is =
@@ -300,39 +301,39 @@ module _ {P : Type 0} where
       (owes : Owes nexts heard old.waiting.items) where
     all_stand : (front rest : Nexts P) (one : Next P) (place : ℕ) → nexts ++ last ∷ [] ≡ front ++ one ∷ rest
         → CanGoOn heard (turns_in front) one place → All (PassesBy place) rest
-        → Stands rest place new.waiting.items
+        → StandsInLine rest place new.waiting.items
     all_stand front rest one place is goes passes = elim (last_or front rest nexts one last is) [
       | inl (none, same, before) ↦
           let now : CanGoOn heard (turns_in nexts) last place =
           subst (λ xs. CanGoOn heard (turns_in xs) last place) before
           (subst (λ x. CanGoOn heard (turns_in front) x place) same goes) in
-          subst (λ xs. Stands xs place new.waiting.items) (sym none)
+          subst (λ xs. StandsInLine xs place new.waiting.items) (sym none)
           (begins heard (turns_in nexts) place last old new all calls now)
       | inr (less, more, before) ↦
           let both = All-pop (PassesBy place) rest less (Some last) more passes in
-          subst (λ xs. Stands xs place new.waiting.items) (sym more)
+          subst (λ xs. StandsInLine xs place new.waiting.items) (sym more)
           (stands_then less last place old new calls both.1 (owes.stands front less one place before goes both.0))
     ]
 
     all_fair : NobodyTwice (nexts ++ last ∷ []) heard
     all_fair front rest one place count is goes passes = elim (last_or front rest nexts one last is) [
-      | inl (none, same, before) ↦ subst (λ xs. AreDistinct (turned (take count xs))) (sym none) (nobody_of count)
+      | inl (none, same, before) ↦ subst (λ xs. AreDistinctPlaces (turned (take count xs))) (sym none) (nobody_of count)
       | inr (less, more, before) ↦ elim (leb_tells count (length less)) [
         | inl short ↦
             let part : take count rest ≡ take count less =
             ap (λ xs. take count xs) more ∙ take-append-le count less (last ∷ []) short.1 in
-            subst (λ xs. AreDistinct (turned xs)) (sym part)
+            subst (λ xs. AreDistinctPlaces (turned xs)) (sym part)
             (owes.fair front less one place count before goes (subst (All (PassesBy place)) part passes))
         | inr long ↦
             let whole : take count rest ≡ rest =
             take_all count rest (omega (arith, long.1, ap length more, length_push less last)) in
             let (ahead, behind, found, apart) =
             all_stand front rest one place is goes (subst (All (PassesBy place)) whole passes) in
-            subst (λ xs. AreDistinct (turned xs)) (sym whole) (distinct_front (turned rest) ahead apart)
+            subst (λ xs. AreDistinctPlaces (turned xs)) (sym whole) (distinct_front (turned rest) ahead apart)
       ]
     ]
       where
-        nobody_of : (count : ℕ) → AreDistinct (turned {P = P} (take count []))
+        nobody_of : (count : ℕ) → AreDistinctPlaces (turned {P = P} (take count []))
         nobody_of zero = nobody
         nobody_of (suc count) = nobody
 
@@ -355,7 +356,7 @@ module _ {P : Type 0} where
     -- whoever can go on by what is heard could before, or it is the one that just had its turn
     could : (front rest : Nexts P) (one : Next P) (place : ℕ) → nexts ≡ front ++ one ∷ rest
         → CanGoOn (heard ++ told ∷ []) (turns_in front) one place
-        → CanGoOn heard (turns_in front) one place ⊎ ((rest ≡ []) × Stands {P = P} [] place new.waiting.items)
+        → CanGoOn heard (turns_in front) one place ⊎ ((rest ≡ []) × StandsInLine {P = P} [] place new.waiting.items)
     could front rest (next.Newcomer other peer) place is goes = inl goes
     could front rest (next.Turn other) place is (same, was) =
         elim (heard_or heard (turns_in front) (place, step.Again) told was) [
@@ -378,20 +379,20 @@ module _ {P : Type 0} where
       fair = λ front rest one place count is goes passes.
           elim (could front rest one place is goes) [
             | inl before ↦ owes.fair front rest one place count is before passes
-            | inr (none, stands) ↦ subst (λ xs. AreDistinct (turned (take count xs))) (sym none) (nobody_of count)
+            | inr (none, stands) ↦ subst (λ xs. AreDistinctPlaces (turned (take count xs))) (sym none) (nobody_of count)
           ];
       stands = λ front rest one place is goes passes.
           elim (could front rest one place is goes) [
             | inl before ↦
                 stands_behind rest place old.waiting.items come.1 new.waiting.items come.2
                 (owes.stands front rest one place is before passes)
-            | inr (none, stands) ↦ subst (λ xs. Stands xs place new.waiting.items) (sym none) stands
+            | inr (none, stands) ↦ subst (λ xs. StandsInLine xs place new.waiting.items) (sym none) stands
           ];
       unheard = λ front rest place is few.
           owes.unheard front rest place is (omega (arith, few, length_push heard told));
     }
       where
-        nobody_of : (count : ℕ) → AreDistinct (turned {P = P} (take count []))
+        nobody_of : (count : ℕ) → AreDistinctPlaces (turned {P = P} (take count []))
         nobody_of zero = nobody
         nobody_of (suc count) = nobody
 

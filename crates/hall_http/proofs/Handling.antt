@@ -10,7 +10,7 @@ use Rattle.hall_http.specs.Connection.{Exchange, Session, AreMoments, replies_of
 use Rattle.hall_http.specs.Device.{WritesPart, NoneFailed, ReadFailed, WriteFailed}
 use Rattle.hall_http.specs.Feeding.{IsFed}
 use Rattle.hall_http.specs.History.{ConnectionHistory, nothing, then_heard, then_ended, then_answered, then_sent}
-use Rattle.hall_http.specs.History.{reads_of, HasHistory, Stands, IsReplying, IsRefusing, Ends, told_at}
+use Rattle.hall_http.specs.History.{reads_of, HasHistory, StandsSo, IsReplying, IsRefusing, Ends, told_at}
 use Rattle.hall_http.specs.Served.{Line, IsHandled, ConnectionEnded, IsNoRequest, refusal}
 use Rattle.hall_http.specs.Steps.{pending, fresh, IsAfterSending, Looks}
 use Rattle.hall_http.specs.declared.connection.Connection.{Connection}
@@ -289,7 +289,7 @@ module _ {H C : Type 0} (answers : H → Option ℕ → List ℕ → List ℕ �
               no_request (goes_on, why),
             )))
 
-        failed_at : (then : Option (List ℕ)) (ending : Option ServeEnd) → Stands (state.Writing ending) t k
+        failed_at : (then : Option (List ℕ)) (ending : Option ServeEnd) → StandsSo (state.Writing ending) t k
             → WritesPart written then (pending k) → WriteFailed failed fails broke breaks
             → IsHandled answers now_gives old (h, c) (line_at after asks fails then breaks) (m, n) end.Device
         failed_at then None (r, goes_on) part rose = replying_failed then r part rose

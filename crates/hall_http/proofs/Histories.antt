@@ -12,7 +12,7 @@ use Rattle.hall_http.specs.Outgoing.{outgoing_text}
 use Rattle.hall_http.specs.Connection.{Exchange, requests_of, replies_of, AreOpen, LeavesOpen}
 use Rattle.hall_http.specs.Head.{IsWholeRequest, IsUnfinished, IsUnfinishedBelow}
 use Rattle.hall_http.specs.History.{ConnectionHistory, nothing, then_heard, then_ended, then_answered, then_sent}
-use Rattle.hall_http.specs.History.{reads_of, HasHistory, Stands, IsFree, IsReplying, IsRefusing}
+use Rattle.hall_http.specs.History.{reads_of, HasHistory, StandsSo, IsOpenAndIdle, IsReplying, IsRefusing}
 use Rattle.hall_http.specs.Reading.{at_first, after_read, after_answer}
 use Rattle.hall_http.specs.Served.{HaveRead, IsLastRequest, refusal}
 use Rattle.hall_http.specs.Steps.{pending, fresh, IsAfterHearing, IsAfterEnd, IsAfterSending, Answers, Waits, Refuses}
@@ -59,8 +59,8 @@ at_the_start = record {
   stands = record { goes_on = (All-nil (λ x. LeavesOpen x.request), omega arith); more = refl; told = refl };
 }
 
-pub stands_at : (t : ConnectionHistory) (k : Connection) (s : State) → HasHistory t k → k.state ≡ s → Stands s t k
-stands_at t k s h e = subst (λ (s : State). Stands s t k) e h.stands
+pub stands_at : (t : ConnectionHistory) (k : Connection) (s : State) → HasHistory t k → k.state ≡ s → StandsSo s t k
+stands_at t k s h e = subst (λ (s : State). StandsSo s t k) e h.stands
 
 module _ (t : ConnectionHistory) (k : Connection) (h : HasHistory t k) where
   -- no more bytes were heard, and no further request was answered
@@ -68,7 +68,7 @@ module _ (t : ConnectionHistory) (k : Connection) (h : HasHistory t k) where
       → reads ≡ reads_of (record t { ended = over; went = went })
       → reads_of (record t { ended = over; went = went }) ≤ 100000 → IsUnfinishedBelow least k.inbox
       → sent ≤ length (outgoing_text reply)
-      → Stands s (record t { ended = over; went = went })
+      → StandsSo s (record t { ended = over; went = went })
       (record k { least = least; reply = reply; sent = sent; reads = reads; state = s })
       → HasHistory (record t { ended = over; went = went })
       (record k { least = least; reply = reply; sent = sent; reads = reads; state = s })
@@ -88,7 +88,7 @@ module _ (t : ConnectionHistory) (k : Connection) (h : HasHistory t k) where
 
   -- some more bytes were heard
   module _ (at : k.state ≡ state.Reading) where
-    reading_now : IsFree t × IsUnfinished k.inbox × (t.pieces < 100000)
+    reading_now : IsOpenAndIdle t × IsUnfinished k.inbox × (t.pieces < 100000)
     reading_now = stands_at t k state.Reading h at
 
     pub heard : (piece : List ℕ) (l : Connection) → 0 < length piece → length piece ≤ 4096 → IsAfterHearing k piece l
@@ -132,7 +132,7 @@ module _ (t : ConnectionHistory) (k : Connection) (h : HasHistory t k) where
 
   -- it was looked at what waits
   module _ (at : k.state ≡ state.Looking) where
-    free_now : IsFree t
+    free_now : IsOpenAndIdle t
     free_now = stands_at t k state.Looking h at
 
     module _ {H C : Type 0} (answers : H → Option ℕ → List ℕ → List ℕ → H → Type 0)
@@ -186,7 +186,7 @@ module _ (t : ConnectionHistory) (k : Connection) (h : HasHistory t k) where
       opened stays = All-push (λ x. LeavesOpen x.request) xs x free_now.goes_on.0 stays
 
       goes_on : (ending : Option ServeEnd) → EndsAfter x.request (k.requests + 1) ending
-          → Stands (state.Writing ending) (then_answered t x) next
+          → StandsSo (state.Writing ending) (then_answered t x) next
       goes_on None (stays, other) =
           (replying, (opened stays, omega (arith, one_more, h.requests, free_now.goes_on.1, other)))
       goes_on (Some end.Closed) shut =
@@ -213,7 +213,7 @@ module _ (t : ConnectionHistory) (k : Connection) (h : HasHistory t k) where
           })
 
     waits_at : (b : Bool) → (k.reads == 100000) ≡ b → (w : ℕ) → IsUnfinished k.inbox
-        → Stands (if b then state.Ended end.Limit else state.Reading) t
+        → StandsSo (if b then state.Ended end.Limit else state.Reading) t
         (record k { least = w; state = if b then state.Ended end.Limit else state.Reading })
     waits_at true e w unfinished =
         let reads : reads_of t ≡ t.pieces = open_reads t free_now.more in
@@ -300,16 +300,16 @@ module _ (t : ConnectionHistory) (k : Connection) (h : HasHistory t k) where
           ap (λ s. s ++ bytes) r.told
           ∙ all_sent (replies_of t.exchanges) (outgoing_text k.reply) refusal k.sent count r.reply all
 
-    part_stands : (ending : Option ServeEnd) → Stands (state.Writing ending) t k
-        → Stands (state.Writing ending) after (record k { sent = k.sent + count })
+    part_stands : (ending : Option ServeEnd) → StandsSo (state.Writing ending) t k
+        → StandsSo (state.Writing ending) after (record k { sent = k.sent + count })
     part_stands None (r, goes_on) = (replying_on r, goes_on)
     part_stands (Some end.Closed) (r, why) = (replying_on r, why)
     part_stands (Some end.Limit) (r, why) = (replying_on r, why)
     part_stands (Some end.BadHead) (r, why) = (refusing_on r, why)
     part_stands (Some end.Device) (r, why) = absurd why
 
-    whole_stands : (ending : Option ServeEnd) → count ≡ length (pending k) → Stands (state.Writing ending) t k
-        → Stands (after_reply (state.Writing ending)) after
+    whole_stands : (ending : Option ServeEnd) → count ≡ length (pending k) → StandsSo (state.Writing ending) t k
+        → StandsSo (after_reply (state.Writing ending)) after
         (record k { sent = 0; reply = Nothing; state = after_reply (state.Writing ending) })
     whole_stands None all (r, goes_on) = record { goes_on = goes_on; more = r.more; told = replied r all }
     whole_stands (Some end.Closed) all (r, why) = (replied r all, why)
@@ -323,7 +323,7 @@ module _ (t : ConnectionHistory) (k : Connection) (h : HasHistory t k) where
         subst (HasHistory after) (sym is)
         (as_before t.ended after.went k.least k.reply (k.sent + count) k.reads k.state h.reads h.seldom h.below
         (omega (arith, part, h.inside, length-drop k.sent (outgoing_text k.reply)))
-        (subst (λ (s : State). Stands s after (record k { sent = k.sent + count })) (sym at)
+        (subst (λ (s : State). StandsSo s after (record k { sent = k.sent + count })) (sym at)
         (part_stands ending (stands_at t k (state.Writing ending) h at))))
     sent ending l at (inr (all, is)) =
         subst (HasHistory after) (sym (is ∙ ap (λ (s : State). record k

@@ -11,7 +11,8 @@ use Rattle.std.proofs.lemmas.List.{append-nil, length_push, take-append-le, take
 use Rattle.std.proofs.lemmas.List.Folds.{list_any-append}
 use Rattle.std.proofs.lemmas.Map.Keys.{IsDistinct-push, IsDistinct-tail}
 use Rattle.std.proofs.lemmas.Map.Steps.{length-le_from_distinct_below}
-use Rattle.hall_http.specs.Line.{IsLine, Motions, WereLines, called_by, called_in, came_by, came_in, gone_by, gone_in}
+use Rattle.hall_http.specs.Line.{IsLineSoFar, Motions, WereLines, called_by}
+use Rattle.hall_http.specs.Line.{called_in, came_by, came_in, gone_by, gone_in}
 use Rattle.hall_http.specs.Line.{has}
 use Rattle.hall_http.specs.declared.queue.Motion.{Motion}
 use Rattle.hall_http.specs.declared.queue.Motion.TheVariants.{Comes, Called, Skipped}
@@ -58,8 +59,8 @@ called_then motions place motion =
     ∙ ap (λ xs. called_in motions ++ xs) (append-nil (called_by place motion))
 
 -- the line after one that wasn't in it has come
-pub line_comes : (motions : Motions) (line : List ℕ) (place : ℕ) → IsLine motions line → has line place ≡ false
-    → IsLine (motions ++ (place, Comes) ∷ []) (line ++ place ∷ [])
+pub line_comes : (motions : Motions) (line : List ℕ) (place : ℕ) → IsLineSoFar motions line → has line place ≡ false
+    → IsLineSoFar (motions ++ (place, Comes) ∷ []) (line ++ place ∷ [])
 line_comes motions line place is none = (
   came_then motions place Comes ∙ ap (λ xs. xs ++ place ∷ []) is.0 ∙ append_assoc (gone_in motions) line (place ∷ [])
       ∙ ap (λ xs. xs ++ (line ++ place ∷ [])) (sym (gone_then motions place Comes ∙ append-nil (gone_in motions))),
@@ -76,8 +77,8 @@ goes place Called not = (refl, refl)
 goes place Skipped not = (refl, refl)
 
 -- the line after the first has gone
-pub line_goes : (motions : Motions) (line : List ℕ) (place : ℕ) (motion : Motion) → IsLine motions (place ∷ line)
-    → Goes place motion → IsLine (motions ++ (place, motion) ∷ []) line
+pub line_goes : (motions : Motions) (line : List ℕ) (place : ℕ) (motion : Motion) → IsLineSoFar motions (place ∷ line)
+    → Goes place motion → IsLineSoFar (motions ++ (place, motion) ∷ []) line
 line_goes motions line place motion is by =
     let came = came_then motions place motion ∙ ap (λ xs. came_in motions ++ xs) by.0 ∙ append-nil (came_in motions) in
     let gone = gone_then motions place motion ∙ ap (λ xs. gone_in motions ++ xs) by.1 in (
@@ -87,13 +88,13 @@ line_goes motions line place motion is by =
 
 -- there were lines after each first part, also after one more motion
 pub lines_then : (motions : Motions) (one : ℕ × Motion) (line : List ℕ) → WereLines motions
-    → IsLine (motions ++ one ∷ []) line → WereLines (motions ++ one ∷ [])
+    → IsLineSoFar (motions ++ one ∷ []) line → WereLines (motions ++ one ∷ [])
 lines_then motions one line before now count = elim (leb_tells count (length motions)) [
-  | inl short ↦ subst (λ (xs : Motions). (then : List ℕ) × IsLine xs then)
+  | inl short ↦ subst (λ (xs : Motions). (then : List ℕ) × IsLineSoFar xs then)
       (sym (take-append-le count motions (one ∷ []) short.1)) (before count)
   | inr long ↦ (
     line,
-    subst (λ (xs : Motions). IsLine xs line)
+    subst (λ (xs : Motions). IsLineSoFar xs line)
         (sym (take_all count (motions ++ one ∷ []) (omega (arith, long.1, length_push motions one)))) now,
   )
 ]
@@ -119,7 +120,7 @@ nobody = tt
 
 pub lines_none : WereLines []
 lines_none count =
-    ([], subst (λ (xs : Motions). IsLine xs []) (sym (take_all count [] (omega arith))) (refl, nobody))
+    ([], subst (λ (xs : Motions). IsLineSoFar xs []) (sym (take_all count [] (omega arith))) (refl, nobody))
 
 -- all in a line are below, also after the first has gone
 pub within_after : (line rest : List ℕ) (place most : ℕ) → line ≡ place ∷ rest

@@ -6,7 +6,7 @@ use Rattle.std.specs.Prelude.{Bool}
 use Rattle.std.proofs.lemmas.Bool.{eqb-false}
 use Rattle.std.proofs.lemmas.List.{append-nil, length-append}
 use Rattle.hall_http.specs.Outgoing.{outgoing_text}
-use Rattle.hall_http.specs.Peer.{Calls, Traffic, IsLater, IsUntouched, over_after, reads_after, then_hung_up}
+use Rattle.hall_http.specs.Peer.{Calls, Traffic, IsLaterOn, IsUntouched, over_after, reads_after, then_hung_up}
 use Rattle.hall_http.specs.Turns.{Service, IsClient, IsClientAnswered, IsClientKept}
 use Rattle.hall_http.specs.Connection.{Exchange}
 use Rattle.hall_http.specs.Resting.{HasRested}
@@ -68,7 +68,7 @@ over_by false over told = told
 -- the same connection later on, of which this came in between, and which was sent this
 later_by : (t u : Traffic) (came went : List ℕ) → u.number ≡ t.number → u.came ≡ t.came ++ came
     → t.reads ≤ u.reads → u.went ≡ t.went ++ went → (t.over ≡ true → u.over ≡ true) → (t.broke ≡ true → u.broke ≡ true)
-    → (t.hung_up ≡ true → u.hung_up ≡ true) → (more : Calls) × (u.calls ≡ t.calls ++ more) → IsLater t u
+    → (t.hung_up ≡ true → u.hung_up ≡ true) → (more : Calls) × (u.calls ≡ t.calls ++ more) → IsLaterOn t u
 later_by t u came went number more_came reads more_went over broke hung_up calls = record {
   number = number;
   came = (came, more_came);
@@ -89,20 +89,20 @@ none_more : (xs ys : List ℕ) → ys ≡ xs → ys ≡ xs ++ []
 none_more xs ys same = same ∙ sym (append-nil xs)
 
 -- or the same connection now
-pub later_same : (t : Traffic) → IsLater t t
+pub later_same : (t : Traffic) → IsLaterOn t t
 later_same t =
     later_by t t [] [] refl (none_more _ _ refl) (omega arith) (none_more _ _ refl) (λ told. told) (λ told. told)
     (λ told. told) (no_calls t t refl)
 
-pub later_as : (t u : Traffic) → u ≡ t → IsLater t u
-later_as t u same = subst (IsLater t) (sym same) (later_same t)
+pub later_as : (t u : Traffic) → u ≡ t → IsLaterOn t u
+later_as t u same = subst (IsLaterOn t) (sym same) (later_same t)
 
 then_more : (xs ys zs : List ℕ) → (more : List ℕ) × (ys ≡ xs ++ more) → (more : List ℕ) × (zs ≡ ys ++ more)
     → (more : List ℕ) × (zs ≡ xs ++ more)
 then_more xs ys zs (one, first) (two, second) =
     (one ++ two, second ∙ ap (λ (s : List ℕ). s ++ two) first ∙ append_assoc xs one two)
 
-pub later_then : (t u v : Traffic) → IsLater t u → IsLater u v → IsLater t v
+pub later_then : (t u v : Traffic) → IsLaterOn t u → IsLaterOn u v → IsLaterOn t v
 later_then t u v first second = record {
   number = second.number ∙ first.number;
   came = then_more t.came u.came v.came first.came second.came;
@@ -121,20 +121,20 @@ later_then t u v first second = record {
 -- so it is after a read, a send, and once it was told that no more is sent
 pub later_read : (t u : Traffic) (piece : List ℕ) → u.number ≡ t.number → u.came ≡ t.came ++ piece → t.reads ≤ u.reads
     → u.went ≡ t.went → (t.over ≡ true → u.over ≡ true) → u.broke ≡ t.broke → u.hung_up ≡ t.hung_up
-    → (more : Calls) × (u.calls ≡ t.calls ++ more) → IsLater t u
+    → (more : Calls) × (u.calls ≡ t.calls ++ more) → IsLaterOn t u
 later_read t u piece number came reads went over broke hung_up calls =
     later_by t u piece [] number came reads (none_more _ _ went) over (λ told. broke ∙ told) (λ told. hung_up ∙ told)
     calls
 
 pub later_sent : (t u : Traffic) (piece : List ℕ) → u.number ≡ t.number → u.came ≡ t.came → u.reads ≡ t.reads
     → u.went ≡ t.went ++ piece → u.over ≡ t.over → (t.broke ≡ true → u.broke ≡ true) → u.hung_up ≡ t.hung_up
-    → (more : Calls) × (u.calls ≡ t.calls ++ more) → IsLater t u
+    → (more : Calls) × (u.calls ≡ t.calls ++ more) → IsLaterOn t u
 later_sent t u piece number came reads went over broke hung_up calls =
     later_by t u [] piece number (none_more _ _ came) (omega (arith, reads)) went (λ told. over ∙ told) broke
     (λ told. hung_up ∙ told) calls
 
-pub later_hung_up : (t u : Traffic) → u ≡ then_hung_up t → IsLater t u
-later_hung_up t u is = subst (IsLater t) (sym is) (later_by t (then_hung_up t) [] [] refl (none_more _ _ refl)
+pub later_hung_up : (t u : Traffic) → u ≡ then_hung_up t → IsLaterOn t u
+later_hung_up t u is = subst (IsLaterOn t) (sym is) (later_by t (then_hung_up t) [] [] refl (none_more _ _ refl)
     (omega arith) (none_more _ _ refl) (λ told. told) (λ told. told) (λ told. refl)
     (no_calls t (then_hung_up t) refl))
 

@@ -9,7 +9,7 @@ use Rattle.http_server.specs.declared.log.Log.{Log}
 use Rattle.hall_http.specs.Peer.{Traffic}
 use Rattle.hall_http.specs.Coming.{Nexts, Said, since}
 use Rattle.hall_http.specs.Crowd.{AreKept, AreStill}
-use Rattle.hall_http.specs.Crowd.{AnswersNoMore, ComesTo, HasAt, IsAt, IsFor, AllLeave, AreAsSaid, HasLeft}
+use Rattle.hall_http.specs.Crowd.{AnswersNoMore, ComesTo, HasAt, IsAt, IsFor, AllLeave, AreAsSaid, WentSo}
 use Rattle.hall_http.specs.Crowd.{IsFree, KeepsPlace, MayLose, Past, Receives, WasHandedOut, WasHere, WasNext, WasToGo}
 use Rattle.hall_http.specs.Crowd.{WasTurnedAway, number_past}
 use Rattle.hall_http.specs.Crowd.{MayTurnAway}
@@ -176,7 +176,7 @@ module _ {P : Type 0} (traffic : P → Traffic) where
   to_go_grown gone more grows steps departure.AtEnd place number was = absurd was
 
   pub left_grown : (gone more : List (Past P)) → Grows gone more → (steps : Nexts P) (left : List (Past P))
-      → All (HasLeft traffic gone steps) left → All (HasLeft traffic more steps) left
+      → All (WentSo traffic gone steps) left → All (WentSo traffic more steps) left
   left_grown gone more grows steps left each i d inside =
       let it = get_or left i d in
       to_go_grown gone more grows steps it.1.0 it.1.1 (number_past traffic it) (each i d inside)
@@ -226,7 +226,7 @@ module _ {P : Type 0} (traffic : P → Traffic) where
   to_go_more gone steps one departure.AtEnd place number was = absurd was
 
   left_more : (gone : List (Past P)) (steps : Nexts P) (one : Next P) (left : List (Past P))
-      → All (HasLeft traffic gone steps) left → All (HasLeft traffic gone (steps ++ one ∷ [])) left
+      → All (WentSo traffic gone steps) left → All (WentSo traffic gone (steps ++ one ∷ [])) left
   left_more gone steps one left each i d inside =
       let it = get_or left i d in
       to_go_more gone steps one it.1.0 it.1.1 (number_past traffic it) (each i d inside)
@@ -253,7 +253,7 @@ module _ {P : Type 0} (traffic : P → Traffic) where
           (for_grown s.gone.items u.gone.items grows steps place ((traffic l.peer).number)
           (for_one place ((traffic l.peer).number) was))
 
-      left_still : All (HasLeft traffic u.gone.items (steps ++ one ∷ [])) s.gone.items
+      left_still : All (WentSo traffic u.gone.items (steps ++ one ∷ [])) s.gone.items
       left_still =
           left_more u.gone.items steps one s.gone.items
           (left_grown s.gone.items u.gone.items grows steps s.gone.items said.gone)
@@ -261,12 +261,12 @@ module _ {P : Type 0} (traffic : P → Traffic) where
       left_lost : (went : Departure) (place : ℕ)
           → ((number : ℕ) → HasAt traffic s place number
           → WasToGo traffic u.gone.items (steps ++ one ∷ []) went place number)
-          → MayLose traffic went place s u → All (HasLeft traffic u.gone.items (steps ++ one ∷ [])) u.gone.items
+          → MayLose traffic went place s u → All (WentSo traffic u.gone.items (steps ++ one ∷ [])) u.gone.items
       left_lost went place to_go (inl same) =
-          subst (All (HasLeft traffic u.gone.items (steps ++ one ∷ []))) (sym same) left_still
+          subst (All (WentSo traffic u.gone.items (steps ++ one ∷ []))) (sym same) left_still
       left_lost went place to_go (inr (closed, has, more)) =
-          subst (All (HasLeft traffic u.gone.items (steps ++ one ∷ []))) (sym more)
-          (All-push (HasLeft traffic u.gone.items (steps ++ one ∷ [])) s.gone.items (closed, (went, place)) left_still
+          subst (All (WentSo traffic u.gone.items (steps ++ one ∷ []))) (sym more)
+          (All-push (WentSo traffic u.gone.items (steps ++ one ∷ [])) s.gone.items (closed, (went, place)) left_still
           (to_go ((traffic closed.peer).number) (has_was s place (traffic closed.peer) has)))
 
       next_here : (place number : ℕ) → HasAt traffic s place number
@@ -287,7 +287,7 @@ module _ {P : Type 0} (traffic : P → Traffic) where
         record {
           here = λ place l at. here_still grows one place l (has_was s place (traffic l.peer) (still place l at))
               (keeps place);
-          gone = subst (All (HasLeft traffic u.gone.items (steps ++ one ∷ []))) (sym same) (left_still grows one);
+          gone = subst (All (WentSo traffic u.gone.items (steps ++ one ∷ []))) (sym same) (left_still grows one);
         }
 
     -- the one at the place had its turn, and may be over
@@ -357,15 +357,15 @@ module _ {P : Type 0} (traffic : P → Traffic) where
           )
       was_taken closed (away.NoMemory refusal) more may = tt
 
-      left_comes : Receives place peer s u → All (HasLeft traffic u.gone.items (steps ++ came ∷ [])) u.gone.items
+      left_comes : Receives place peer s u → All (WentSo traffic u.gone.items (steps ++ came ∷ [])) u.gone.items
       left_comes (inl (free, same)) =
-          subst (All (HasLeft traffic u.gone.items (steps ++ came ∷ []))) (sym same)
+          subst (All (WentSo traffic u.gone.items (steps ++ came ∷ []))) (sym same)
           (left_still (grows_same s.gone.items u.gone.items same) came)
       left_comes (inr (closed, why, is, may, more)) =
           let one : Past P = (closed, (departure.TurnedAway why, place)) in
           let grows = grows_by s.gone.items (one ∷ []) u.gone.items more in
-          subst (All (HasLeft traffic u.gone.items (steps ++ came ∷ []))) (sym more)
-          (All-push (HasLeft traffic u.gone.items (steps ++ came ∷ [])) s.gone.items one (left_still grows came) (
+          subst (All (WentSo traffic u.gone.items (steps ++ came ∷ []))) (sym more)
+          (All-push (WentSo traffic u.gone.items (steps ++ came ∷ [])) s.gone.items one (left_still grows came) (
             steps,
             [],
             peer,

@@ -7,7 +7,8 @@ use Rattle.std.proofs.Math.Seq.{take-append_seam}
 use Rattle.std.proofs.lemmas.Grind.{flat_map-append}
 use Rattle.std.proofs.lemmas.List.{append-nil, append_cancel_left}
 use Rattle.std.proofs.lemmas.Map.Keys.{IsDistinct-head}
-use Rattle.hall_http.specs.Line.{IsLine, Motions, NobodyTwiceBefore, WereLines, came_by, came_in, gone_by, gone_in, has}
+use Rattle.hall_http.specs.Line.{IsLineSoFar, Motions, NobodyTwiceBefore, WereLines}
+use Rattle.hall_http.specs.Line.{came_by, came_in, gone_by, gone_in, has}
 use Rattle.hall_http.specs.declared.queue.Motion.TheVariants.{Called}
 use Rattle.hall_http.proofs.Lines.{came_then, gone_then, numbers}
 
@@ -45,11 +46,11 @@ among (one ∷ line) more (first ∷ between) after mine other none there is =
 
 -- the line after a first part of what was done
 line_at : (motions front rest : Motions) → WereLines motions → motions ≡ front ++ rest
-    → (line : List ℕ) × IsLine front line
+    → (line : List ℕ) × IsLineSoFar front line
 line_at motions front rest were is =
     let then = were (length front) in (
       then.0,
-      subst (λ (xs : Motions). IsLine xs then.0)
+      subst (λ (xs : Motions). IsLineSoFar xs then.0)
           (ap (λ xs. take (length front) xs) is ∙ take-append_seam front rest) then.1,
     )
 
@@ -61,16 +62,16 @@ gone_both : (front rest : Motions) → gone_in (front ++ rest) ≡ gone_in front
 gone_both front rest = flat_map-append (λ one. gone_by one.0 one.1) front rest
 
 -- once the first of a line was called, the others stand there
-behind_of : (front : Motions) (line behind : List ℕ) (other : ℕ) → IsLine front line
-    → IsLine (front ++ (other, Called) ∷ []) behind → line ≡ other ∷ behind
+behind_of : (front : Motions) (line behind : List ℕ) (other : ℕ) → IsLineSoFar front line
+    → IsLineSoFar (front ++ (other, Called) ∷ []) behind → line ≡ other ∷ behind
 behind_of front line behind other was is =
     append_cancel_left (gone_in front) line (other ∷ behind)
     (sym was.0 ∙ sym (came_then front other Called ∙ append-nil (came_in front)) ∙ is.0
     ∙ ap (λ xs. xs ++ behind) (gone_then front other Called) ∙ append_assoc (gone_in front) (other ∷ []) behind)
 
 -- and where it is called again, these and whoever came are those that went between, and it, and those behind it
-between_of : (first between : Motions) (behind after : List ℕ) (other : ℕ) → IsLine first behind
-    → IsLine ((first ++ between) ++ (other, Called) ∷ []) after
+between_of : (first between : Motions) (behind after : List ℕ) (other : ℕ) → IsLineSoFar first behind
+    → IsLineSoFar ((first ++ between) ++ (other, Called) ∷ []) after
     → behind ++ came_in between ≡ gone_in between ++ other ∷ after
 between_of first between behind after other was is =
     append_cancel_left (gone_in first) (behind ++ came_in between) (gone_in between ++ other ∷ after)
@@ -95,7 +96,7 @@ nobody_twice motions front between rest line mine other were is stood there apar
     let two = line_at motions ((first ++ between) ++ (other, Called) ∷ []) rest were is_second in
     let stands = behind_of front line one.0 other stood one.1 in
     let alone = once_in one.0 other (IsDistinct-head (λ a b. a == b) other one.0
-    (subst (λ xs. IsLine front xs) stands stood).1) in
+    (subst (λ xs. IsLineSoFar front xs) stands stood).1) in
     let in_it : has one.0 mine ≡ true = second_true (other == mine) (has one.0 mine)
     (numbers.symm other mine ∙ apart) (sym (ap (λ xs. has xs mine) stands) ∙ there) in
     among one.0 (came_in between) (gone_in between) two.0 mine other alone in_it

@@ -6,7 +6,7 @@ use Rattle.std.proofs.Common.{get_or}
 use Rattle.hall_http.specs.Limits.{most_connections}
 use Rattle.hall_http.specs.Held.{HoldsNoMore, IsShare, is_held}
 use Rattle.hall_http.specs.Answered.{IsUnavailable}
-use Rattle.hall_http.specs.Peer.{Traffic, IsLater, IsOver, IsUntouched}
+use Rattle.hall_http.specs.Peer.{Traffic, IsLaterOn, IsOver, IsUntouched}
 use Rattle.hall_http.specs.Progress.{TakesTurnAt}
 use Rattle.hall_http.specs.Request.{ReachesStore}
 use Rattle.hall_http.specs.Steps.{HasRequest, StandsRightly}
@@ -90,7 +90,7 @@ IsPast traffic turns one =
 
 -- each of the connections with these numbers is here or has gone, and none twice; and each request that was answered
 -- is of one of them
-pub record AreNumbered {P : Type 0} (traffic : P → Traffic) (few many : ℕ) (turns : List Turn) (s : Clients P) :
+pub record AreAccountedFor {P : Type 0} (traffic : P → Traffic) (few many : ℕ) (turns : List Turn) (s : Clients P) :
     Type 0 where
   pub order : few ≤ many
   pub known : All (λ turn. IsHandedOut few many turn.0) turns
@@ -108,7 +108,7 @@ pub record AreNumbered {P : Type 0} (traffic : P → Traffic) (few many : ℕ) (
 -- of those that are here each stands as its history says, and those that have gone were told so
 pub record AreKept {P : Type 0} (traffic : P → Traffic) (few many : ℕ) (turns : List Turn) (s : Clients P) :
     Type 0 where
-  pub numbered : AreNumbered traffic few many turns s
+  pub numbered : AreAccountedFor traffic few many turns s
   pub here : (place : ℕ) (k : Client P) → IsAt s place k → IsClient traffic (of (traffic k.peer).number turns) k
   pub gone : All (IsPast traffic turns) s.gone.items
 
@@ -122,7 +122,7 @@ HasAt {P} traffic s place number = (k : Client P) × IsAt s place k × ((traffic
 
 -- one that was at the place is this one, with this traffic later on
 abbrev pub WasAt : {P : Type 0} → (P → Traffic) → Clients P → ℕ → Traffic → Type 0
-WasAt {P} traffic s place t = (k : Client P) × IsAt s place k × IsLater (traffic k.peer) t
+WasAt {P} traffic s place t = (k : Client P) × IsAt s place k × IsLaterOn (traffic k.peer) t
 
 -- whoever is at a place was there before
 abbrev pub AreStill : {P : Type 0} → (P → Traffic) → Clients P → Clients P → Type 0
@@ -303,8 +303,8 @@ WasToGo traffic gone steps departure.LetGo place number = WasNext traffic gone s
 WasToGo traffic gone steps departure.AtEnd place number = ⊥
 
 -- so it is of one that has gone
-abbrev pub HasLeft : {P : Type 0} → (P → Traffic) → List (Past P) → Nexts P → Past P → Type 0
-HasLeft traffic gone steps one = WasToGo traffic gone steps one.1.0 one.1.1 (number_past traffic one)
+abbrev pub WentSo : {P : Type 0} → (P → Traffic) → List (Past P) → Nexts P → Past P → Type 0
+WentSo traffic gone steps one = WasToGo traffic gone steps one.1.0 one.1.1 (number_past traffic one)
 
 -- one has gone at the end, and kept its place until then
 abbrev pub WasLast : {P : Type 0} → (P → Traffic) → List (Past P) → Nexts P → Past P → Type 0
@@ -316,14 +316,14 @@ pub record HaveGone {P : Type 0} (traffic : P → Traffic) (steps : Nexts P) (go
   pub left : List (Past P)
   pub last : List (Past P)
   pub all : gone ≡ left ++ last
-  pub each : All (HasLeft traffic gone steps) left
+  pub each : All (WentSo traffic gone steps) left
   pub here : All (WasLast traffic gone steps) last
 
 -- each that is here keeps its place, and each that has gone did so by what the sockets said
 pub record AreAsSaid {P : Type 0} (traffic : P → Traffic) (steps : Nexts P) (s : Clients P) : Type 0 where
   pub here : (place : ℕ) (k : Client P) → IsAt s place k
       → IsFor traffic s.gone.items steps place (traffic k.peer).number
-  pub gone : All (HasLeft traffic s.gone.items steps) s.gone.items
+  pub gone : All (WentSo traffic s.gone.items steps) s.gone.items
 
 -- one went at the end that was at its place until then
 abbrev pub WasHere : {P : Type 0} → (P → Traffic) → Clients P → Past P → Type 0
@@ -428,7 +428,7 @@ NextMayWait may_wait Became turns number =
 abbrev pub WentLater : {P : Type 0} → (P → Traffic) → List (Past P) → Traffic → Type 0
 WentLater {P} traffic gone t =
     (front : List (Past P)) × (one : Past P) × (rest : List (Past P)) × (gone ≡ front ++ one ∷ rest)
-    × IsLater t (traffic_past traffic one)
+    × IsLaterOn t (traffic_past traffic one)
 
 -- those that had gone are the first of these, and this became of each that was here
 pub record HaveGoneOn {P : Type 0} (traffic : P → Traffic) (gone : List (Past P)) (Became : Traffic → Type 0)
@@ -444,7 +444,7 @@ HaveGoneSince traffic gone = HaveGoneOn traffic gone (WentLater traffic gone)
 -- one that is here or has gone is the one with this traffic, later on
 abbrev pub IsHereOrGone : {P : Type 0} → (P → Traffic) → Clients P → Traffic → Type 0
 IsHereOrGone {P} traffic u t =
-    ((place : ℕ) × (l : Client P) × IsAt u place l × IsLater t (traffic l.peer)) ⊎ WentLater traffic u.gone.items t
+    ((place : ℕ) × (l : Client P) × IsAt u place l × IsLaterOn t (traffic l.peer)) ⊎ WentLater traffic u.gone.items t
 
 -- those that had gone are the first that have gone of these, and each that was here is one of these, later on
 abbrev pub HaveBecome : {P : Type 0} → (P → Traffic) → Clients P → Clients P → Type 0

@@ -18,8 +18,8 @@ abbrev pub turned : {P : Type 0} → Nexts P → List ℕ
 turned nexts = flat_map turn_at nexts
 
 -- no place is among these twice
-abbrev pub AreDistinct : List ℕ → Type 0
-AreDistinct places = IsDistinct (λ one other. one == other) places
+abbrev pub AreDistinctPlaces : List ℕ → Type 0
+AreDistinctPlaces places = IsDistinct (λ one other. one == other) places
 
 -- of the turn after so many others it was heard that whoever was at the place stood so
 abbrev pub WasHeard : List Heard → ℕ → ℕ × Step → Type 0
@@ -46,12 +46,12 @@ abbrev pub NobodyTwice : {P : Type 0} → Nexts P → List Heard → Type 0
 NobodyTwice {P} nexts heard =
     (front rest : Nexts P) (one : Next P) (place count : ℕ) → nexts ≡ front ++ one ∷ rest
     → CanGoOn heard (turns_in front) one place → All (PassesBy place) (take count rest)
-    → AreDistinct (turned (take count rest))
+    → AreDistinctPlaces (turned (take count rest))
 
 -- Whoever is at the place stands in this line, and nobody is ahead who had a turn among these, or is twice there.
-abbrev pub Stands : {P : Type 0} → Nexts P → ℕ → List ℕ → Type 0
-Stands rest place waiting =
-    (ahead behind : List ℕ) × (waiting ≡ ahead ++ place ∷ behind) × AreDistinct (turned rest ++ ahead)
+abbrev pub StandsInLine : {P : Type 0} → Nexts P → ℕ → List ℕ → Type 0
+StandsInLine rest place waiting =
+    (ahead behind : List ℕ) × (waiting ≡ ahead ++ place ∷ behind) × AreDistinctPlaces (turned rest ++ ahead)
 
 -- Nobody had two turns while another waited for one; whoever can go on now waits in this line, behind none that had a
 -- turn since; and after a turn of which nothing was heard yet nothing was next.
@@ -59,6 +59,6 @@ pub record Owes {P : Type 0} (nexts : Nexts P) (heard : List Heard) (waiting : L
   pub fair : NobodyTwice nexts heard
   pub stands : (front rest : Nexts P) (one : Next P) (place : ℕ) → nexts ≡ front ++ one ∷ rest
       → CanGoOn heard (turns_in front) one place → All (PassesBy place) rest
-      → Stands rest place waiting
+      → StandsInLine rest place waiting
   pub unheard : (front rest : Nexts P) (place : ℕ) → nexts ≡ front ++ next.Turn place ∷ rest
       → length heard ≤ turns_in front → (rest ≡ []) × (place < most_connections)

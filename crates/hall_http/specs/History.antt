@@ -64,7 +64,7 @@ told_at end.BadHead xs = replies_of xs ++ refusal
 told_at _ xs = replies_of xs
 
 -- nothing waits to be sent, the connection is open, and a further request may come
-pub record IsFree (t : ConnectionHistory) : Type 0 where
+pub record IsOpenAndIdle (t : ConnectionHistory) : Type 0 where
   pub goes_on : MayGoOn t.exchanges
   pub more : t.ended ≡ false
   pub told : t.went ≡ replies_of t.exchanges
@@ -90,12 +90,12 @@ IsSending end.BadHead t k = IsRefusing t k
 IsSending _ t k = IsReplying t k
 
 -- how a connection stands
-abbrev pub Stands : State → ConnectionHistory → Connection → Type 0
-Stands state.Looking t k = IsFree t
-Stands state.Reading t k = IsFree t × IsUnfinished k.inbox × (t.pieces < most_reads)
-Stands (state.Writing None) t k = IsReplying t k × MayGoOn t.exchanges
-Stands (state.Writing (Some e)) t k = IsSending e t k × Ends e t k.inbox
-Stands (state.Ended e) t k = (t.went ≡ told_at e t.exchanges) × Ends e t k.inbox
+abbrev pub StandsSo : State → ConnectionHistory → Connection → Type 0
+StandsSo state.Looking t k = IsOpenAndIdle t
+StandsSo state.Reading t k = IsOpenAndIdle t × IsUnfinished k.inbox × (t.pieces < most_reads)
+StandsSo (state.Writing None) t k = IsReplying t k × MayGoOn t.exchanges
+StandsSo (state.Writing (Some e)) t k = IsSending e t k × Ends e t k.inbox
+StandsSo (state.Ended e) t k = (t.went ≡ told_at e t.exchanges) × Ends e t k.inbox
 
 -- the connection has this history
 pub record HasHistory (t : ConnectionHistory) (k : Connection) : Type 0 where
@@ -109,4 +109,4 @@ pub record HasHistory (t : ConnectionHistory) (k : Connection) : Type 0 where
   pub bounded : length k.inbox ≤ most_waiting
   pub below : IsUnfinishedBelow k.least k.inbox
   pub inside : k.sent ≤ length (outgoing_text k.reply)
-  pub stands : Stands k.state t k
+  pub stands : StandsSo k.state t k

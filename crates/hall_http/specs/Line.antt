@@ -41,12 +41,12 @@ has line place = list_any (λ one. one == place) line
 
 -- The first of those that came have gone, in the order in which they came, and the others stand in this line, each
 -- once.
-abbrev pub IsLine : Motions → List ℕ → Type 0
-IsLine motions line = (came_in motions ≡ gone_in motions ++ line) × IsDistinct (λ one other. one == other) line
+abbrev pub IsLineSoFar : Motions → List ℕ → Type 0
+IsLineSoFar motions line = (came_in motions ≡ gone_in motions ++ line) × IsDistinct (λ one other. one == other) line
 
 -- after each first part of these there was such a line
 abbrev pub WereLines : Motions → Type 0
-WereLines motions = (count : ℕ) → (line : List ℕ) × IsLine (take count motions) line
+WereLines motions = (count : ℕ) → (line : List ℕ) × IsLineSoFar (take count motions) line
 
 -- nobody is called twice while another stands in line: whoever stood there when the first one was called has gone
 -- before that one is called again
@@ -54,4 +54,4 @@ abbrev pub NobodyTwiceBefore : Type 0
 NobodyTwiceBefore =
     (motions front between rest : Motions) (line : List ℕ) (mine other : ℕ)
     → WereLines motions → motions ≡ front ++ (other, Called) ∷ between ++ (other, Called) ∷ rest
-    → IsLine front line → has line mine ≡ true → (mine == other) ≡ false → has (gone_in between) mine ≡ true
+    → IsLineSoFar front line → has line mine ≡ true → (mine == other) ≡ false → has (gone_in between) mine ≡ true

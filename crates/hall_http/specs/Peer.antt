@@ -51,7 +51,7 @@ then_hung_up t = record t { hung_up = true }
 
 -- So it is later on, the same connection: what came of it and what it was sent by then are first parts of what came and
 -- was sent in all, no read is taken back, and what was told once is told.
-pub record IsLater (t u : Traffic) : Type 0 where
+pub record IsLaterOn (t u : Traffic) : Type 0 where
   pub number : u.number ≡ t.number
   pub came : (more : List ℕ) × (u.came ≡ t.came ++ more)
   pub reads : t.reads ≤ u.reads

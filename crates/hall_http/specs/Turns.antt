@@ -8,7 +8,7 @@ use Rattle.hall_http.specs.Resting.{IsGroup, RestingGroups, RestingSession, stil
 use Rattle.hall_http.specs.Steps.{WaitsRightly, gated, gated_group}
 use Rattle.hall_http.specs.Head.{IsWholeRequest, IsUnfinished, HasNoWholeRequest, NeverHas}
 use Rattle.hall_http.specs.History.{ConnectionHistory, HasHistory, Ends, told_at}
-use Rattle.hall_http.specs.Peer.{Traffic, IsLater, IsOver}
+use Rattle.hall_http.specs.Peer.{Traffic, IsLaterOn, IsOver}
 use Rattle.hall_http.specs.declared.client.Client.{Client}
 use Rattle.hall_http.specs.declared.client.Step.{Step}
 use Rattle.hall_http.specs.declared.client.Step.TheVariants as step
@@ -105,7 +105,7 @@ pub record IsClient {P : Type 0} (traffic : P → Traffic) (xs : List Exchange) 
 
 -- whatever it was answered, it was answered no more, and it is the same connection, later on
 pub record IsClientKept {P : Type 0} (traffic : P → Traffic) (k l : Client P) : Type 0 where
-  pub later : IsLater (traffic k.peer) (traffic l.peer)
+  pub later : IsLaterOn (traffic k.peer) (traffic l.peer)
   pub kept : (xs : List Exchange) → IsClient traffic xs k → IsClient traffic xs l
 
 -- a connection is over after its turn only where no more goes to its peer; or where that was told that no more is sent,
@@ -155,7 +155,7 @@ IsOneAt moment more = (more ≡ []) ⊎ ((x : Exchange) × (more ≡ x ∷ []) �
 -- a request of it was answered at the moment, or none was, and it is the same connection, later on
 pub record IsClientAnswered {H P : Type 0} (service : Service H) (traffic : P → Traffic) (moment : Option ℕ)
     (before : H) (k : Client P) (after : H) (l : Client P) : Type 0 where
-  pub later : IsLater (traffic k.peer) (traffic l.peer)
+  pub later : IsLaterOn (traffic k.peer) (traffic l.peer)
   pub answered : (xs : List Exchange) → IsClient traffic xs k
       → (more : List Exchange) × IsOneAt moment more
       × RestingSession service.answers service.rests before more after × IsClient traffic (xs ++ more) l

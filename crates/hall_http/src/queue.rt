@@ -3,7 +3,7 @@ ghost use Rattle.std.specs.Prelude.{◌≡◌, ◌≢◌, ◌≤◌, ◌<◌, �
 ghost use Rattle.std.proofs.Props.{props};
 ghost use Rattle.std.specs.VecDeque.{deque_capacity};
 ghost use Rattle.hall_http.specs.Limits.{most_connections};
-ghost use Rattle.hall_http.specs.Line.{IsLine, WereLines, called_by, has};
+ghost use Rattle.hall_http.specs.Line.{IsLineSoFar, WereLines, called_by, has};
 ghost use Rattle.hall_http.specs.declared.queue.Motion.TheVariants as Motion;
 
 use crate::clients::MOST_CLIENTS;
@@ -28,7 +28,7 @@ pub(crate) struct Queue {
     waiting: VecDeque<usize>,
     /// All that they did. Only proofs read it.
     motions: Log<usize, Motion>,
-    ghost line: { IsLine motions.items waiting.items } by { Prim.hlevel props },
+    ghost line: { IsLineSoFar motions.items waiting.items } by { Prim.hlevel props },
     ghost always: { ∥ WereLines motions.items ∥₁ },
     ghost within: { (place : ℕ) → has waiting.items place ≡ true → place < most_connections },
     ghost room: { most_connections ≤ deque_capacity waiting },

@@ -10,7 +10,7 @@ ghost use Rattle.hall_http.specs.Reply.{rule_protest_data, publish_data};
 ghost use Rattle.hall_http.specs.Reply.{read_round_data, submit_data, denied_data};
 ghost use Rattle.hall_http.specs.Reply.{reply_data, reply_status, denied_status, field_text};
 ghost use Rattle.hall_http.specs.Reply.{form_data, field_data, place_data, puzzle_fault_data, fault_data, fault_status};
-ghost use Rattle.hall_desk.specs.Telling.{Adds, tokens_of};
+ghost use Rattle.hall_desk.specs.Telling.{AddsTokens, tokens_of};
 ghost use Rattle.hall_http.specs.Reply.{head_bytes, text_behind, wire_bytes, IsCounted, IsJson, BytesOf};
 ghost use Rattle.hall_http.specs.Reply.{FaultBytesOf};
 
@@ -215,7 +215,7 @@ fn reply_room(reply: &Reply) -> usize {
 /// Tells a reply.
 fn tell_reply(alloc: Global, told: &mut Telling, reply: &Reply) -> Result<(), AllocError>
     requires { IsJson reply.now }
-    ensures { OnOk result (Adds told.old told.new (tokens_of (reply_data reply.now))) }
+    ensures { OnOk result (AddsTokens told.old told.new (tokens_of (reply_data reply.now))) }
 {
     match reply {
         Reply::Denied(rule) => tell_denied(told, *rule),
@@ -241,7 +241,7 @@ fn tell_reply(alloc: Global, told: &mut Telling, reply: &Reply) -> Result<(), Al
 }
 
 fn tell_denied(told: &mut Telling, rule: u8) -> Result<(), AllocError>
-    ensures { OnOk result (Adds told.old told.new (tokens_of (denied_data rule))) }
+    ensures { OnOk result (AddsTokens told.old told.new (tokens_of (denied_data rule))) }
 {
     told.open()?;
     told.number_at("denied", u64::from(rule))?;
@@ -249,7 +249,7 @@ fn tell_denied(told: &mut Telling, rule: u8) -> Result<(), AllocError>
 }
 
 fn tell_import(told: &mut Telling, added: u64) -> Result<(), AllocError>
-    ensures { OnOk result (Adds told.old told.new (tokens_of (import_data added))) }
+    ensures { OnOk result (AddsTokens told.old told.new (tokens_of (import_data added))) }
 {
     told.open()?;
     told.number_at("added", added)?;
@@ -261,7 +261,7 @@ fn tell_put_puzzle(
     state: StateName,
     text: &PuzzleText,
 ) -> Result<(), AllocError>
-    ensures { OnOk result (Adds told.old told.new (tokens_of (put_puzzle_data state text.now))) }
+    ensures { OnOk result (AddsTokens told.old told.new (tokens_of (put_puzzle_data state text.now))) }
 {
     told.open()?;
     state_at(told, state)?;
@@ -275,7 +275,7 @@ fn tell_read_puzzle(
     state: StateName,
     text: &PuzzleText,
 ) -> Result<(), AllocError>
-    ensures { OnOk result (Adds told.old told.new (tokens_of (read_puzzle_data key.now state text.now))) }
+    ensures { OnOk result (AddsTokens told.old told.new (tokens_of (read_puzzle_data key.now state text.now))) }
 {
     told.open()?;
     told.checked_at("author", &key.author)?;
@@ -290,7 +290,7 @@ fn tell_list_puzzles(
     told: &mut Telling,
     lines: &Rows<PuzzleLine>,
 ) -> Result<(), AllocError>
-    ensures { OnOk result (Adds told.old told.new (tokens_of (list_puzzles_data lines.now))) }
+    ensures { OnOk result (AddsTokens told.old told.new (tokens_of (list_puzzles_data lines.now))) }
 {
     told.open()?;
     rows_at(alloc, told, "puzzles", lines)?;
@@ -298,7 +298,7 @@ fn tell_list_puzzles(
 }
 
 fn tell_certify(told: &mut Telling, state: StateName) -> Result<(), AllocError>
-    ensures { OnOk result (Adds told.old told.new (tokens_of (certify_data state))) }
+    ensures { OnOk result (AddsTokens told.old told.new (tokens_of (certify_data state))) }
 {
     told.open()?;
     state_at(told, state)?;
@@ -306,7 +306,7 @@ fn tell_certify(told: &mut Telling, state: StateName) -> Result<(), AllocError>
 }
 
 fn tell_put_round(told: &mut Telling, round: &RoundId) -> Result<(), AllocError>
-    ensures { OnOk result (Adds told.old told.new (tokens_of (put_round_data round.now))) }
+    ensures { OnOk result (AddsTokens told.old told.new (tokens_of (put_round_data round.now))) }
 {
     told.open()?;
     told.checked_at("round", round)?;
@@ -314,7 +314,7 @@ fn tell_put_round(told: &mut Telling, round: &RoundId) -> Result<(), AllocError>
 }
 
 fn tell_release(told: &mut Telling, round: &RoundId) -> Result<(), AllocError>
-    ensures { OnOk result (Adds told.old told.new (tokens_of (release_data round.now))) }
+    ensures { OnOk result (AddsTokens told.old told.new (tokens_of (release_data round.now))) }
 {
     told.open()?;
     told.checked_at("released", round)?;
@@ -326,7 +326,7 @@ fn tell_list_rounds(
     told: &mut Telling,
     lines: &Rows<RoundLine>,
 ) -> Result<(), AllocError>
-    ensures { OnOk result (Adds told.old told.new (tokens_of (list_rounds_data lines.now))) }
+    ensures { OnOk result (AddsTokens told.old told.new (tokens_of (list_rounds_data lines.now))) }
 {
     told.open()?;
     rows_at(alloc, told, "rounds", lines)?;
@@ -334,7 +334,7 @@ fn tell_list_rounds(
 }
 
 fn tell_read_round(alloc: Global, told: &mut Telling, round: &ShownRound) -> Result<(), AllocError>
-    ensures { OnOk result (Adds told.old told.new (tokens_of (read_round_data round.now))) }
+    ensures { OnOk result (AddsTokens told.old told.new (tokens_of (read_round_data round.now))) }
 {
     told.open()?;
     told.within_at("bonus", round.bonus)?;
@@ -355,7 +355,7 @@ fn tell_submit(
     n: AnswerNumber,
     verdict: Option<Broken>,
 ) -> Result<(), AllocError>
-    ensures { OnOk result (Adds told.old told.new (tokens_of (submit_data n verdict))) }
+    ensures { OnOk result (AddsTokens told.old told.new (tokens_of (submit_data n verdict))) }
 {
     told.open()?;
     told.within_at("received", n)?;
@@ -367,7 +367,7 @@ fn tell_solutions(
     told: &mut Telling,
     texts: &Rows<AnswerText>,
 ) -> Result<(), AllocError>
-    ensures { OnOk result (Adds told.old told.new (tokens_of (solutions_data texts.now))) }
+    ensures { OnOk result (AddsTokens told.old told.new (tokens_of (solutions_data texts.now))) }
 {
     told.open()?;
     rows_at(alloc, told, "solutions", texts)?;
@@ -375,7 +375,7 @@ fn tell_solutions(
 }
 
 fn tell_protest(told: &mut Telling, token: &Token) -> Result<(), AllocError>
-    ensures { OnOk result (Adds told.old told.new (tokens_of (protest_data token.now))) }
+    ensures { OnOk result (AddsTokens told.old told.new (tokens_of (protest_data token.now))) }
 {
     told.open()?;
     told.checked_at("protest", token)?;
@@ -387,7 +387,7 @@ fn tell_protests(
     told: &mut Telling,
     lines: &Rows<ProtestLine>,
 ) -> Result<(), AllocError>
-    ensures { OnOk result (Adds told.old told.new (tokens_of (protests_data lines.now))) }
+    ensures { OnOk result (AddsTokens told.old told.new (tokens_of (protests_data lines.now))) }
 {
     told.open()?;
     rows_at(alloc, told, "protests", lines)?;
@@ -395,7 +395,7 @@ fn tell_protests(
 }
 
 fn tell_rule_protest(told: &mut Telling, ruling: Ruling) -> Result<(), AllocError>
-    ensures { OnOk result (Adds told.old told.new (tokens_of (rule_protest_data ruling))) }
+    ensures { OnOk result (AddsTokens told.old told.new (tokens_of (rule_protest_data ruling))) }
 {
     let ruling = Some(ruling);
     told.open()?;
@@ -405,7 +405,7 @@ fn tell_rule_protest(told: &mut Telling, ruling: Ruling) -> Result<(), AllocErro
 }
 
 fn tell_publish(told: &mut Telling, round: &RoundId) -> Result<(), AllocError>
-    ensures { OnOk result (Adds told.old told.new (tokens_of (publish_data round.now))) }
+    ensures { OnOk result (AddsTokens told.old told.new (tokens_of (publish_data round.now))) }
 {
     told.open()?;
     told.checked_at("published", round)?;
@@ -436,7 +436,7 @@ fn field_text(field: Field) -> &'static str
 }
 
 fn tell_form(told: &mut Telling, form: &str) -> Result<(), AllocError>
-    ensures { OnOk result (Adds told.old told.new (tokens_of (form_data form.now))) }
+    ensures { OnOk result (AddsTokens told.old told.new (tokens_of (form_data form.now))) }
 {
     told.open()?;
     told.text_at("form", form)?;
@@ -444,7 +444,7 @@ fn tell_form(told: &mut Telling, form: &str) -> Result<(), AllocError>
 }
 
 fn tell_field(told: &mut Telling, field: &str, form: &str) -> Result<(), AllocError>
-    ensures { OnOk result (Adds told.old told.new (tokens_of (field_data field.now form.now))) }
+    ensures { OnOk result (AddsTokens told.old told.new (tokens_of (field_data field.now form.now))) }
 {
     told.open()?;
     told.text_at("field", field)?;
@@ -453,7 +453,7 @@ fn tell_field(told: &mut Telling, field: &str, form: &str) -> Result<(), AllocEr
 }
 
 fn tell_place(told: &mut Telling, form: &str, place: usize) -> Result<(), AllocError>
-    ensures { OnOk result (Adds told.old told.new (tokens_of (place_data form.now place))) }
+    ensures { OnOk result (AddsTokens told.old told.new (tokens_of (place_data form.now place))) }
 {
     told.open()?;
     told.text_at("form", form)?;
@@ -463,7 +463,7 @@ fn tell_place(told: &mut Telling, form: &str, place: usize) -> Result<(), AllocE
 
 /// Tells the reply to a text that is no puzzle.
 fn tell_puzzle_fault(told: &mut Telling, fault: PuzzleFault) -> Result<(), AllocError>
-    ensures { OnOk result (Adds told.old told.new (tokens_of (puzzle_fault_data fault))) }
+    ensures { OnOk result (AddsTokens told.old told.new (tokens_of (puzzle_fault_data fault))) }
 {
     match fault {
         PuzzleFault::Kind => tell_form(told, "E2"),
@@ -478,7 +478,7 @@ fn tell_puzzle_fault(told: &mut Telling, fault: PuzzleFault) -> Result<(), Alloc
 
 /// Tells the reply to bytes that are no entry list or round sheet.
 fn tell_sheet_fault(told: &mut Telling, refusal: Refusal) -> Result<(), AllocError>
-    ensures { OnOk result (Adds told.old told.new (tokens_of (sheet_fault_data refusal))) }
+    ensures { OnOk result (AddsTokens told.old told.new (tokens_of (sheet_fault_data refusal))) }
 {
     match refusal {
         Refusal::Syntax => tell_form(told, "F1"),
@@ -492,7 +492,7 @@ fn tell_sheet_fault(told: &mut Telling, refusal: Refusal) -> Result<(), AllocErr
 
 /// Tells the reply to bytes that are no request.
 fn tell_fault(told: &mut Telling, fault: FormFault) -> Result<(), AllocError>
-    ensures { OnOk result (Adds told.old told.new (tokens_of (fault_data fault))) }
+    ensures { OnOk result (AddsTokens told.old told.new (tokens_of (fault_data fault))) }
 {
     match fault {
         FormFault::Syntax => tell_form(told, "F1"),

@@ -7,7 +7,7 @@ ghost use Rattle.serde_json.specs.View.{items_of};
 ghost use Rattle.serde_json.specs.Written.{number_text};
 ghost use Rattle.hall_policy.specs.World.{ruling_points};
 ghost use Rattle.hall_http.specs.Reply.{state_text, mode_text, ruling_text};
-ghost use Rattle.hall_desk.specs.Telling.{Adds, tokens_of};
+ghost use Rattle.hall_desk.specs.Telling.{AddsTokens, tokens_of};
 
 use hall_desk::{ProtestLine, PuzzleLine, RoundLine, Rows, ShownPuzzle, StateName, Telling};
 use hall_policy::{AnswerText, Mode, Ruling, ruling_points};
@@ -17,14 +17,14 @@ use std::alloc::{AllocError, Global};
 pub(crate) trait Row {
     ghost use Rattle.std.specs.Prelude.{OnOk};
     ghost use Rattle.serde_json.specs.Data.{Data};
-    ghost use Rattle.hall_desk.specs.Telling.{Adds, tokens_of};
+    ghost use Rattle.hall_desk.specs.Telling.{AddsTokens, tokens_of};
 
     // What is told of it.
     ghost data_of: { Self → Data };
 
     /// Tells it.
     fn tell(&self, alloc: Global, told: &mut Telling) -> Result<(), AllocError>
-        ensures { OnOk result (Adds told.old told.new (tokens_of (data_of self.now))) };
+        ensures { OnOk result (AddsTokens told.old told.new (tokens_of (data_of self.now))) };
 
     /// About how many bytes it takes. No clause speaks of it.
     fn room(&self) -> usize;
@@ -32,7 +32,7 @@ pub(crate) trait Row {
 
 /// Tells the rows in their order.
 fn tell_rows<R: Row>(alloc: Global, told: &mut Telling, rows: &[R]) -> Result<(), AllocError>
-    ensures { OnOk result (Adds told.old told.new (tokens_of (array (items_of (map R.data_of rows.now))))) }
+    ensures { OnOk result (AddsTokens told.old told.new (tokens_of (array (items_of (map R.data_of rows.now))))) }
 {
     told.open_list()?;
     for row in rows {
@@ -49,7 +49,7 @@ pub(crate) fn rows_at<R: Row>(
     rows: &Rows<R>,
 ) -> Result<(), AllocError>
     ensures { OnOk result
-        (Adds told.old told.new (key name.now ∷ tokens_of (array (items_of (map R.data_of rows.now))))) }
+        (AddsTokens told.old told.new (key name.now ∷ tokens_of (array (items_of (map R.data_of rows.now))))) }
 {
     told.name(name)?;
     tell_rows(alloc, told, rows.as_slice())
@@ -79,7 +79,7 @@ fn state_text(state: StateName) -> &'static str
 
 /// The member that is a puzzle's state.
 pub(crate) fn state_at(told: &mut Telling, state: StateName) -> Result<(), AllocError>
-    ensures { OnOk result (Adds told.old told.new (key (codes "state") ∷ string (state_text state) ∷ [])) }
+    ensures { OnOk result (AddsTokens told.old told.new (key (codes "state") ∷ string (state_text state) ∷ [])) }
 {
     told.text_at("state", state_text(state))
 }
@@ -96,7 +96,7 @@ fn mode_text(mode: Mode) -> &'static str
 
 /// The member that is a round's mode.
 pub(crate) fn mode_at(told: &mut Telling, mode: Mode) -> Result<(), AllocError>
-    ensures { OnOk result (Adds told.old told.new (key (codes "mode") ∷ string (mode_text mode) ∷ [])) }
+    ensures { OnOk result (AddsTokens told.old told.new (key (codes "mode") ∷ string (mode_text mode) ∷ [])) }
 {
     told.text_at("mode", mode_text(mode))
 }
@@ -118,14 +118,14 @@ pub(crate) fn ruling_at(
     name: &str,
     ruling: &Option<Ruling>,
 ) -> Result<(), AllocError>
-    ensures { OnOk result (Adds told.old told.new (key name.now ∷ string (ruling_text ruling.now) ∷ [])) }
+    ensures { OnOk result (AddsTokens told.old told.new (key name.now ∷ string (ruling_text ruling.now) ∷ [])) }
 {
     told.text_at(name, ruling_text(ruling))
 }
 
 /// The member that is a ruling's points.
 pub(crate) fn points_at(told: &mut Telling, ruling: &Option<Ruling>) -> Result<(), AllocError>
-    ensures { OnOk result (Adds told.old told.new
+    ensures { OnOk result (AddsTokens told.old told.new
         (key (codes "points") ∷ number (number_text (of_integer (ruling_points ruling.now))) ∷ [])) }
 {
     told.integer_at("points", i64::from(ruling_points(ruling)))

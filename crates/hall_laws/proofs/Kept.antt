@@ -11,7 +11,7 @@ use Rattle.hall_http.specs.Answered.{IsUnavailable}
 use Rattle.hall_http.specs.Connection.{Exchange, of_groups}
 use Rattle.hall_http.specs.Crowd.{IsPast, number_past, traffic_past}
 use Rattle.hall_http.specs.Groups.{IsLeftByGroups}
-use Rattle.hall_http.specs.Peer.{IsLater, Traffic}
+use Rattle.hall_http.specs.Peer.{IsLaterOn, Traffic}
 use Rattle.hall_http.specs.Serving.{AnswersAt}
 use Rattle.hall_http.specs.Turns.{IsConnectionTold, Turn, exchanges_of, of}
 use Rattle.hall_http.proofs.Crowds.{client_told}
@@ -76,7 +76,7 @@ module _ {H P : Type 0} (content : H → Content) (traffic : P → Traffic) wher
       (All-contains (IsPast traffic serving.served.turns) serving.gone one serving.served.told.told there).0)
 
   -- what is kept of a connection later on is kept of it
-  kept_earlier : (world left : World) (turns : List Turn) (t u : Traffic) → IsLater t u
+  kept_earlier : (world left : World) (turns : List Turn) (t u : Traffic) → IsLaterOn t u
       → EachByteIsKept world turns u left → EachByteIsKept world turns t left
   kept_earlier world left turns t u later all sent byte more part =
       let longer : u.went ≡ sent ++ byte ∷ (more ++ later.went.0) =

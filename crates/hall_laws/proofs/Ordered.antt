@@ -7,7 +7,7 @@ use Rattle.std.proofs.lemmas.List.Elements.{All-contains}
 use Rattle.hall_http.specs.Connection.{Exchange, requests_of}
 use Rattle.hall_store.specs.Store.{Content}
 use Rattle.hall_http.specs.Crowd.{IsHandedOut, IsPast}
-use Rattle.hall_http.specs.Peer.{IsLater, Traffic}
+use Rattle.hall_http.specs.Peer.{IsLaterOn, Traffic}
 use Rattle.hall_http.specs.Turns.{IsConnectionTold, Turn, of}
 use Rattle.hall_http.proofs.Crowds.{client_told}
 use Rattle.hall_http.proofs.Numbers.{of_append}
@@ -31,7 +31,7 @@ as_many xs before y rest t told is =
 
 -- a request that is still to come is one of those that are answered later
 comes_later : (turns later : List Turn) (v u : Traffic) (y : Exchange) → IsConnectionTold (of v.number turns) v
-    → IsLater v u → IsStillToCome (turns ++ later) u y → Has (of u.number later) y
+    → IsLaterOn v u → IsStillToCome (turns ++ later) u y → Has (of u.number later) y
 comes_later turns later v u y told more still =
     elim (in_either (of u.number turns) (of u.number later) still.before y still.after
     (sym (of_append u.number turns later) ∙ still.among)) [

@@ -5,7 +5,7 @@ use Rattle.hall_http.specs.Coming.{Heard, Nexts, Said}
 use Rattle.hall_http.specs.Connection.{Exchange, requests_of}
 use Rattle.hall_http.specs.Crowd.{HaveGoneSince, HaveHeard, IsHereOrGone, IsToldRightly, Past}
 use Rattle.hall_http.specs.Crowd.{WaitsForWorkAfter, WasAt, traffic_past}
-use Rattle.hall_http.specs.Peer.{IsLater, Traffic}
+use Rattle.hall_http.specs.Peer.{IsLaterOn, Traffic}
 use Rattle.hall_http.specs.Turns.{Turn, of}
 use Rattle.hall_http.specs.declared.client.Step.{Step}
 use Rattle.hall_laws.specs.Sent.{IsByteOfReply}
@@ -53,7 +53,7 @@ abbrev pub HadNoMoreCome : {H P : Type 0} {content : H → Content} {traffic : P
     → IsHeardAt content traffic over few all told → Traffic → Type 0
 HadNoMoreCome {H} {P} {content} {traffic} at u =
     ((place : ℕ) × WasAt traffic at.rightly.clients place u)
-    ⊎ (((one : Past P) × Contains at.rightly.clients.gone.items one × IsLater (traffic_past traffic one) u)
+    ⊎ (((one : Past P) × Contains at.rightly.clients.gone.items one × IsLaterOn (traffic_past traffic one) u)
     ⊎ (at.rightly.many ≤ u.number))
 
 -- Where at a turn of which the sockets heard a byte of the reply to one request had been sent, and of the connection of

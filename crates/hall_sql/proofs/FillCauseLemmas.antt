@@ -7,7 +7,7 @@ use Rattle.hall_policy.specs.Sink.{HasTaken}
 use Rattle.hall_policy.specs.declared.record.PuzzleRow.{PuzzleRow}
 use Rattle.hall_sql.specs.Cause.{IsStoreCause}
 use Rattle.hall_sql.specs.Columns.{puzzle_params}
-use Rattle.hall_sql.specs.FillCause.{IsRefusedAfter, RefusesToAddPuzzle}
+use Rattle.hall_sql.specs.FillCause.{IsRefusedThere, RefusesToAddPuzzle}
 use Rattle.hall_sql.specs.Inside.{LeadsUncommitted, MakesInside}
 use Rattle.hall_sql.specs.Standing.{LeadsConnection}
 use Rattle.hall_sql.specs.WriteCause.{IsUnderWay, RunFails}
@@ -31,7 +31,7 @@ pub by_later : {X B : Type 0} (Adds : Database → X → Database → Type 0) (R
     → IsUnderWay a → LeadsUncommitted a b → HasCleanDisk b → MakesInside (λ x y. HasTaken Adds x records y) a b
     → LeadsConnection b c
     → (IsUnderWay b → IsStoreCause b c ⊎ Refused b.now) → IsStoreCause a c
-    ⊎ (B ⊎ IsRefusedAfter Adds Refused records a.now)
+    ⊎ (B ⊎ IsRefusedThere Adds Refused records a.now)
 by_later Adds Refused records a b c goes carries clean did after why =
     let on = goes_on a b goes carries.lasts did.steps in
     elim (why on) [

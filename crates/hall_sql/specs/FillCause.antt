@@ -75,7 +75,7 @@ pub record IsNextRefused {X : Type 0} (Adds : Database → X → Database → Ty
   pub refused : Refuses one mid
 
 -- the records are added, and what follows them is refused there
-pub record IsRefusedAfter {X : Type 0} (Adds : Database → X → Database → Type 0) (Refused : Database → Type 0)
+pub record IsRefusedThere {X : Type 0} (Adds : Database → X → Database → Type 0) (Refused : Database → Type 0)
     (records : List X) (old : Database) : Type 0 where
   pub mid : Database
   pub hall : IsHallData mid
@@ -90,32 +90,32 @@ ProtestsAreRefused rows = IsNextRefused AddsProtest RefusesToAddProtest rows.pro
 abbrev pub AnswersAreRefused : Whole → Database → Type 0
 AnswersAreRefused rows db =
     IsNextRefused AddsAnswer RefusesToAddAnswer rows.answers.items db
-    ⊎ IsRefusedAfter AddsAnswer (ProtestsAreRefused rows) rows.answers.items db
+    ⊎ IsRefusedThere AddsAnswer (ProtestsAreRefused rows) rows.answers.items db
 
 -- an entry of a list, or what follows all of them
 abbrev pub PlacesAreRefused : Whole → Database → Type 0
 PlacesAreRefused rows db =
     IsNextRefused AddsPlace RefusesToAddPlace rows.places.items db
-    ⊎ IsRefusedAfter AddsPlace (AnswersAreRefused rows) rows.places.items db
+    ⊎ IsRefusedThere AddsPlace (AnswersAreRefused rows) rows.places.items db
 
 -- a round's head, or what follows all of them
 abbrev pub HeadsAreRefused : Whole → Database → Type 0
 HeadsAreRefused rows db =
     IsNextRefused AddsHead RefusesToAddHead rows.heads.items db
-    ⊎ IsRefusedAfter AddsHead (PlacesAreRefused rows) rows.heads.items db
+    ⊎ IsRefusedThere AddsHead (PlacesAreRefused rows) rows.heads.items db
 
 -- a puzzle, or what follows all of them
 abbrev pub PuzzlesAreRefused : Whole → Database → Type 0
 PuzzlesAreRefused rows db =
     IsNextRefused AddsPuzzle RefusesToAddPuzzle rows.puzzles.items db
-    ⊎ IsRefusedAfter AddsPuzzle (HeadsAreRefused rows) rows.puzzles.items db
+    ⊎ IsRefusedThere AddsPuzzle (HeadsAreRefused rows) rows.puzzles.items db
 
 -- The statement that adds one of the rows is refused over the tables that those before it have come to: by a rule of
 -- the tables, for want of a rowid, or as too large a row.
 abbrev pub RowsAreRefused : Whole → Database → Type 0
 RowsAreRefused rows db =
     IsNextRefused PutsPerson RefusesToAddPerson rows.people.items db
-    ⊎ IsRefusedAfter PutsPerson (PuzzlesAreRefused rows) rows.people.items db
+    ⊎ IsRefusedThere PutsPerson (PuzzlesAreRefused rows) rows.people.items db
 
 -- why empty tables aren't filled: the cause lies in the store, or one of the rows is refused
 abbrev pub FillFails : Whole → State → State → Type 0

@@ -8,6 +8,7 @@ use Rattle.std.specs.declared.io.ErrorKind.TheVariants.{StorageFull, QuotaExceed
 use Rattle.sqlite_disk.specs.declared.Disk.{Ghosts}
 use Rattle.sqlite_disk.specs.Disk.{Cut, Holds, Only, Torn}
 
+-- the error is of one of these kinds
 abbrev pub is_full_kind : ErrorKind → Bool
 is_full_kind StorageFull = true
 is_full_kind QuotaExceeded = true
@@ -32,7 +33,7 @@ module _ {D : Type 0} (g : Ghosts D) (was_lost is_lost : Bool) (old new : D) whe
     pub same : g.seen new ≡ g.seen old
 
   -- Bytes that are told are those of a file that isn't lost.
-  pub record Reads {T : Type 0} (at : ℕ) (bytes : List ℕ) (result : Result T Error) : Type 0 where
+  pub record ReadsBytes {T : Type 0} (at : ℕ) (bytes : List ℕ) (result : Result T Error) : Type 0 where
     pub stays : StaysLost
     pub told : OnOk result ((was_lost ≡ false) × (IsTrue (g.is_clean new) → Holds (g.seen old) at bytes))
     pub same : g.seen new ≡ g.seen old

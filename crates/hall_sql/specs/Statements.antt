@@ -23,6 +23,7 @@ equals place parameter = op2 (Compare Eq Binary) (col 1 place) (col 0 parameter)
 abbrev pub above : ℕ → ℕ → Term
 above place parameter = op2 (Compare Gt Binary) (col 1 place) (col 0 parameter)
 
+-- the column is not above the parameter
 abbrev pub up_to : ℕ → ℕ → Term
 up_to place parameter = op2 (Compare Le Binary) (col 1 place) (col 0 parameter)
 

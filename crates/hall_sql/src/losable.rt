@@ -8,7 +8,7 @@ ghost use Rattle.std.specs.Prelude.{MatchResult};
 ghost use Rattle.sqlite_disk.specs.Events.{cut, flushed, measured, read, read_under, settled, written};
 ghost use Rattle.sqlite_disk.specs.Refusal.{as_number, finds_no_room, is_no_room};
 ghost use Rattle.hall_sql.specs.FileCalls.{history_of};
-ghost use Rattle.hall_sql.specs.Losable.{Cuts, Measures, Reads, Syncs, Writes, is_want_of_room};
+ghost use Rattle.hall_sql.specs.Losable.{Cuts, Measures, ReadsBytes, Syncs, Writes, is_want_of_room};
 
 use crate::file_calls::{FileCall, FileCalls};
 use sqlite_disk::{Calls, Disk, is_no_room};
@@ -75,7 +75,7 @@ fn fetch<D: Disk>(disk: &mut D, is_lost: bool, at: usize, buf: &mut [u8]) -> io:
     requires some { 0 < length buf.old }
     ensures usable { is_lost ≡ false → IsTrue (D.Disk.is_usable disk.new) }
     ensures count { IfOk result (λ n. (n ≡ length buf.new) × (at < 2 ^ 63)) }
-    ensures reads { Reads D.Disk is_lost is_lost disk.old disk.new at buf.new result }
+    ensures reads { ReadsBytes D.Disk is_lost is_lost disk.old disk.new at buf.new result }
 {
     if is_lost || at > LAST {
         return Err(refusal());
@@ -159,7 +159,8 @@ impl<D: Disk> Calls for Losable<D> {
             (λ n. history_of self.new.calls
             ≡ read at (length buf.old) true (take n buf.new) ∷ history_of self.old.calls)
             (λ _. history_of self.new.calls ≡ read at (length buf.old) false [] ∷ history_of self.old.calls) }
-        ensures reads { Reads D.Disk self.old.is_lost self.new.is_lost self.old.disk self.new.disk at buf.new result }
+        ensures reads { ReadsBytes D.Disk self.old.is_lost self.new.is_lost self.old.disk self.new.disk
+            at buf.new result }
     {
         let answer = fetch(&mut self.disk, self.is_lost, at, buf);
         let len = buf.len();
@@ -178,7 +179,8 @@ impl<D: Disk> Calls for Losable<D> {
             ≡ read_under key want at (length buf.old) true (take n buf.new) ∷ history_of self.old.calls)
             (λ _. history_of self.new.calls
             ≡ read_under key want at (length buf.old) false [] ∷ history_of self.old.calls) }
-        ensures reads { Reads D.Disk self.old.is_lost self.new.is_lost self.old.disk self.new.disk at buf.new result }
+        ensures reads { ReadsBytes D.Disk self.old.is_lost self.new.is_lost self.old.disk self.new.disk
+            at buf.new result }
     {
         let answer = fetch(&mut self.disk, self.is_lost, at, buf);
         let len = buf.len();

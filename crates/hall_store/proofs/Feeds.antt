@@ -7,7 +7,7 @@ use Rattle.hall_policy.specs.World.{World}
 use Rattle.hall_policy.specs.declared.sink.SinkFault.{SinkFault}
 use Rattle.hall_policy.specs.declared.sink.SinkFault.TheVariants.{Refused}
 use Rattle.hall_policy.specs.Sink.{HasTaken}
-use Rattle.hall_store.specs.Store.{Content, Kept, Fed, IsRefusedNext, Stops}
+use Rattle.hall_store.specs.Store.{CanFailIn, Content, Kept, Fed, IsRefusedNext, Stops}
 use Rattle.hall_store.specs.declared.fault.StoreFault.{StoreFault}
 use Rattle.hall_store.specs.declared.fault.StoreFault.TheVariants.{Failed}
 
@@ -101,7 +101,7 @@ module _ {K X : Type 0} {Takes : K → X → K → Type 0} where
     pub fed_or_refused : (cause : SinkFault) (result : Result (Unit {0}) StoreFault)
         → Stops Takes Refuses before rows after cause → IsErrAnd result (λ fault. fault ≡ Failed ↔ cause ≡ Refused) →
         Fed Takes AreRows store store before result after × IfErr result
-        (λ fault. fault ≡ Failed → ⊥ ⊎ IsRefusedNext Takes Refuses AreRows store store before after)
+        (λ fault. fault ≡ Failed → CanFailIn store store ⊎ IsRefusedNext Takes Refuses AreRows store store before after)
     fed_or_refused cause (Ok done) stops gives = absurd gives
     fed_or_refused cause (Err fault) stops gives = (
       fed_partly cause fault stops,

@@ -153,9 +153,9 @@ pub present_fails : (old mid new : State) → KeptTables old mid → Kept (conte
     → StoreCanFail old new
 present_fails old mid new rested kept whole can = elim (reads_fail mid new kept
     (λ was opens. subst (λ (d : Database). AreAllRead hall_schema d.trees) (sym (rested.same was opens)) (whole was)) can) [
-  | inl more ↦ inl (more_after old.faults mid.faults new.faults rested.follows.lasts.counts more)
-  | inr why ↦ inr why
-]
+      | inl more ↦ inl (more_after old.faults mid.faults new.faults rested.follows.lasts.counts more)
+      | inr why ↦ inr why
+    ]
 
 -- the store failed where that is what is told
 pub store_failed : {R : Type 0} (fault : StoreFault) (e : ToolFault) → ((fault ≡ store.Memory) × (e ≡ Memory))

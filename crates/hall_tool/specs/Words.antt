@@ -73,12 +73,12 @@ abbrev pub ports : Numbers
 ports = record { usual = None; least = 1; most = last_port }
 
 -- the connections that may be served
-abbrev pub most_connections : ℕ
-most_connections = 1000000
+abbrev pub most_served : ℕ
+most_served = 1000000
 
 -- the connections that are served, the most where none are named
 abbrev pub connection_limits : Numbers
-connection_limits = record { usual = Some most_connections; least = 1; most = most_connections }
+connection_limits = record { usual = Some most_served; least = 1; most = most_served }
 
 -- the command of a page, by the values that the words give its options
 abbrev pub IsTaken : Page → List Row → Command → Type 0
@@ -171,9 +171,9 @@ pub record AreSpelled : Type 0 where
       → SpellsCommand (codes "init" ∷ (codes "--db=" ++ db) ∷ (codes "--people=" ++ people) ∷ []) (Init db people)
   pub serve : (db text : Text) (port : ℕ) → IsNumberWithin 1 last_port text port
       → SpellsCommand (codes "serve" ∷ (codes "--db=" ++ db) ∷ (codes "--port=" ++ text) ∷ [])
-      (Serve db port most_connections)
+      (Serve db port most_served)
   pub connections : (db text count : Text) (port connections : ℕ)
-      → IsNumberWithin 1 last_port text port → IsNumberWithin 1 most_connections count connections
+      → IsNumberWithin 1 last_port text port → IsNumberWithin 1 most_served count connections
       → SpellsCommand
       (codes "serve" ∷ (codes "--db=" ++ db) ∷ (codes "--port=" ++ text) ∷ (codes "--connections=" ++ count) ∷ [])
       (Serve db port connections)

@@ -11,3 +11,6 @@ invariant_of-self g c =
     c.feed_protests-told.new.sink
     c.self.invariant c.feed_protests-told.ensures.kept c.feed_protests-told.ensures.fed c.forget_if_refused.ensures.kept
     c.forget_if_refused.ensures.forgot
+
+pub returns-clause-fault : goal.returns-clause-fault
+returns-clause-fault g c = rw (← c.self.view_is) c.feed_protests-told.ensures.fault
