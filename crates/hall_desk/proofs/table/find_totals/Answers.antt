@@ -1,8 +1,9 @@
-use Rattle.std.proofs.Common.{◌≡◌, [], None, subst}
+use Rattle.std.proofs.Common.{◌≡◌, [], None, inl, inr, subst}
 use Rattle.hall_policy.specs.declared.record.RoundRow.{RoundRow}
 use Rattle.hall_score.specs.Tally.{IsTallyOf, TakesProtest, TakesAnswer}
-use Rattle.hall_store.specs.Store.{IsListing, is_between, protests_in}
+use Rattle.hall_store.specs.Store.{CanFailIn, IsListing, is_between, protests_in}
 use Rattle.hall_store.proofs.Feeds.{fed_now}
+use Rattle.hall_store.proofs.Knowing.{fails_after}
 use Rattle.hall_desk.proofs.Totalled.{same_rows, fails_as, protests_fail, answers_fail, totals_served}
 use Rattle.hall_desk.proofs.table.find_totals.Goals as goal
 
@@ -13,8 +14,9 @@ returns-in_err-feed_protests-clause-fault g c =
     let held : IsTallyOf c.args.row.now [] [] c.new-tally.result = subst
     (λ (row : RoundRow). IsTallyOf row [] [] c.new-tally.result) copied c.new-tally.ensures in
     fails_as c.from_residual-in_err-feed_protests.result _ _ c.from_residual-in_err-feed_protests.ensures.1
-    (λ failed. protests_fail (g.S.ReadStore.content c.feed_protests.new.self).can_fail c.args.round.now c.args.row.now
-    c.new-tally.result held (g.S.ReadStore.content c.args.store.now)
+    (λ failed. protests_fail
+    (CanFailIn (g.S.ReadStore.content c.args.store.now) (g.S.ReadStore.content c.feed_protests.new.self))
+    c.args.round.now c.args.row.now c.new-tally.result held (g.S.ReadStore.content c.args.store.now)
     (g.S.ReadStore.content c.feed_protests.new.self) c.feed_protests.new.sink c.in_err-feed_protests.ensures.kept
     (c.in_err-feed_protests.ensures.fault failed))
 
@@ -24,15 +26,19 @@ returns-in_err-feed_answers-clause-fault g c =
     c.in_ok-clone.ensures.cases in
     let held : IsTallyOf c.args.row.now [] [] c.new-tally.result = subst
     (λ (row : RoundRow). IsTallyOf row [] [] c.new-tally.result) copied c.new-tally.ensures in
+    let old = g.S.ReadStore.content c.args.store.now in
+    let mid = g.S.ReadStore.content c.feed_protests.new.self in
+    let new = g.S.ReadStore.content c.feed_answers.new.self in
     fails_as c.from_residual-in_err-feed_answers.result _ _ c.from_residual-in_err-feed_answers.ensures.1
-    (λ failed. answers_fail (g.S.ReadStore.content c.feed_answers.new.self).can_fail c.args.round.now c.args.row.now
-    c.new-tally.result held
-    (g.S.ReadStore.content c.feed_protests.new.self) (g.S.ReadStore.content c.feed_answers.new.self)
+    (λ failed. answers_fail (CanFailIn old new) c.args.round.now c.args.row.now c.new-tally.result held mid new
     c.feed_protests.new.sink c.in_err-feed_answers.ensures.kept
     (fed_now TakesProtest (λ world rows. rows ≡ protests_in world c.args.round.now)
     (g.S.ReadStore.content c.args.store.now) (g.S.ReadStore.content c.feed_protests.new.self) _ _
     c.in_ok-feed_protests.ensures.kept c.in_ok-feed_protests.ensures.fed)
-    c.feed_answers.new.sink (c.in_err-feed_answers.ensures.fault failed))
+    c.feed_answers.new.sink (elim (c.in_err-feed_answers.ensures.fault failed) [
+      | inl can ↦ inl (fails_after old mid new c.in_ok-feed_protests.ensures.kept.counts can)
+      | inr refused ↦ inr refused
+    ]))
 
 pub returns-clause-served : goal.returns-clause-served
 returns-clause-served g c =
@@ -40,8 +46,8 @@ returns-clause-served g c =
     c.in_ok-clone.ensures.cases in
     let held : IsTallyOf c.args.row.now [] [] c.new-tally.result = subst
     (λ (row : RoundRow). IsTallyOf row [] [] c.new-tally.result) copied c.new-tally.ensures in
-    totals_served (g.S.ReadStore.content c.feed_answers.new.self).can_fail c.args.round.now c.args.row.now
-    c.new-tally.result held
+    totals_served (CanFailIn (g.S.ReadStore.content c.args.store.now) (g.S.ReadStore.content c.feed_answers.new.self))
+    c.args.round.now c.args.row.now c.new-tally.result held
     (g.S.ReadStore.content c.feed_protests.new.self) (g.S.ReadStore.content c.feed_answers.new.self)
     c.feed_protests.new.sink c.in_ok-feed_answers.ensures.kept
     (fed_now TakesProtest (λ world rows. rows ≡ protests_in world c.args.round.now)
