@@ -1,6 +1,6 @@
 -- What the statement that adds an answer leaves.
 use Rattle.std.proofs.Common.{◌≡◌, ◌&&◌, ℕ, ◌∷◌, is_some, true, IsTrue, Some, None, Ok, refl, ap, ◌∙◌, arith}
-use Rattle.std.specs.Prelude.{nat_le, ◌^◌, ◌-◌}
+use Rattle.std.specs.Prelude.{nat_le}
 use Rattle.std.proofs.lemmas.Bool.{and_from, le-leb}
 use Rattle.std.specs.FinMap.{get}
 use Rattle.sqlite.specs.declared.types.Value.{Value}

@@ -1,6 +1,6 @@
 -- Why a call was refused, as the state that it leaves tells.
-use Rattle.std.proofs.Common.{◌≡◌, ◌⊎◌, ◌<◌, inl, inr, ℕ, suc, nat_eq, Bool, true, false, List, [], ◌∷◌, ◌++◌}
-use Rattle.std.proofs.Common.{append_assoc, length, option_to_list, filter, Option, Some, None, Result, Ok, Err, IsTrue}
+use Rattle.std.proofs.Common.{◌≡◌, ◌⊎◌, inl, inr, ℕ, suc, nat_eq, Bool, true, false, List, [], ◌∷◌, ◌++◌}
+use Rattle.std.proofs.Common.{append_assoc, option_to_list, Option, Some, Result, Ok, Err, IsTrue}
 use Rattle.std.proofs.Common.{IfErr, OnErr, refl, sym, ap, subst, ◌∙◌, arith}
 use Rattle.std.proofs.lemmas.Bool.{cases_Bool, eq-eqb, eqb-true}
 use Rattle.std.proofs.lemmas.Grind.{flat_map-append}
@@ -42,7 +42,7 @@ use Rattle.hall_sql.specs.Cause.{FeedFails, IsStoreCause, ReadFails, RoundFails,
 use Rattle.hall_sql.specs.Columns.{answer_params, person_params, protest_params}
 use Rattle.hall_sql.specs.Content.{content_of}
 use Rattle.hall_sql.specs.Feed.{IsTurnedAway}
-use Rattle.hall_sql.specs.Rows.{person_in, place_in, protest_in, puzzle_row_in, round_in, tester_in, world_of}
+use Rattle.hall_sql.specs.Rows.{place_in, protest_in, puzzle_row_in, round_in, tester_in, world_of}
 use Rattle.hall_sql.specs.Standing.{IsHall, IsSelection, KeptTables, KeptRows}
 use Rattle.hall_sql.specs.Statements.{plain_query}
 use Rattle.hall_sql.specs.Tables.{IsHallSchema}
@@ -289,9 +289,9 @@ change_fault : {R : Type 0} (change : Change) (old new : State) (result : Result
     → OnErr result (KeptRows old new) → (HasCleanDisk new → Fails Why result)
     → (HasCleanDisk old → Why → IsTold change old new)
     → Fails (CanRefuseIn change (content_of old) (content_of new)) result
-change_fault change old new (Ok x) Why stayed cause told = tt
-change_fault change old new (Err e) Why stayed cause told =
-    by_reason Bad (Err e) Why old new cause (λ clean why. go (told (was clean) why))
+change_fault {R} change old new (Ok x) Why stayed cause told = tt
+change_fault {R} change old new (Err e) Why stayed cause told =
+    by_reason Bad {R = R} (Err e) Why old new cause (λ clean why. go (told (was clean) why))
   where
     Bad : Database → Type 0
     Bad db = KeepsUnread db ⊎ RefusesChange change db

@@ -48,7 +48,7 @@ use Rattle.hall_sql.specs.Inside.{IsHallData, MakesInside}
 use Rattle.hall_sql.specs.Fill.{AddsHead, WithRound}
 use Rattle.hall_sql.specs.RoundPuts.{CountsHeads, PutsHead, PutsHeadOver}
 use Rattle.hall_sql.specs.RoundColumns.{mode_code, flag_code, head_params, is_under, HasSoManyHeads, IsHead}
-use Rattle.hall_sql.specs.Rows.{kept, round_in, round_of_row, world_of}
+use Rattle.hall_sql.specs.Rows.{round_in, round_of_row, world_of}
 use Rattle.hall_sql.specs.Spared.{is_head_of, KeptOtherRows}
 use Rattle.hall_sql.specs.Standing.{IsHall, HasMade}
 use Rattle.hall_sql.proofs.AnswerWrites.{is_within}

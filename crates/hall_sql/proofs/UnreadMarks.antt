@@ -1,6 +1,6 @@
 -- What the mark of rows that are no record tells, and how it is kept.
 use Rattle.std.proofs.Common.{◌≡◌, ◌+◌, ◌≤◌, ◌&&◌, ℕ, List, [], ◌∷◌, Bool, true, false, not, if◌then◌else◌, nat_eq}
-use Rattle.std.proofs.Common.{inl, inr, IsTrue, refl, sym, ap, subst, ◌∙◌, arith}
+use Rattle.std.proofs.Common.{inl, inr, IsTrue, refl, subst, arith}
 use Rattle.std.proofs.lemmas.Bool.{and_parts, cases_Bool, eq-eqb, eqb-true}
 use Rattle.std.specs.List.{AllByRecursion, list_all}
 use Rattle.sqlite_trees.specs.View.{doubt}
@@ -8,7 +8,7 @@ use Rattle.sqlite.specs.Effect.{Database}
 use Rattle.sqlite.specs.Schema.{Schema}
 use Rattle.sqlite.specs.State.{State, HasCleanDisk}
 use Rattle.sqlite.specs.Tree.{Trees}
-use Rattle.hall_sql.specs.AllRead.{AreAllRead, are_all_read, is_record}
+use Rattle.hall_sql.specs.AllRead.{AreAllRead, are_all_read}
 use Rattle.hall_sql.specs.Content.{unread_mark}
 use Rattle.hall_sql.specs.Standing.{LeadsWithoutReopening}
 use Rattle.hall_sql.specs.Tables.{hall_schema}

@@ -2,23 +2,22 @@
 -- one row.
 use Rattle.std.proofs.Common.{Bool, ◌≡◌, ◌≤◌, inr, ℕ, pos, List, [], ◌∷◌, ◌++◌, map, filter, length, is_some, true}
 use Rattle.std.proofs.Common.{false}
-use Rattle.std.proofs.Common.{Option, Some, None, IsTrue, Contains, refl, sym, ap, subst, ◌∙◌, arith}
+use Rattle.std.proofs.Common.{Option, Some, IsTrue, refl, sym, ap, subst, ◌∙◌, arith}
 use Rattle.std.proofs.lemmas.List.{length-map}
 use Rattle.std.proofs.lemmas.List.Sorted.{length_permutation}
 use Rattle.std.proofs.lemmas.Option.{slice_get-get_or}
 use Rattle.std.specs.List.{AllByRecursion, list_all}
-use Rattle.sqlite_trees.proofs.ListLemmas.{all-filter, all-map, all-permutation, all-slice_get, all_weaker}
+use Rattle.sqlite_trees.proofs.ListLemmas.{all-filter, all-map, all-permutation, all-slice_get}
 use Rattle.sqlite_trees.specs.declared.store.Store.{Ghosts}
 use Rattle.sqlite_value.specs.Keys.{first_key}
 use Rattle.sqlite_value.specs.declared.keys.Key.{Key}
 use Rattle.sqlite.specs.declared.types.Value.TheVariants.{Int, Null, Text}
 use Rattle.sqlite.specs.Command.TheVariants.{Select}
 use Rattle.sqlite.specs.Effect.{Database, IsDatabase}
-use Rattle.sqlite.specs.Held.{Held, state}
+use Rattle.sqlite.specs.Held.{state}
 use Rattle.sqlite.specs.Listing.{understood, reads_listing}
 use Rattle.sqlite.specs.Order.{Row}
 use Rattle.sqlite.specs.Program.{overlay}
-use Rattle.sqlite.specs.Schema.{Schema}
 use Rattle.sqlite.specs.State.{State, Begins, Shown}
 use Rattle.sqlite.specs.Term.{Term, holds, eval_all}
 use Rattle.sqlite.specs.Tree.{Trees}

@@ -1,5 +1,5 @@
 -- Why a connection may refuse a call, other than out of memory: as its state alone tells.
-use Rattle.std.specs.Prelude.{◌≡◌, ◌⊎◌, ◌<◌, ◌+◌, ℕ, false, List, ◌∷◌, drop, take, length, Some}
+use Rattle.std.specs.Prelude.{◌≡◌, ◌⊎◌, ◌+◌, ℕ, false, List, ◌∷◌, drop, take, length, Some}
 use Rattle.std.specs.List.{filter}
 use Rattle.std.specs.FinMap.{get}
 use Rattle.sqlite.specs.Effect.{Database}

@@ -1,5 +1,5 @@
 -- The content that a connection shows, and what a call that writes makes of it.
-use Rattle.std.specs.Prelude.{◌≡◌, ◌&&◌, ℕ, not, if◌then◌else◌, nat_eq, IsTrue, Result, OnOk, OnErr}
+use Rattle.std.specs.Prelude.{◌&&◌, ℕ, not, if◌then◌else◌, nat_eq, IsTrue, Result, OnOk, OnErr}
 use Rattle.sqlite_trees.specs.View.{doubt}
 use Rattle.sqlite.specs.State.{State, HasCleanDisk}
 use Rattle.sqlite.specs.Tree.{Trees}

@@ -1,5 +1,5 @@
 -- Why a write to the tables answers that it failed.
-use Rattle.std.specs.Prelude.{◌≡◌, ◌≢◌, ◌⊎◌, ◌<◌, ◌+◌, ℕ, true, false, suc, zero, List, [], ◌∷◌, drop, take, length}
+use Rattle.std.specs.Prelude.{◌≡◌, ◌≢◌, ◌⊎◌, ◌+◌, ℕ, true, false, suc, zero, List, [], ◌∷◌, drop, take, length}
 use Rattle.std.specs.Prelude.{Option, Some, None, Result, Ok, Err, IsTrue, OnOk, OnErr}
 use Rattle.std.specs.FinMap.{get}
 use Rattle.sqlite_schema.specs.declared.command.Command.{Command}

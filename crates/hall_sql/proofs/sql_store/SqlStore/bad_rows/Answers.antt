@@ -5,6 +5,7 @@ use Rattle.sqlite.specs.Held.{state}
 use Rattle.sqlite.specs.State.{HasCleanDisk}
 use Rattle.hall_sql.specs.AllRead.{AreAllRead}
 use Rattle.hall_sql.specs.BadRows.{AreNone, AreToldBad, HaveRoom}
+use Rattle.hall_sql.specs.CanFail.{StoreCanFail}
 use Rattle.hall_sql.specs.Cause.{IsStoreCause}
 use Rattle.hall_sql.specs.Made.{all_tables}
 use Rattle.hall_sql.specs.Tables.{hall_schema}
@@ -44,8 +45,10 @@ returns-clause-room g c =
 
 pub returns-clause-fault : goal.returns-clause-fault
 returns-clause-fault g c =
-    store_fault c.bad_rows.result _ (state g.S.Store c.bad_rows.new.conn)
-    (rested_hall c.self.invariant c.bad_rows.ensures.rested) c.bad_rows.ensures.cause
+    let new = state g.S.Store c.bad_rows.new.conn in
+    subst (λ s. Fails (StoreCanFail (state g.S.Store s) new) c.bad_rows.result) c.self.view_is
+    (store_fault c.bad_rows.result _ new (rested_hall c.self.invariant c.bad_rows.ensures.rested)
+    c.bad_rows.ensures.cause)
 
 pub returns-clause-cause : goal.returns-clause-cause
 returns-clause-cause g c =

@@ -6,5 +6,6 @@ add_answers-requires-clause-can g c = rw c.self.view_is c.requires
 
 pub returns-clause-fault : goal.returns-clause-fault
 returns-clause-fault g c =
-    joint_fault _ _ c.add_answers.result c.self.invariant c.args.rows.now c.add_answers.ensures.wrote.refused
-    c.add_answers.ensures.cause
+    rw (← c.self.view_is)
+    (joint_fault _ _ c.add_answers.result c.self.invariant c.args.rows.now c.add_answers.ensures.wrote.refused
+    c.add_answers.ensures.cause)

@@ -6,5 +6,6 @@ returns-clause-cause g c = rw (← c.self.view_is) c.rule_protest.ensures.cause
 
 pub returns-clause-fault : goal.returns-clause-fault
 returns-clause-fault g c =
-    ruling_fault _ _ c.rule_protest.result c.self.invariant c.args.key.now c.args.ruling
-    c.rule_protest.ensures.wrote.refused c.rule_protest.ensures.cause
+    rw (← c.self.view_is)
+    (ruling_fault _ _ c.rule_protest.result c.self.invariant c.args.key.now c.args.ruling
+    c.rule_protest.ensures.wrote.refused c.rule_protest.ensures.cause)

@@ -6,5 +6,6 @@ returns-clause-cause g c = rw (← c.self.view_is) c.set_round_flag.ensures.caus
 
 pub returns-clause-fault : goal.returns-clause-fault
 returns-clause-fault g c =
-    flag_fault _ _ c.set_round_flag.result c.self.invariant c.args.id.now c.args.flag
-    c.set_round_flag.ensures.wrote.refused c.set_round_flag.ensures.cause
+    rw (← c.self.view_is)
+    (flag_fault _ _ c.set_round_flag.result c.self.invariant c.args.id.now c.args.flag
+    c.set_round_flag.ensures.wrote.refused c.set_round_flag.ensures.cause)

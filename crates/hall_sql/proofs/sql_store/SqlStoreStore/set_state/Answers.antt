@@ -6,5 +6,6 @@ returns-clause-cause g c = rw (← c.self.view_is) c.set_state.ensures.cause
 
 pub returns-clause-fault : goal.returns-clause-fault
 returns-clause-fault g c =
-    state_fault _ _ c.set_state.result c.self.invariant c.args.key.now c.args.known c.set_state.ensures.wrote.refused
-    c.set_state.ensures.cause
+    rw (← c.self.view_is)
+    (state_fault _ _ c.set_state.result c.self.invariant c.args.key.now c.args.known c.set_state.ensures.wrote.refused
+    c.set_state.ensures.cause)
