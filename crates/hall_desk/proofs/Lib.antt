@@ -10,6 +10,7 @@ pub mod Submitting
 pub mod Protesting
 pub mod RulingProtest
 pub mod EmptySane
+mod Failing
 mod PlanLemmas
 mod ReadPlans
 pub mod TablePlans

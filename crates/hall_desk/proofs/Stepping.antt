@@ -89,7 +89,7 @@ pub refused_step : (E : Type 0) (old mid new : Content) (t : ℕ) (request : Req
     → Leads mid new → Planned {E = E} mid t request (Ok plan) → (plan.change ≡ Nothing → ⊥)
     → CanRefuseIn plan.change mid new → StepCanFail old t request new
 refused_step E old mid new t request plan kept leads planned never (inl more) =
-    inl (inl (inl (more_after old.faults mid.faults new.faults kept.counts more)))
+    inl (inl (more_after old.faults mid.faults new.faults kept.counts more))
 refused_step E old mid new t request plan kept leads (inr none) never (inr refused) = absurd (never none.0)
 refused_step E old mid new t request plan kept leads (inl made) never (inr refused) = inr (plan, is, refused)
   where

@@ -1,6 +1,6 @@
 -- What a plan promises, and what a step over a store leaves.
 use Rattle.std.specs.Prelude.{◌≡◌, ◌≤◌, ◌⊎◌, ℕ, List, [], ◌∷◌, Option, Some, None, true, false, ◌≢◌, Result, Ok, Err}
-use Rattle.std.specs.Prelude.{IfErr, Contains, All}
+use Rattle.std.specs.Prelude.{Contains, All}
 use Rattle.hall_store.specs.declared.change.Change.TheVariants as change
 use Rattle.hall_store.specs.declared.change.Change.TheVariants.{Nothing}
 use Rattle.std.specs.FinMap.{get}
@@ -19,11 +19,10 @@ use Rattle.hall_policy.specs.declared.request.Action.TheVariants.{PutPuzzle, Cer
 use Rattle.hall_policy.specs.declared.request.Action.TheVariants.{ReadPuzzle, ListPuzzles, ListRounds, ReadRound}
 use Rattle.hall_policy.specs.declared.request.Action.TheVariants.{Answers, Solutions, Protests, Table}
 use Rattle.hall_policy.specs.declared.facts.Facts.{Facts}
-use Rattle.hall_store.specs.Store.{CanFailIn, Content, Leads, LeavesOneOf, Over, WritesOnce}
+use Rattle.hall_store.specs.Store.{CanFailIn, Content, Fails, Leads, LeavesOneOf, MoreFaults, Over, WritesOnce}
 use Rattle.hall_store.specs.declared.change.Change.{Change}
 use Rattle.hall_store.specs.declared.change.RoundFlag.TheVariants as flag
 use Rattle.hall_store.specs.declared.fault.StoreFault.{StoreFault}
-use Rattle.hall_store.specs.declared.fault.StoreFault.TheVariants.{Failed}
 use Rattle.hall_policy.specs.Facts.{AreTrue}
 use Rattle.hall_desk.specs.Sane.{Sane}
 use Rattle.hall_desk.specs.Judged.{IsVerdictOn}
@@ -173,16 +172,23 @@ abbrev pub IsQuietPlan : {E : Type 0} → Result Plan E → Type 0
 IsQuietPlan (Ok plan) = (plan.change ≡ Nothing) × IsAvailable plan.reply
 IsQuietPlan (Err fault) = ⊥
 
--- Failed is answered where the store could fail in these calls alone, or where its world isn't sane.
+-- a read may fail as the store's content tells, or the world isn't sane, so that there may be no plan
+pub record HindersPlans (new : Content) : Type 0 where
+  pub why : new.can_fail ⊎ (new.honest → new.serves × ¬ (Sane new.world))
+
+-- why calls that make a plan may fail: the device has failed in them, or what they leave hinders plans
+abbrev pub PlanCanFail : Content → Content → Type 0
+PlanCanFail old new = MoreFaults old.faults new.faults ⊎ HindersPlans new
+
+-- Failed is answered for such a cause alone.
 abbrev pub FailsIn : {R : Type 0} → Content → Content → Result R StoreFault → Type 0
-FailsIn old new result =
-    IfErr result (λ fault. fault ≡ Failed → CanFailIn old new ⊎ (new.honest → new.serves × ¬ (Sane new.world)))
+FailsIn old new result = Fails (PlanCanFail old new) result
 
 -- A step of the request may be refused for another cause than being out of memory: as a read may be, or since the world
 -- isn't sane, or as the change of a plan for the request over the world before it may be.
 abbrev pub StepCanFail : Content → ℕ → Request → Content → Type 0
 StepCanFail old t request new =
-    (CanFailIn old new ⊎ (new.honest → new.serves × ¬ (Sane new.world)))
+    PlanCanFail old new
     ⊎ ((plan : Plan) × (new.honest → old.serves × IsPlanFor old.world t request plan)
     × new.can_refuse (planned_change plan))
 

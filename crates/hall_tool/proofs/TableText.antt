@@ -10,13 +10,13 @@ use Rattle.hall_store.specs.Change.{changed}
 use Rattle.hall_store.specs.Store.{Content}
 use Rattle.hall_store.specs.declared.fault.StoreFault.{StoreFault}
 use Rattle.hall_desk.specs.Plan.{planned_reply}
-use Rattle.hall_desk.specs.Plans.{IsPlanFor, Planned}
+use Rattle.hall_desk.specs.Plans.{IsPlanFor, PlanCanFail, Planned}
 use Rattle.hall_desk.specs.Step.{IsAnswered}
 use Rattle.hall_desk.specs.declared.plan.Plan.{Plan}
 use Rattle.hall_desk.specs.declared.reply.Reply.{Reply}
 use Rattle.hall_policy.specs.World.{World}
 use Rattle.hall_policy.specs.declared.rule.Decision.TheVariants.{Allow, Deny, Repeat}
-use Rattle.hall_tool.specs.TableText.{IsOtherReply, IsTableReply, IsTableOver, MayFail}
+use Rattle.hall_tool.specs.TableText.{IsOtherReply, IsTableReply, IsTableOver}
 
 abbrev asked : List ℕ → Request
 asked round = record { key = None; action = Table round }
@@ -47,11 +47,11 @@ no_other world round given (found, (Allow, first, decided)) other = other.0 deci
 
 -- so another reply was told by a device that wasn't honest
 pub other_fails : (old new : Content) (round : List ℕ) (given : Reply) → IsTableOver new round given
-    → IsOtherReply given → MayFail old new
+    → IsOtherReply given → PlanCanFail old new
 other_fails old new round given (inl over) other =
-    inr (λ honest. absurd (no_other new.world round given (over honest).1 other))
+    inr (record { why = inr (λ honest. absurd (no_other new.world round given (over honest).1 other)) })
 other_fails old new round given (inr always) other =
-    inr (λ honest. absurd (no_other new.world round given (always new.world) other))
+    inr (record { why = inr (λ honest. absurd (no_other new.world round given (always new.world) other)) })
 
 pub word_low : (byte : ℕ) → IsTrue (is_word_byte byte) → byte < 128
 word_low byte h = grind (arith, nat_tests)

@@ -6,8 +6,8 @@ use Rattle.hall_policy.specs.Ranges.{IsRoundId}
 use Rattle.hall_policy.specs.World.{World}
 use Rattle.hall_policy.specs.declared.record.PuzzleState.{PuzzleState}
 use Rattle.hall_policy.specs.declared.request.Action.TheVariants.{Table}
-use Rattle.hall_store.specs.Store.{CanFailIn, Content, Kept}
-use Rattle.hall_desk.specs.Sane.{Sane}
+use Rattle.hall_store.specs.Store.{Content, Kept}
+use Rattle.hall_desk.specs.Plans.{PlanCanFail}
 use Rattle.hall_desk.specs.Step.{IsAnswered}
 use Rattle.hall_desk.specs.declared.reply.Reply.{Reply}
 use Rattle.hall_desk.specs.declared.reply.Reply.TheVariants as reply
@@ -26,11 +26,6 @@ IsTableWritten other text status = ⊥
 -- the reply is neither
 abbrev pub IsOtherReply : Reply → Type 0
 IsOtherReply given = ((table : List ℕ) → given ≢ reply.Table table) × ((rule : ℕ) → given ≢ reply.Denied rule)
-
--- the store could fail in these calls, or its world, where its device was honest, isn't sane: for such a cause alone a
--- plan fails
-abbrev pub MayFail : Content → Content → Type 0
-MayFail old new = CanFailIn old new ⊎ (new.honest → new.serves × ¬ (Sane new.world))
 
 -- A request for the round's table is answered so, and leaves the world. It needs no key, and asks for no search; the
 -- moment, which is here 0, decides nothing of it.
@@ -65,4 +60,4 @@ pub record IsTableRun {S R W : Type 0} (k : Kinds S R W) (round : List ℕ) (old
       × WritesPart (k.streams.contents writer.device) (k.streams.contents written.device) text
   pub memory : IsErrOf result tool.Memory → written ≡ writer
   pub store : IsErrOf result tool.Store → written ≡ writer
-  pub fault : IsErrOf result tool.Store → MayFail old new
+  pub fault : IsErrOf result tool.Store → PlanCanFail old new

@@ -10,7 +10,8 @@ ghost use Rattle.hall_desk.specs.declared.reply.Reply.{Reply};
 ghost use Rattle.hall_http.specs.Device.{WritesPart};
 ghost use Rattle.hall_tool.specs.SeedText.{denial_of};
 ghost use Rattle.hall_tool.specs.Status.{IsOfMemoryOrStore};
-ghost use Rattle.hall_tool.specs.TableText.{IsOtherReply, IsTableOver, IsTableWritten, MayFail, TableText};
+ghost use Rattle.hall_desk.specs.Plans.{PlanCanFail};
+ghost use Rattle.hall_tool.specs.TableText.{IsOtherReply, IsTableOver, IsTableWritten, TableText};
 
 use crate::ending::Ending;
 use crate::fault::{ToolFault, told};
@@ -82,7 +83,7 @@ fn table_of<S: ReadStore>(
         × IsTableOver (S.content (kept_by desk.new)) round given
         × IsTableWritten given (string_bytes a.line) a.status) }
     ensures cause { IfErr result IsOfMemoryOrStore }
-    ensures fault { IsErrOf result ToolFault.Store → MayFail
+    ensures fault { IsErrOf result ToolFault.Store → PlanCanFail
         (S.content (kept_by desk.old)) (S.content (kept_by desk.new)) }
 {
     let Some(t) = Moment::new(0) else {
@@ -110,7 +111,7 @@ fn table_ending<S: ReadStore>(
     ensures text { IfOk result
         (λ a. TableText round.now (S.content (kept_by desk.new)) (string_bytes a.line) a.status) }
     ensures cause { IfErr result IsOfMemoryOrStore }
-    ensures fault { IsErrOf result ToolFault.Store → MayFail
+    ensures fault { IsErrOf result ToolFault.Store → PlanCanFail
         (S.content (kept_by desk.old)) (S.content (kept_by desk.new)) }
 {
     match round_id(alloc, round)? {
@@ -142,7 +143,7 @@ pub fn table_run<S: ReadStore, W: Write>(
     // Another fault leaves the writer as it was.
     ensures memory { IsErrOf result ToolFault.Memory → writer.new ≡ writer.old }
     ensures store { IsErrOf result ToolFault.Store → writer.new ≡ writer.old }
-    ensures fault { IsErrOf result ToolFault.Store → MayFail
+    ensures fault { IsErrOf result ToolFault.Store → PlanCanFail
         (S.content (kept_by desk.old)) (S.content (kept_by desk.new)) }
 {
     let ending = table_ending(alloc, desk, round)?;

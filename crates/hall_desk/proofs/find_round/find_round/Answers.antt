@@ -22,6 +22,9 @@ pub returns-clause-fault : goal.returns-clause-fault
 returns-clause-fault g c =
     let new = g.S.ReadStore.content c.round.new.self in
     IfErr-weaker c.round.result _ _ (λ fault cause failed. elim (cause failed) [
-      | inl fails ↦ inl fails
-      | inr none ↦ inr (λ h. let it = none h in (it.0, never_in_sane new.world c.args.id.now it.1))
+      | inl (inl more) ↦ inl more
+      | inl (inr can) ↦ inr (record { why = inl can })
+      | inr none ↦ inr (record {
+        why = inr (λ h. let it = none h in (it.0, never_in_sane new.world c.args.id.now it.1));
+      })
     ]) c.round.ensures.fault

@@ -26,13 +26,15 @@ returns-then-branch-clause-fault g c =
     let mid = g.S.ReadStore.content c.judge_at.new.store in
     let new = g.S.ReadStore.content c.is_number_taken.new.self in
     let kept : Kept old new = kept_then old mid new c.in_ok-verdict.ensures.kept c.in_ok-is_number_taken.ensures.kept in
-    λ _. inr (λ h.
-    let read = c.in_ok-is_number_taken.ensures.served h in
-    let told = carried (λ w. AreTrue facts w (submit_action asked)) old new kept c.requires.told h read.0 in (
-      read.0,
-      λ sane. number_free new.world facts asked c.in-Some-Some.person _ c.in-Some-Some.is-0 told
-          c.number_after-n.ensures sane (read.1.0 c.if-branch.true),
-    ))
+    λ _. inr (record {
+      why = inr (λ h.
+          let read = c.in_ok-is_number_taken.ensures.served h in
+          let told = carried (λ w. AreTrue facts w (submit_action asked)) old new kept c.requires.told h read.0 in (
+            read.0,
+            λ sane. number_free new.world facts asked c.in-Some-Some.person _ c.in-Some-Some.is-0 told
+                c.number_after-n.ensures sane (read.1.0 c.if-branch.true),
+          ));
+    })
 
 pub returns-clause-told : goal.returns-clause-told
 returns-clause-told g c =
