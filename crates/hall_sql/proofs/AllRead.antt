@@ -11,15 +11,12 @@ use Rattle.std.proofs.lemmas.List.Sorted.{IsPermutation-sym}
 use Rattle.sqlite_trees.proofs.ListLemmas.{all-map, all-permutation, all_from_map, all_of, all_weaker, filter_all}
 use Rattle.sqlite_trees.specs.Tree.{put_row}
 use Rattle.sqlite_rules.specs.Edit.{next_rowid}
-use Rattle.sqlite_value.specs.declared.keys.Key.{Key}
 use Rattle.sqlite.specs.declared.types.Value.TheVariants.{Int}
 use Rattle.sqlite.specs.Effect.{Database}
 use Rattle.sqlite.specs.Order.{Row}
-use Rattle.sqlite.specs.Program.{overlay}
 use Rattle.sqlite.specs.Schema.{Schema}
 use Rattle.sqlite.specs.State.{State, HasCleanDisk, Shown}
 use Rattle.sqlite.specs.Table.{Table}
-use Rattle.sqlite.specs.Term.{Term, eval_all}
 use Rattle.sqlite.specs.Tree.{Trees}
 use Rattle.hall_policy.proofs.Orders.{text_total, puzzle_total, place_total, answer_total, protest_total, tester_total}
 use Rattle.hall_policy.specs.World.{World}
@@ -35,7 +32,6 @@ use Rattle.hall_sql.specs.Rows.{answer_in, answer_of_row, columns_from, entry, k
 use Rattle.hall_sql.specs.Rows.{place_of_row, protest_in, protest_of_row, puzzle_row_in, puzzle_of_row, round_in}
 use Rattle.hall_sql.specs.Rows.{round_of_row, tester_in, tester_of_row, world_of}
 use Rattle.hall_sql.specs.Standing.{HasAdded, IsBareLike, IsOver, IsSelection, KeptAnyTables}
-use Rattle.hall_sql.specs.Statements.{plain_query}
 use Rattle.hall_sql.specs.declared.people.TheConstants.{ALL_PEOPLE}
 use Rattle.hall_sql.specs.declared.puzzles.TheConstants.{ALL_PUZZLES}
 use Rattle.hall_sql.specs.declared.rounds.TheConstants.{ALL_PLACES, ALL_ROUNDS}
@@ -46,7 +42,7 @@ use Rattle.hall_sql.specs.Tables.{IsHallSchema, IsLike, hall_schema}
 use Rattle.hall_sql.specs.Versions.{IsAnyHall}
 use Rattle.hall_sql.specs.Whole.{AreRecords}
 use Rattle.hall_sql.proofs.AnswerTexts.{all_answers_are}
-use Rattle.hall_sql.proofs.CallLemmas.{answers_selection, shown_was_open}
+use Rattle.hall_sql.proofs.CallLemmas.{shown_was_open}
 use Rattle.hall_sql.proofs.InsertLemmas.{put_permutes}
 use Rattle.hall_sql.proofs.KeyedLemmas.{other_tree, same_tree}
 use Rattle.hall_sql.proofs.PeopleTexts.{all_people_are}
@@ -57,7 +53,9 @@ use Rattle.hall_sql.proofs.RoundTexts.{all_rounds_are}
 use Rattle.hall_sql.proofs.SparedLemmas.{own_key}
 use Rattle.hall_sql.proofs.TesterTexts.{all_testers_are}
 use Rattle.hall_sql.proofs.UnreadRows.{some_unread}
-use Rattle.hall_sql.proofs.Versions.{AsksAll}
+use Rattle.hall_sql.proofs.Queries.{Computes, body_of, query, record_in, record_of, selection, shows, width_of}
+use Rattle.hall_sql.specs.Scan.{tree_of}
+use Rattle.hall_sql.specs.declared.tables.HallTable.{HallTable}
 
 -- ---- what is asked of them
 
@@ -72,114 +70,104 @@ all_some read (r ∷ rows) (x ∷ out) is =
     (ap is_some here, all_some read rows out more)
 
 -- a query asks for all rows of a table
-module _ {Fits : Schema → Type 0} {text : List ℕ} {tree : ℕ} {project : List Term} {order : List (Term × Key)}
-    {names : List (List ℕ)}
-    (asks : (schema : Schema) → Fits schema → AsksAll text tree project order names schema) {X : Type 0}
-    (read : Row → Option X) (count : ℕ)
-    (apart : (db : Trees) → overlay db [] tree ≡ db tree) (shows : (r : Row)
-    → eval_all project ([] ∷ r ∷ []) ≡ columns_from 1 count r)
-    (is_read : (r : Row) → is_record tree r ≡ is_some (read (columns_from 1 count r)))
+module _ {Fits : Schema → Type 0} {table : HallTable} {text : List ℕ} {order : List ℕ}
+    (asks : (schema : Schema) → Fits schema → Computes (query table text [] [] order) schema)
+    (is_read : (r : Row) → is_record (tree_of table) r ≡ is_some (record_of table r))
     (old new : State) (hall : IsOver Fits old) (clean : HasCleanDisk old) where
   abbrev Reads : Row → Type 0
-  Reads r = IsTrue (is_some (read r))
+  Reads r = IsTrue (is_some (record_in table r))
+
+  abbrev IsOne : Row → Type 0
+  IsOne r = IsTrue (is_record (tree_of table) r)
 
   module _ (rows : List Row) (shown : Shown text [] old new rows) where
     like : IsLike hall.schema old.now.schema
     like = (hall.tabled.settled clean (shown_was_open text [] old new rows shown)).1
 
-    all : AsksAll text tree project order names old.now.schema
-    all = asks old.now.schema (hall.fits old.now.schema like)
+    sel : IsSelection (body_of (query table text [] [] order)) (old.now.trees (tree_of table)) [] rows
+    sel = selection (asks old.now.schema (hall.fits old.now.schema like)) old new rows refl shown
 
-    selection : IsSelection (plain_query tree [] project order) (old.now.trees tree) [] rows
-    selection =
-        answers_selection text [] old new tree [] project order names all.is all.unlisted all.plain
-        (apart old.now.trees)
-        refl rows shown
+    same : IsPermutation (old.now.trees (tree_of table)) sel.found
+    same = subst (λ l. IsPermutation l sel.found) (filter_all (λ _. true) (old.now.trees (tree_of table))
+        (all_of (λ _. true ≡ true) (λ _. refl) _)) sel.same
 
-    same : IsPermutation (old.now.trees tree) selection.found
-    same = subst (λ l. IsPermutation l selection.found) (filter_all (λ _. true) (old.now.trees tree)
-        (all_of (λ _. true ≡ true) (λ _. refl) _)) selection.same
+    shown_are : rows ≡ map (columns_from 1 (width_of table)) sel.found
+    shown_are = sel.shown ∙ (λ i. map (λ r. shows table [] r i) sel.found)
 
-    shown_are : rows ≡ map (columns_from 1 count) selection.found
-    shown_are = selection.shown ∙ (λ i. map (λ r. shows r i) selection.found)
-
-    to_table : AllByRecursion Reads rows → IsRead old.now.trees tree
+    to_table : AllByRecursion Reads rows → IsRead old.now.trees (tree_of table)
     to_table each =
-        let found = all_from_map Reads (columns_from 1 count) selection.found
+        let found = all_from_map Reads (columns_from 1 (width_of table)) sel.found
         (subst (AllByRecursion Reads) shown_are each) in
-        all-permutation (λ r. IsTrue (is_record tree r)) selection.found (old.now.trees tree)
-        (IsPermutation-sym _ _ same)
-        (all_weaker (λ r. Reads (columns_from 1 count r)) (λ r. IsTrue (is_record tree r)) (λ r h. is_read r ∙ h)
-        selection.found found)
+        all-permutation IsOne sel.found (old.now.trees (tree_of table)) (IsPermutation-sym _ _ same)
+        (all_weaker (λ r. Reads (columns_from 1 (width_of table) r)) IsOne (λ r h. is_read r ∙ h) sel.found found)
 
-    from_table : IsRead old.now.trees tree → AllByRecursion Reads rows
+    from_table : IsRead old.now.trees (tree_of table) → AllByRecursion Reads rows
     from_table each =
-        let found = all-permutation (λ r. IsTrue (is_record tree r)) (old.now.trees tree) selection.found same each in
+        let found = all-permutation IsOne (old.now.trees (tree_of table)) sel.found same each in
         subst (AllByRecursion Reads) (sym shown_are)
-        (all-map Reads (columns_from 1 count) selection.found
-        (all_weaker (λ r. IsTrue (is_record tree r)) (λ r. Reads (columns_from 1 count r)) (λ r h. sym (is_read r) ∙ h)
-        selection.found found))
+        (all-map Reads (columns_from 1 (width_of table)) sel.found
+        (all_weaker IsOne (λ r. Reads (columns_from 1 (width_of table) r)) (λ r h. sym (is_read r) ∙ h) sel.found
+        found))
 
   -- where all that it answers are records, each row of the table is one
-  read_all : AreRecords read text [] old new → IsRead old.now.trees tree
-  read_all it = to_table it.rows it.shown (all_some read it.rows it.records it.reads)
+  read_all : AreRecords (record_in table) text [] old new → IsRead old.now.trees (tree_of table)
+  read_all it = to_table it.rows it.shown (all_some (record_in table) it.rows it.records it.reads)
 
   -- where it fails, the cause lies in the store, or a row of the table is no record
-  read_fails : ReadFails read text [] old new → IsStoreCause old new ⊎ (¬ IsRead old.now.trees tree)
+  read_fails : ReadFails (record_in table) text [] old new → IsStoreCause old new
+      ⊎ (¬ IsRead old.now.trees (tree_of table))
   read_fails (inl cause) = inl cause
-  read_fails (inr it) = inr (λ each. some_unread read it.0 it.2 (from_table it.0 it.1 each))
+  read_fails (inr it) = inr (λ each. some_unread (record_in table) it.0 it.2 (from_table it.0 it.1 each))
 
 module _ (old new : State) (clean : HasCleanDisk old) where
   pub people_read : IsAnyHall old → AreRecords person_in ALL_PEOPLE.now [] old new → IsRead old.now.trees 0
-  people_read hall = read_all all_people_are person_in 3 (λ db. refl) (λ r. refl) (λ r. refl) old new hall clean
+  people_read hall = read_all all_people_are (λ r. refl) old new hall clean
 
   pub puzzles_read : IsAnyHall old → AreRecords puzzle_row_in ALL_PUZZLES.now [] old new → IsRead old.now.trees 3
-  puzzles_read hall = read_all all_puzzles_are puzzle_row_in 5 (λ db. refl) (λ r. refl) (λ r. refl) old new hall clean
+  puzzles_read hall = read_all all_puzzles_are (λ r. refl) old new hall clean
 
   pub rounds_read : IsAnyHall old → AreRecords round_in ALL_ROUNDS.now [] old new → IsRead old.now.trees 5
-  rounds_read hall = read_all all_rounds_are round_in 10 (λ db. refl) (λ r. refl) (λ r. refl) old new hall clean
+  rounds_read hall = read_all all_rounds_are (λ r. refl) old new hall clean
 
   pub places_read : IsAnyHall old → AreRecords place_in ALL_PLACES.now [] old new → IsRead old.now.trees 7
-  places_read hall = read_all all_places_are place_in 5 (λ db. refl) (λ r. refl) (λ r. refl) old new hall clean
+  places_read hall = read_all all_places_are (λ r. refl) old new hall clean
 
   pub answers_read : IsAnyHall old → AreRecords answer_in ALL_ANSWERS.now [] old new → IsRead old.now.trees 9
-  answers_read hall = read_all all_answers_are answer_in 8 (λ db. refl) (λ r. refl) (λ r. refl) old new hall clean
+  answers_read hall = read_all all_answers_are (λ r. refl) old new hall clean
 
   pub protests_read : IsAnyHall old → AreRecords protest_in ALL_PROTESTS.now [] old new → IsRead old.now.trees 12
-  protests_read hall = read_all all_protests_are protest_in 7 (λ db. refl) (λ r. refl) (λ r. refl) old new hall clean
+  protests_read hall = read_all all_protests_are (λ r. refl) old new hall clean
 
   pub testers_read : IsOver IsHallSchema old → AreRecords tester_in ALL_TESTERS.now [] old new → IsRead old.now.trees 14
-  testers_read hall =
-      read_all all_testers_are tester_in 2 (λ db. refl) (λ r. refl) (λ r. refl) old new hall clean
+  testers_read hall = read_all all_testers_are (λ r. refl) old new hall clean
 
   pub people_fails : IsAnyHall old → ReadFails person_in ALL_PEOPLE.now [] old new → IsStoreCause old new
       ⊎ (¬ IsRead old.now.trees 0)
-  people_fails hall = read_fails all_people_are person_in 3 (λ db. refl) (λ r. refl) (λ r. refl) old new hall clean
+  people_fails hall = read_fails all_people_are (λ r. refl) old new hall clean
 
   pub puzzles_fails : IsAnyHall old → ReadFails puzzle_row_in ALL_PUZZLES.now [] old new → IsStoreCause old new
       ⊎ (¬ IsRead old.now.trees 3)
-  puzzles_fails hall = read_fails all_puzzles_are puzzle_row_in 5 (λ db. refl) (λ r. refl) (λ r. refl) old new hall
-      clean
+  puzzles_fails hall = read_fails all_puzzles_are (λ r. refl) old new hall clean
 
   pub rounds_fails : IsAnyHall old → ReadFails round_in ALL_ROUNDS.now [] old new → IsStoreCause old new
       ⊎ (¬ IsRead old.now.trees 5)
-  rounds_fails hall = read_fails all_rounds_are round_in 10 (λ db. refl) (λ r. refl) (λ r. refl) old new hall clean
+  rounds_fails hall = read_fails all_rounds_are (λ r. refl) old new hall clean
 
   pub places_fails : IsAnyHall old → ReadFails place_in ALL_PLACES.now [] old new → IsStoreCause old new
       ⊎ (¬ IsRead old.now.trees 7)
-  places_fails hall = read_fails all_places_are place_in 5 (λ db. refl) (λ r. refl) (λ r. refl) old new hall clean
+  places_fails hall = read_fails all_places_are (λ r. refl) old new hall clean
 
   pub answers_fails : IsAnyHall old → ReadFails answer_in ALL_ANSWERS.now [] old new → IsStoreCause old new
       ⊎ (¬ IsRead old.now.trees 9)
-  answers_fails hall = read_fails all_answers_are answer_in 8 (λ db. refl) (λ r. refl) (λ r. refl) old new hall clean
+  answers_fails hall = read_fails all_answers_are (λ r. refl) old new hall clean
 
   pub protests_fails : IsAnyHall old → ReadFails protest_in ALL_PROTESTS.now [] old new → IsStoreCause old new
       ⊎ (¬ IsRead old.now.trees 12)
-  protests_fails hall = read_fails all_protests_are protest_in 7 (λ db. refl) (λ r. refl) (λ r. refl) old new hall clean
+  protests_fails hall = read_fails all_protests_are (λ r. refl) old new hall clean
 
   pub testers_fails : IsOver IsHallSchema old → ReadFails tester_in ALL_TESTERS.now [] old new → IsStoreCause old new
       ⊎ (¬ IsRead old.now.trees 14)
-  testers_fails hall = read_fails all_testers_are tester_in 2 (λ db. refl) (λ r. refl) (λ r. refl) old new hall clean
+  testers_fails hall = read_fails all_testers_are (λ r. refl) old new hall clean
 
 -- a table that rests was read before, where it is
 pub read_before : (tree : ℕ) (old new : State) → IsAnyHall old → KeptAnyTables old new → HasCleanDisk new

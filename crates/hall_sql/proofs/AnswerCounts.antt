@@ -1,15 +1,13 @@
 -- How many answers an entrant gave to a puzzle, whether one of them is the n-th, and whether a round has any.
 use Rattle.std.proofs.Common.{◌≡◌, ◌==◌, ◌↔◌, ◌&&◌, inr, ℕ, pos, List, [], ◌∷◌, length, map, flat_map, option_to_list}
-use Rattle.std.proofs.Common.{Bool, true, not, IsTrue, Some, Contains, refl, ap, ap₂, subst, ◌∙◌, arith}
+use Rattle.std.proofs.Common.{Bool, true, not, IsTrue, Some, Contains, ap, ap₂, subst, ◌∙◌, arith}
 use Rattle.std.proofs.lemmas.Bool.Decides.{nat_tests}
-use Rattle.std.specs.List.{list_all}
 use Rattle.std.specs.List.Sorted.{IsPermutation}
 use Rattle.std.specs.FinMap.{get, values}
 use Rattle.sqlite.specs.declared.types.Value.TheVariants.{Int, Text}
 use Rattle.sqlite.specs.Effect.{IsDatabase}
 use Rattle.sqlite.specs.Order.{Row}
 use Rattle.sqlite.specs.State.{State, Shown}
-use Rattle.sqlite.specs.Term.{holds}
 use Rattle.sqlite.specs.Tree.{Trees}
 use Rattle.sqlite_value.specs.Order.{column}
 use Rattle.hall_policy.specs.Rules.{answers_given}
@@ -28,9 +26,10 @@ use Rattle.hall_sql.specs.Standing.{AreKeyed}
 use Rattle.hall_sql.specs.declared.answers.TheConstants.{ANSWERS_GIVEN, NUMBER_TAKEN}
 use Rattle.hall_sql.proofs.AmongLemmas.{kept_value, counted, one_passes, any_there, any_is}
 use Rattle.hall_sql.proofs.AnswerLemmas.{has_columns, answers_listed}
-use Rattle.hall_sql.proofs.AnswerTexts.{answer_columns, place_terms, nth_terms, answers_given_is, number_taken_is}
+use Rattle.hall_sql.proofs.AnswerTexts as queries
 use Rattle.hall_sql.proofs.ColumnLemmas.{and_true, column_same, column_counts}
 use Rattle.hall_sql.proofs.ListedLemmas.{records_asked}
+use Rattle.hall_sql.proofs.Queries.{passes}
 use Rattle.hall_sql.proofs.UniqueLemmas.{kept_keyed}
 
 -- the answer is the entrant's to the round's puzzle of the number
@@ -150,8 +149,7 @@ module _ (old new : State) (has : IsHallSchema old.now.schema) (keyed : AreKeyed
       answers_listed {schema = old.now.schema} (inr has) db keyed sound
 
   to_agrees : (entrant round : List ℕ) (number : ℕ) (r : Row) (x : AnswerRow) → answer_of_row r ≡ Some x
-      → list_all (holds ((Text entrant ∷ Text round ∷ Int (pos number) ∷ []) ∷ r ∷ [])) place_terms ≡ is_to entrant
-      round number x
+      → passes (queries.answers_given entrant round number) r ≡ is_to entrant round number x
   to_agrees entrant round number r x h =
       let it = has_columns r x h in
       ap₂ ◌&&◌ (column_same (column r 1) x.key.entrant entrant it.entrant)
@@ -163,14 +161,11 @@ module _ (old new : State) (has : IsHallSchema old.now.schema) (keyed : AreKeyed
       → length out ≡ answers_given (world_of old.now.trees) entrant round number
   answers_counted entrant round number shown =
       counted (is_to entrant round number) (values (world_of old.now.trees).answers) out
-      (records_asked answer_in 8 ANSWERS_GIVEN.now (Text entrant ∷ Text round ∷ Int (pos number) ∷ []) 9 place_terms
-      answer_columns [] _ (answers_given_is said.0).0 (answers_given_is said.0).1 (answers_given_is said.0).2
-      (λ db. refl) (λ r. refl)
-      (is_to entrant round number) (to_agrees entrant round number) old new rows out said.1 shown is _ whole)
+      (records_asked (queries.answers_given_is entrant round number said.0) old new rows out said.1 shown is
+      (is_to entrant round number) (to_agrees entrant round number) _ whole)
 
   nth_agrees : (entrant round : List ℕ) (number n : ℕ) (r : Row) (x : AnswerRow) → answer_of_row r ≡ Some x
-      → list_all (holds ((Text entrant ∷ Text round ∷ Int (pos number) ∷ Int (pos n) ∷ []) ∷ r ∷ [])) nth_terms
-      ≡ is_nth entrant round number n x
+      → passes (queries.number_taken entrant round number n) r ≡ is_nth entrant round number n x
   nth_agrees entrant round number n r x h =
       let it = has_columns r x h in
       ap₂ ◌&&◌ (column_same (column r 1) x.key.entrant entrant it.entrant)
@@ -184,11 +179,8 @@ module _ (old new : State) (has : IsHallSchema old.now.schema) (keyed : AreKeyed
   number_told entrant round number n empty none shown =
       let db = old.now.trees in
       let test = is_nth entrant round number n in
-      let same = records_asked answer_in 8 NUMBER_TAKEN.now (Text entrant ∷ Text round ∷ Int (pos number) ∷ Int (pos n)
-      ∷ []) 9
-      nth_terms answer_columns [] _ (number_taken_is said.0).0 (number_taken_is said.0).1 (number_taken_is said.0).2
-      (λ db. refl) (λ r. refl) test
-      (nth_agrees entrant round number n) old new rows out said.1 shown is (values (world_of db).answers) whole in
+      let same = records_asked (queries.number_taken_is entrant round number n said.0) old new rows out said.1 shown is
+      test (nth_agrees entrant round number n) (values (world_of db).answers) whole in
       any_is (length out) empty _ none
       (λ some. let one = one_passes test (answers db) out same some in passes_taken db entrant round number n one.0
       one.1 one.2)

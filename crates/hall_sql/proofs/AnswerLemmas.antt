@@ -1,6 +1,6 @@
 -- What the statements on answers say of the world.
 use Rattle.std.proofs.Common.{◌&&◌, inr, flat_map, option_to_list, Bool, true, sym, subst, ◌∙◌, ◌≡◌, ◌≤◌, ℕ, pos, List}
-use Rattle.std.proofs.Common.{[], ◌∷◌, length, map, slice_get, Option, Some, refl, ap}
+use Rattle.std.proofs.Common.{[], ◌∷◌, length, map, slice_get, Option, Some, ap}
 use Rattle.std.specs.List.{list_all}
 use Rattle.std.specs.Ordering.{eq_by_cmp}
 use Rattle.std.specs.FinMap.{get}
@@ -14,7 +14,6 @@ use Rattle.hall_grid.specs.Printable.{is_printable}
 use Rattle.hall_policy.specs.Text.{is_word_byte}
 use Rattle.hall_policy.specs.World.{answer_cmp}
 use Rattle.std.specs.Ordering.{nat_cmp}
-use Rattle.std.specs.declared.cmp.Ordering.{Ordering}
 use Rattle.std.specs.Cmp.Lexicographic.{slice_cmp}
 use Rattle.std.specs.List.Sorted.{IsPermutation}
 use Rattle.std.specs.FinMap.{values}
@@ -24,30 +23,27 @@ use Rattle.sqlite_value.proofs.OrderLemmas.{value_cmp-Text, value_cmp-Int}
 use Rattle.sqlite_schema.specs.Rules.{agree}
 use Rattle.sqlite_rules.proofs.ListLemmas.{all_has}
 use Rattle.sqlite.specs.Effect.{IsDatabase}
-use Rattle.sqlite.specs.Query.{output, output_cmp}
 use Rattle.sqlite.specs.Table.{Table}
 use Rattle.sqlite.specs.Term.{Term}
 use Rattle.sqlite.specs.Tree.{Trees}
 use Rattle.hall_store.specs.Store.{IsListing, listing_cmp, is_between, is_in, is_of}
-use Rattle.hall_sql.specs.Bounds.{between_params, text_before, text_up_to}
+use Rattle.hall_sql.specs.Bounds.{text_before, text_up_to}
 use Rattle.hall_sql.proofs.BoundLemmas.{column_above, column_up_to, is_name, name_after, name_read, name_up_to}
 use Rattle.hall_sql.specs.Tables.{IsHallSchema, table_at}
 use Rattle.hall_sql.proofs.Wordings.{Wording, hall_in, worded}
-use Rattle.hall_sql.specs.Rows.{columns_from}
-use Rattle.hall_sql.specs.Standing.{AreKeyed, AreKeyedIn, IsSelection}
-use Rattle.hall_sql.specs.Statements.{equals, plain_query}
+use Rattle.hall_sql.specs.Standing.{AreKeyed, AreKeyedIn}
+use Rattle.hall_sql.specs.Statements.{equals}
 use Rattle.hall_sql.specs.declared.answers.TheConstants.{ANSWERS_IN, ANSWERS_OF, ALL_ANSWERS, ANSWER}
-use Rattle.hall_sql.proofs.AnswerTexts.{between_terms, listing_order, answers_in_is, answers_of_is}
-use Rattle.hall_sql.proofs.CallLemmas.{answers_selection}
+use Rattle.hall_sql.proofs.AnswerTexts.{all_answers, all_answers_are, answer, answer_is, answers_between, answers_in}
+use Rattle.hall_sql.proofs.AnswerTexts.{answers_in_is}
+use Rattle.hall_sql.proofs.AnswerTexts.{answers_of, answers_of_is, listing}
 use Rattle.hall_sql.proofs.ColumnLemmas.{int_as_nat, and_true, column_same}
-use Rattle.hall_sql.proofs.SortedLemmas.{sorted_records, selection_of_values}
 use Rattle.hall_sql.proofs.UniqueLemmas.{equal_texts, equal_numbers, records_listed}
 use Rattle.hall_policy.proofs.Orders.{answer_total, same_answer_keys}
 use Rattle.hall_policy.specs.declared.record.AnswerKey.{AnswerKey}
 use Rattle.hall_policy.specs.declared.record.AnswerRow.{AnswerRow}
 use Rattle.hall_sql.specs.Values.{name_in, token_in, within, kind_in, verdict_in}
 use Rattle.hall_sql.specs.Rows.{answer_in, answer_of_row, world_of}
-use Rattle.hall_sql.proofs.AnswerTexts.{all_answers_are, key_order, key_terms, answer_columns, answer_is}
 use Rattle.hall_sql.proofs.ColumnLemmas.{kind_column, number_column, column_equals, column_is, last_equal, more_equal}
 use Rattle.hall_sql.proofs.FoundLemmas.{asked_found}
 use Rattle.hall_sql.proofs.RecordParts.{answer_parts_of}
@@ -55,7 +51,8 @@ use Rattle.hall_sql.specs.Versions.{IsVersion}
 use Rattle.sqlite.specs.Schema.{Schema}
 use Rattle.hall_sql.specs.declared.tables.HallTable.TheVariants.{Answers}
 use Rattle.hall_sql.proofs.Versions.{all_listed, keyed_in, unique_in}
-use Rattle.hall_sql.proofs.ListedLemmas.{by_order as ordered_by}
+use Rattle.hall_sql.proofs.ListedLemmas.{records_asked, records_sorted}
+use Rattle.hall_sql.proofs.Queries.{Computes, by_order, passes, query}
 
 -- the columns of an answer that listings are ordered by
 pub record HasColumns (r : Row) (row : AnswerRow) : Type 0 where
@@ -80,12 +77,9 @@ has_columns r row is =
       named = name_read (column r 1) row.key.entrant it.entrant;
     }
 
-abbrev pub key_params : AnswerKey → Row
-key_params key = Text key.entrant ∷ Text key.round ∷ Int (pos key.number) ∷ Text key.token ∷ []
-
 -- WHERE entrant = ?1 AND round = ?2 AND number = ?3 AND token = ?4 asks for the key
 agrees : (key : AnswerKey) (r : Row) (row : AnswerRow) → answer_of_row r ≡ Some row
-    → list_all (holds (key_params key ∷ r ∷ [])) key_terms ≡ eq_by_cmp answer_cmp row.key key
+    → passes (answer key) r ≡ eq_by_cmp answer_cmp row.key key
 agrees key r row is =
     let it = has_columns r row is in
     more_equal _ _ _ _ (column_equals (column r 1) row.key.entrant key.entrant it.entrant)
@@ -95,13 +89,12 @@ agrees key r row is =
 
 pub answer_found : (key : AnswerKey) (old new : State) (rows : List Row) (out : List AnswerRow)
     → IsHallSchema old.now.schema
-    → Shown ANSWER.now (key_params key) old new rows → map answer_in rows ≡ map Some out → length out ≤ 1
+    → Shown ANSWER.now (answer key).params old new rows → map answer_in rows ≡ map Some out → length out ≤ 1
     → slice_get out 0 ≡ get (world_of old.now.trees).answers key
 answer_found key old new rows out has =
     let (u, words) = worded old.now.schema has in
-    asked_found answer_total same_answer_keys (λ (row : AnswerRow). row.key) answer_in 8 key ANSWER.now (key_params key)
-    9 key_terms answer_columns _
-    (answer_is u).0 (answer_is u).1 (answer_is u).2 (λ db. refl) (λ r. refl) (agrees key) old new rows out words
+    asked_found answer_total same_answer_keys (answer_is key u) (λ (row : AnswerRow). row.key) key (agrees key) old new
+    rows out words
 
 -- ---- listings
 
@@ -140,17 +133,11 @@ answers_listed {schema} version db keyed sound =
     (db 9) keyed agreeing
     (λ r h. all_has _ (db 9) r rule h)
 
--- ORDER BY entrant, number, n, token
-abbrev pub by_order : Row → List Term → Row → Row → Ordering
-by_order params terms a b =
-    let q = plain_query 9 terms answer_columns listing_order in
-    output_cmp q (output q (params ∷ a ∷ [])) (output q (params ∷ b ∷ []))
-
--- it is the order of listings
-pub same_order : (params : Row) (terms : List Term) (a b : Row) (x y : AnswerRow) → answer_of_row a ≡ Some x
-    → answer_of_row b ≡ Some y
-    → by_order params terms a b ≡ listing_cmp x y
-same_order params terms a b x y p q =
+-- ORDER BY entrant, number, n, token is the order of listings
+pub same_order : (text : List ℕ) (params : Row) (terms : List Term) (a b : Row) (x y : AnswerRow)
+    → answer_of_row a ≡ Some x → answer_of_row b ≡ Some y
+    → by_order (query Answers text params terms listing) a b ≡ listing_cmp x y
+same_order text params terms a b x y p q =
     let one = has_columns a x p in
     let two = has_columns b y q in
     rw (
@@ -173,7 +160,7 @@ same_order params terms a b x y p q =
 
 -- ORDER BY entrant, round, number, token is the order of keys
 by_key : (a b : Row) (x y : AnswerRow) → answer_of_row a ≡ Some x → answer_of_row b ≡ Some y
-    → ordered_by 9 [] answer_columns key_order [] a b ≡ answer_cmp x.key y.key
+    → by_order all_answers a b ≡ answer_cmp x.key y.key
 by_key a b x y p q =
     let one = has_columns a x p in
     let two = has_columns b y q in
@@ -203,9 +190,8 @@ all_answers_listed schema version old new has keyed sound =
     let db = old.now.trees in
     let whole = answers_listed version db (keyed_in schema Answers db version keyed)
     (subst (λ s. IsDatabase (record { schema = s; trees = db })) has sound) in
-    all_listed (all_answers_are schema version) answer_total same_answer_keys (λ (row : AnswerRow). row.key) answer_in 8
-    (λ db. refl) (λ r. refl)
-    by_key old new has whole
+    all_listed (all_answers_are schema version) answer_total same_answer_keys (λ (row : AnswerRow). row.key) by_key old
+    new has whole
 
 -- what a query in the order of listings gives of the world's answers
 module _ (old new : State) (has : IsHallSchema old.now.schema) (keyed : AreKeyed (old.now.trees 9))
@@ -214,34 +200,30 @@ module _ (old new : State) (has : IsHallSchema old.now.schema) (keyed : AreKeyed
   said : (u : Wording) × (old.now.schema ≡ hall_in u)
   said = worded old.now.schema has
 
-  listed_by : (params : Row) (terms : List Term) (test : AnswerRow → Bool)
-      → ((r : Row) (x : AnswerRow) → answer_of_row r ≡ Some x → list_all (holds (params ∷ r ∷ [])) terms ≡ test x)
-      → IsSelection (plain_query 9 terms answer_columns listing_order) (old.now.trees 9) params rows
-      → IsListing (world_of old.now.trees) test out
-  listed_by params terms test agrees sel =
-      let shown : map answer_in (map (columns_from 1 8) sel.found) ≡ map Some out = subst
-      (λ l. map answer_in l ≡ map Some out) sel.shown is in
+  listed_by : {text : List ℕ} {params : Row} {terms : List Term}
+      → ((u : Wording) → Computes (query Answers text params terms listing) (hall_in u))
+      → (test : AnswerRow → Bool)
+      → ((r : Row) (x : AnswerRow) → answer_of_row r ≡ Some x
+      → passes (query Answers text params terms listing) r ≡ test x)
+      → Shown text params old new rows → IsListing (world_of old.now.trees) test out
+  listed_by {text} {params} {terms} computes test agrees shown =
       let db = old.now.trees in
-      let whole = answers_listed {schema = old.now.schema} (inr has) db keyed sound in
       record {
-        whole = selection_of_values answer_in (columns_from 1 8) (λ r. list_all (holds (params ∷ r ∷ [])) terms) test
-            agrees (db 9) sel.found out (values (world_of db).answers) sel.same shown whole;
-        in_order = sorted_records answer_of_row (by_order params terms) listing_cmp (same_order params terms) sel.found
-            out (read_through sel.found ∙ shown) sel.sorted;
+        whole = records_asked (computes said.0) old new rows out said.1 shown is test agrees
+            (values (world_of db).answers)
+            (answers_listed {schema = old.now.schema} (inr has) db keyed sound);
+        in_order = records_sorted (computes said.0) old new rows out said.1 shown is listing_cmp
+            (same_order text params terms);
       }
-    where
-      read_through : (l : List Row) → map answer_of_row l ≡ map answer_in (map (columns_from 1 8) l)
-      read_through [] = refl
-      read_through (r ∷ l) = ap (λ k. answer_of_row r ∷ k) (read_through l)
 
   pub in_agrees : (round : List ℕ) (r : Row) (x : AnswerRow) → answer_of_row r ≡ Some x
-      → list_all (holds ((Text round ∷ []) ∷ r ∷ [])) (equals 2 0 ∷ []) ≡ is_in round x
+      → passes (answers_in round) r ≡ is_in round x
   in_agrees round r x h = and_true _ ∙ column_same (column r 2) x.key.round round (has_columns r x h).round
 
   -- so does round = ?1 AND entrant > ?2 AND entrant <= ?3
   pub between_agrees : (round : List ℕ) (after last : Option (List ℕ)) (r : Row) (x : AnswerRow)
       → answer_of_row r ≡ Some x
-      → list_all (holds (between_params round after last ∷ r ∷ [])) between_terms ≡ is_between round after last x
+      → passes (answers_between round after last) r ≡ is_between round after last x
   between_agrees round after last r x h =
       let it = has_columns r x h in
       let entrant = x.key.entrant in
@@ -253,8 +235,7 @@ module _ (old new : State) (has : IsHallSchema old.now.schema) (keyed : AreKeyed
       both {a} {b} {c} {d} p q = ap (λ x. x && b) p ∙ ap (λ x. c && x) q
 
   of_agrees : (entrant round : List ℕ) (r : Row) (x : AnswerRow) → answer_of_row r ≡ Some x
-      → list_all (holds ((Text entrant ∷ Text round ∷ []) ∷ r ∷ [])) (equals 2 1 ∷ equals 1 0 ∷ []) ≡ is_of entrant
-      round x
+      → passes (answers_of entrant round) r ≡ is_of entrant round x
   of_agrees entrant round r x h =
       let it = has_columns r x h in
       ap (λ b. b && (list_all (holds ((Text entrant ∷ Text round ∷ []) ∷ r ∷ [])) (equals 1 0 ∷ [])))
@@ -263,16 +244,9 @@ module _ (old new : State) (has : IsHallSchema old.now.schema) (keyed : AreKeyed
 
   pub answers_in_listed : (round : List ℕ) → Shown ANSWERS_IN.now (Text round ∷ []) old new rows
       → IsListing (world_of old.now.trees) (is_in round) out
-  answers_in_listed round shown =
-      listed_by (Text round ∷ []) (equals 2 0 ∷ []) (is_in round) (in_agrees round)
-      (answers_selection ANSWERS_IN.now (Text round ∷ []) old new 9 (equals 2 0 ∷ []) answer_columns listing_order _
-      (answers_in_is said.0).0 (answers_in_is said.0).1 (answers_in_is said.0).2 refl said.1 rows shown)
+  answers_in_listed round = listed_by (answers_in_is round) (is_in round) (in_agrees round)
 
   pub answers_of_listed : (entrant round : List ℕ) → Shown ANSWERS_OF.now (Text entrant ∷ Text round ∷ []) old new rows
       → IsListing (world_of old.now.trees) (is_of entrant round) out
-  answers_of_listed entrant round shown =
-      listed_by (Text entrant ∷ Text round ∷ []) (equals 2 1 ∷ equals 1 0 ∷ []) (is_of entrant round)
-      (of_agrees entrant round)
-      (answers_selection ANSWERS_OF.now (Text entrant ∷ Text round ∷ []) old new 9 (equals 2 1 ∷ equals 1 0 ∷ [])
-      answer_columns listing_order _ (answers_of_is said.0).0 (answers_of_is said.0).1 (answers_of_is said.0).2 refl
-      said.1 rows shown)
+  answers_of_listed entrant round =
+      listed_by (answers_of_is entrant round) (is_of entrant round) (of_agrees entrant round)

@@ -7,18 +7,11 @@ use Rattle.std.proofs.lemmas.Grind.{flat_map-append}
 use Rattle.std.specs.Prelude.{Contains}
 use Rattle.sqlite_trees.specs.View.{doubt}
 use Rattle.sqlite_trees.specs.declared.store.Store.{Ghosts}
-use Rattle.sqlite_value.specs.declared.keys.Key.{Key}
-use Rattle.sqlite.specs.declared.types.Value.TheVariants.{Null, Text}
-use Rattle.sqlite.specs.Command.TheVariants.{Select}
+use Rattle.sqlite.specs.declared.types.Value.TheVariants.{Text}
 use Rattle.sqlite.specs.Effect.{Database, IsDatabase}
 use Rattle.sqlite.specs.Held.{state}
-use Rattle.sqlite.specs.Listing.{understood, reads_listing}
 use Rattle.sqlite.specs.Order.{Row}
-use Rattle.sqlite.specs.Program.{overlay}
 use Rattle.sqlite.specs.State.{State, HasCleanDisk}
-use Rattle.sqlite.specs.Term.{Term}
-use Rattle.sqlite.specs.Tree.{Trees}
-use Rattle.sqlite.proofs.Callers.{IsPlain, command_of, begins_as}
 use Rattle.hall_policy.specs.World.{World}
 use Rattle.hall_policy.specs.declared.record.AnswerRow.{AnswerRow}
 use Rattle.hall_policy.specs.declared.record.Person.{Person}
@@ -43,8 +36,7 @@ use Rattle.hall_sql.specs.Columns.{answer_params, person_params, protest_params}
 use Rattle.hall_sql.specs.Content.{content_of}
 use Rattle.hall_sql.specs.Feed.{IsTurnedAway}
 use Rattle.hall_sql.specs.Rows.{place_in, protest_in, puzzle_row_in, round_in, tester_in, world_of}
-use Rattle.hall_sql.specs.Standing.{IsHall, IsSelection, KeptTables, KeptRows}
-use Rattle.hall_sql.specs.Statements.{plain_query}
+use Rattle.hall_sql.specs.Standing.{IsHall, KeptTables, KeptRows}
 use Rattle.hall_sql.specs.Tables.{IsHallSchema}
 use Rattle.hall_sql.specs.FillCause.{AddAnswersFails}
 use Rattle.hall_sql.specs.WriteCause.{ImportFails, IsStatementRefused, IsUnknown, PersonIsRefused, PuzzleIsRefused}
@@ -58,10 +50,15 @@ use Rattle.hall_sql.specs.declared.testers.TheConstants.{TESTERS_OF}
 use Rattle.hall_sql.proofs.CallLemmas.{shown_was_open}
 use Rattle.hall_sql.proofs.ContentLemmas.{all_read}
 use Rattle.hall_sql.proofs.FeedLemmas.{Lists, records}
-use Rattle.hall_sql.proofs.Selections.{selected}
+use Rattle.hall_sql.proofs.Queries.{Computes, RecordOf, TableQuery, begun, record_in}
 use Rattle.hall_sql.proofs.StoreLemmas.{rested_stayed}
-use Rattle.hall_sql.proofs.UnreadRows.{BeginsUnread, TellsUnread, head_unread, person_unread, places_of_unread}
-use Rattle.hall_sql.proofs.UnreadRows.{protest_unread, puzzle_unread, testers_of_unread}
+use Rattle.hall_sql.proofs.UnreadRows.{TellsUnread, begins_unread, unread}
+use Rattle.hall_sql.proofs.HeadTexts.{head_is}
+use Rattle.hall_sql.proofs.PeopleTexts.{person_is}
+use Rattle.hall_sql.proofs.ProtestTexts.{protest_is}
+use Rattle.hall_sql.proofs.PuzzleTexts.{puzzle_is}
+use Rattle.hall_sql.proofs.RoundQueries.{places_of_is}
+use Rattle.hall_sql.proofs.TesterTexts.{testers_of_is}
 use Rattle.hall_sql.proofs.Wordings.{Wording, hall_in, worded}
 
 -- ---- reasons
@@ -131,19 +128,19 @@ of_hall s hall clean opens = (hall.settled clean opens).1
 
 of_rows : {X : Type 0} (read : Row → Option X) (sql : List ℕ) (params : Row) → TellsUnread read sql params
     → (old new : State) → IsHall old → HasCleanDisk old → ReadFails read sql params old new → IsBad old new
-of_rows read sql params unread old new hall clean (inl cause) = inl cause
-of_rows read sql params unread old new hall clean (inr it) =
+of_rows read sql params tells old new hall clean (inl cause) = inl cause
+of_rows read sql params tells old new hall clean (inr it) =
     let has = of_hall old hall clean (shown_was_open sql params old new it.0 it.1) in
-    inr (unread old new it.0 has it.1 it.2)
+    inr (tells old new it.0 has it.1 it.2)
 
 of_round : (id : List ℕ) (old new : State) → IsHall old → HasCleanDisk old → RoundFails id old new
     → IsBad old new ⊎ HasNoRound (world_of old.now.trees) id
 of_round id old new hall clean (inl head) = inl
-    (of_rows round_in HEAD.now (Text id ∷ []) (head_unread id) old new hall clean head)
+    (of_rows round_in HEAD.now (Text id ∷ []) (unread (head_is id)) old new hall clean head)
 of_round id old new hall clean (inr (inl places)) = inl
-    (of_rows place_in PLACES_OF.now (Text id ∷ []) (places_of_unread id) old new hall clean places)
+    (of_rows place_in PLACES_OF.now (Text id ∷ []) (unread (places_of_is id)) old new hall clean places)
 of_round id old new hall clean (inr (inr (inl testers))) = inl
-    (of_rows tester_in TESTERS_OF.now (Text id ∷ []) (testers_of_unread id) old new hall clean testers)
+    (of_rows tester_in TESTERS_OF.now (Text id ∷ []) (unread (testers_of_is id)) old new hall clean testers)
 of_round id old new hall clean (inr (inr (inr none))) = inr none
 
 module _ {old new : State} (hall : IsHall old) (rested : KeptTables old new) where
@@ -178,9 +175,9 @@ module _ {old new : State} (hall : IsHall old) (rested : KeptTables old new) whe
     pub read_fault : {X : Type 0} (read : Row → Option X) (sql : List ℕ) (params : Row) → TellsUnread read sql params
         → (HasCleanDisk new → Fails (ReadFails read sql params old new) result)
         → Fails (CanFailIn (content_of old) (content_of new)) result
-    read_fault read sql params unread cause =
+    read_fault read sql params tells cause =
         by_reason KeepsUnread result (ReadFails read sql params old new) old new cause
-        (λ clean why. by_read (of_rows read sql params unread old new hall (was_clean clean) why))
+        (λ clean why. by_read (of_rows read sql params tells old new hall (was_clean clean) why))
 
     pub round_fault : (id : List ℕ) → (HasCleanDisk new → Fails (RoundFails id old new) result)
         → Fails (RoundCanFail id (content_of old) (content_of new)) result
@@ -200,29 +197,24 @@ last_there : (rows : List Row) (row : Row) → Contains (rows ++ row ∷ []) row
 last_there [] row = (0, omega arith, refl)
 last_there (r ∷ rows) row = let it = last_there rows row in (suc it.0, omega (arith, it.1), it.2)
 
-module _ {X : Type 0} (read : Row → Option X) (sql : List ℕ) (params : Row) (tree : ℕ)
-    (terms project : List Term) (order : List (Term × Key)) (names : List (List ℕ))
-    (is : (u : Wording) → command_of (understood (hall_in u) sql)
-    ≡ Select (record { lets = []; body = plain_query tree terms project order }) names)
-    (unlisted : (u : Wording) → reads_listing (hall_in u) sql ≡ false)
-    (plain : (u : Wording) → IsPlain (understood (hall_in u) sql))
-    (apart : (db : Trees) → overlay db [] tree ≡ db tree) (unread : BeginsUnread read sql params) where
-  module _ {K : Type 0} (Takes : K → X → K → Type 0) (Refuses : K → X → Type 0) (AreRows : World → List X → Type 0)
+module _ {q : TableQuery} (computes : (u : Wording) → Computes q (hall_in u)) where
+  module _ {K : Type 0} (Takes : K → RecordOf q.table → K → Type 0) (Refuses : K → RecordOf q.table → Type 0)
+      (AreRows : World → List (RecordOf q.table) → Type 0)
       {old new : State} (before after : K) (hall : IsHall old) (rested : KeptTables old new)
-      (sound : IsTrue old.is_open → IsDatabase old.now) (lists : Lists read tree terms project order params old.now
-      AreRows) where
+      (sound : IsTrue old.is_open → IsDatabase old.now) (lists : Lists q old.now AreRows) where
+    abbrev read : Row → Option (RecordOf q.table)
+    read = record_in q.table
+
     -- the answer goes on after the row at which the sink stopped
     goes_on : IsHallSchema old.now.schema → HasCleanDisk old → IsTrue old.is_open
-        → (it : StopsAtRow read Takes Refuses sql params old before after) → (x : X) → read it.row ≡ Some x
-        → (left : List X) × AreRows (world_of old.now.trees) (it.taken ++ x ∷ left)
+        → (it : StopsAtRow read Takes Refuses q.text q.params old before after)
+        → (x : RecordOf q.table) → read it.row ≡ Some x
+        → (left : List (RecordOf q.table)) × AreRows (world_of old.now.trees) (it.taken ++ x ∷ left)
     goes_on has clean opens it x is_x =
         let (u, words) = worded old.now.schema has in
         let rows = it.rows ++ it.row ∷ [] in
-        let begun = begins_as sql params old old (hall_in u) words _ (is u) (plain u) (unlisted u) rows it.begun in
-        let tail = begun.1.0 in
-        let sel = subst (λ t. IsSelection (plain_query tree terms project order) t params (rows ++ tail))
-        (apart old.now.trees)
-        (selected tree terms project order (overlay old.now.trees []) params (rows ++ tail) (begun.1.1 Null)) in
+        let begins = begun (computes u) old rows words it.begun in
+        let tail = begins.0 in
         let last : records read (it.row ∷ []) ≡ x ∷ [] = rw is_x refl in
         let first : records read rows ≡ it.taken ++ x ∷ [] =
         flat_map-append (λ r. option_to_list (read r)) it.rows (it.row ∷ [])
@@ -233,10 +225,10 @@ module _ {X : Type 0} (read : Row → Option X) (sql : List ℕ) (params : Row) 
         ∙ append_assoc it.taken (x ∷ []) (records read tail) in (
           records read tail,
           subst (AreRows (world_of old.now.trees)) all (lists has (hall.keyed clean opens) (sound opens) (rows ++ tail)
-              sel),
+              begins.1),
         )
 
-    of_feed : HasCleanDisk new → FeedFails read Takes Refuses sql params old new before after
+    of_feed : HasCleanDisk new → FeedFails read Takes Refuses q.text q.params old new before after
         → CanFailIn (content_of old) (content_of new)
         ⊎ IsRefusedNext Takes Refuses AreRows (content_of old) (content_of new) before after
     of_feed clean (inl cause) = inl (by_store KeepsUnread old new (rested_stayed rested) cause)
@@ -251,7 +243,8 @@ module _ {X : Type 0} (read : Row → Option X) (sql : List ℕ) (params : Row) 
         turned opens (inl none) =
             let has = of_hall old hall was (rested.follows.opened clean opens) in
             inl (by_tables KeepsUnread old new (rested_stayed rested)
-            (unread old (it.rows ++ it.row ∷ []) has it.begun (it.row, last_there it.rows it.row, none)))
+            (begins_unread computes old (it.rows ++ it.row ∷ []) has it.begun
+            (it.row, last_there it.rows it.row, none)))
         turned opens (inr refused) =
             let opened = rested.follows.opened clean opens in
             let has = of_hall old hall was opened in
@@ -270,7 +263,7 @@ module _ {X : Type 0} (read : Row → Option X) (sql : List ℕ) (params : Row) 
         at_open false is = inl (inr (λ late. inl is))
 
     pub fed_fault : (result : Result (Unit {0}) StoreFault)
-        → (HasCleanDisk new → Fails (FeedFails read Takes Refuses sql params old new before after) result)
+        → (HasCleanDisk new → Fails (FeedFails read Takes Refuses q.text q.params old new before after) result)
         → IfErr result (λ fault. fault ≡ Failed → CanFailIn (content_of old) (content_of new)
         ⊎ IsRefusedNext Takes Refuses AreRows (content_of old) (content_of new) before after)
     fed_fault (Ok done) cause = tt
@@ -320,7 +313,7 @@ read_told (inr bad) = inr (inl bad)
 person_told : (person : Person) (mid left : State) → IsHallSchema mid.now.schema → PersonIsRefused person mid left
     → KeepsUnread mid.now ⊎ (IsUnknown person.name mid.now
     × IsStatementRefused ADD_PERSON.now (person_params person) mid.now)
-person_told person mid left has (inl it) = inl (person_unread person.name mid left it.0 has it.1 it.2)
+person_told person mid left has (inl it) = inl (unread (person_is person.name) mid left it.0 has it.1 it.2)
 person_told person mid left has (inr it) = inr it
 
 module _ {R : Type 0} (old new : State) (result : Result R StoreFault) (hall : IsHall old) where
@@ -358,7 +351,7 @@ module _ {R : Type 0} (old new : State) (result : Result R StoreFault) (hall : I
       go : HasCleanDisk old → SetStateFails key known old new → IsTold (SetState key known) old new
       go was (inl find) =
           read_told (of_rows puzzle_row_in PUZZLE.now (Text key.author ∷ Text key.label ∷ [])
-          (puzzle_unread key.author key.label) old new hall was find)
+          (unread (puzzle_is key)) old new hall was find)
       go was (inr it) = put (put_told (record it.0 { state = known }) old new it.2)
         where
           put : IsStoreCause old new ⊎ RefusesPuzzle (record it.0 { state = known }) old.now
@@ -379,7 +372,8 @@ module _ {R : Type 0} (old new : State) (result : Result R StoreFault) (hall : I
       change_fault (SetRoundFlag id flag) old new result (SetFlagFails id flag old new) stayed cause go
     where
       go : HasCleanDisk old → SetFlagFails id flag old new → IsTold (SetRoundFlag id flag) old new
-      go was (inl find) = read_told (of_rows round_in HEAD.now (Text id ∷ []) (head_unread id) old new hall was find)
+      go was (inl find) =
+          read_told (of_rows round_in HEAD.now (Text id ∷ []) (unread (head_is id)) old new hall was find)
       go was (inr (round, kept, inl cause)) = inl cause
       go was (inr (round, kept, inr refused)) = inr (inr (round, kept, refused))
 
@@ -414,6 +408,6 @@ module _ {R : Type 0} (old new : State) (result : Result R StoreFault) (hall : I
       go : HasCleanDisk old → RuleFails key ruling old new → IsTold (RuleProtest key ruling) old new
       go was (inl find) =
           read_told (of_rows protest_in PROTEST.now (Text key.entrant ∷ Text key.round ∷ Text key.token ∷ [])
-          (protest_unread key.entrant key.round key.token) old new hall was find)
+          (unread (protest_is key)) old new hall was find)
       go was (inr (row, kept, inl cause)) = inl cause
       go was (inr (row, kept, inr refused)) = inr (inr (row, kept, refused))

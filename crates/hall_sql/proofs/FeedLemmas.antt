@@ -1,24 +1,18 @@
 -- What a sink has taken of the rows that a query gives.
-use Rattle.std.proofs.Common.{◌≡◌, ◌⊎◌, inl, inr, ℕ, List, [], ◌∷◌, ◌++◌, map, flat_map, false, Option, Some, None}
+use Rattle.std.proofs.Common.{◌≡◌, ◌⊎◌, inl, inr, ℕ, List, [], ◌∷◌, ◌++◌, map, flat_map, Option, Some, None}
 use Rattle.std.proofs.Common.{Result, Ok, Err, IfOk, IsTrue, option_to_list, refl, sym, ap, subst, ◌∙◌, arith}
 use Rattle.std.proofs.lemmas.Grind.{flat_map-append}
 use Rattle.std.proofs.lemmas.List.{map-append}
 use Rattle.std.specs.Result.{IsErrAnd}
 use Rattle.sqlite_trees.specs.declared.store.Store.{Ghosts}
-use Rattle.sqlite.specs.declared.types.Value.TheVariants.{Null}
 use Rattle.sqlite.specs.Order.{Row}
-use Rattle.sqlite.specs.Term.{Term}
-use Rattle.sqlite_value.specs.declared.keys.Key.{Key}
 use Rattle.sqlite.specs.Effect.{Database, IsDatabase}
-use Rattle.sqlite.specs.Tree.{Trees}
-use Rattle.sqlite.specs.Program.{overlay}
 use Rattle.sqlite.specs.Held.{Held, state}
 use Rattle.sqlite.specs.Given.{HasBegun, Advances}
 use Rattle.sqlite.specs.Clock.{timed}
 use Rattle.sqlite.specs.Listing.{understood, reads_listing, IsSourceOf}
-use Rattle.sqlite.specs.Command.TheVariants.{Select}
 use Rattle.sqlite.specs.State.{State, HasCleanDisk, IsUnchanged, Shown, ShowsRows}
-use Rattle.sqlite.proofs.Callers.{IsPlain, command_of, begins_as, given_begin, begun_plain, unchanged_then}
+use Rattle.sqlite.proofs.Callers.{IsPlain, given_begin, begun_plain, unchanged_then}
 use Rattle.hall_policy.specs.World.{World}
 use Rattle.hall_policy.specs.Sink.{HasTaken}
 use Rattle.hall_store.specs.Store.{Fed}
@@ -26,14 +20,14 @@ use Rattle.sqlite.specs.Schema.{Schema}
 use Rattle.hall_sql.specs.Tables.{IsHallSchema, IsLike}
 use Rattle.hall_sql.proofs.Wordings.{Wording, hall_in, worded}
 use Rattle.hall_sql.specs.Rows.{world_of}
-use Rattle.hall_sql.specs.Statements.{plain_query}
+use Rattle.hall_sql.specs.Scan.{tree_of}
 use Rattle.hall_sql.specs.Standing.{AreAllKeyed, IsHall, IsTabled, KeptOrRolledBack, KeptTables, IsSelection}
 use Rattle.hall_sql.specs.Content.{content_of}
 use Rattle.hall_sql.specs.Feed.{HasRead, AreAll, AreFirst, FedRows}
 use Rattle.hall_sql.specs.Whole.{AreRecords}
-use Rattle.hall_sql.proofs.CallLemmas.{answers_selection, shown_was_open}
+use Rattle.hall_sql.proofs.CallLemmas.{shown_was_open}
 use Rattle.hall_sql.proofs.ContentLemmas.{all_read}
-use Rattle.hall_sql.proofs.Selections.{selected}
+use Rattle.hall_sql.proofs.Queries.{Computes, RecordOf, TableQuery, begun, body_of, record_in, selection}
 
 -- ---- a connection that is read on
 
@@ -134,43 +128,34 @@ module _ {S X : Type 0} (g : Ghosts S) (read : Row → Option X) (sql : List ℕ
 abbrev pub records : {X : Type 0} → (Row → Option X) → List Row → List X
 records read = flat_map (λ row. option_to_list (read row))
 
--- the rows that a query of one table selects, are the records that these worlds' listings ask for
-abbrev pub Lists : {X : Type 0} → (Row → Option X) → ℕ → List Term → List Term → List (Term × Key) → Row → Database →
-    (World → List X → Type 0) → Type 0
-Lists read tree terms project order params db AreRows =
+-- the rows that the query selects, are the records that these worlds' listings ask for
+abbrev pub Lists : (q : TableQuery) → Database → (World → List (RecordOf q.table) → Type 0) → Type 0
+Lists q db AreRows =
     IsHallSchema db.schema → AreAllKeyed db.trees → IsDatabase db → (rows : List Row)
-    → IsSelection (plain_query tree terms project order) (db.trees tree) params rows
-    → AreRows (world_of db.trees) (records read rows)
+    → IsSelection (body_of q) (db.trees (tree_of q.table)) q.params rows
+    → AreRows (world_of db.trees) (records (record_in q.table) rows)
 
-module _ {S X : Type 0} (g : Ghosts S) (read : Row → Option X) (sql : List ℕ) (params : Row) (tree : ℕ)
-    (terms project : List Term) (order : List (Term × Key)) (names : List (List ℕ))
-    (is : (u : Wording) → command_of (understood (hall_in u) sql)
-    ≡ Select (record { lets = []; body = plain_query tree terms project order }) names)
-    (unlisted : (u : Wording) → reads_listing (hall_in u) sql ≡ false)
-    (plain : (u : Wording) → IsPlain (understood (hall_in u) sql))
-    (apart : (db : Trees) → overlay db [] tree ≡ db tree) where
-  module _ (AreRows : World → List X → Type 0) (s : State) (has : IsHallSchema s.now.schema)
-      (keyed : AreAllKeyed s.now.trees) (sound : IsDatabase s.now)
-      (lists : Lists read tree terms project order params s.now AreRows) (taken : List X) where
-    all_listed : (new : State) → AreAll read sql params s new taken → AreRows (world_of s.now.trees) taken
+module _ {q : TableQuery} (computes : (u : Wording) → Computes q (hall_in u)) {S : Type 0} (g : Ghosts S) where
+  module _ (AreRows : World → List (RecordOf q.table) → Type 0) (s : State) (has : IsHallSchema s.now.schema)
+      (keyed : AreAllKeyed s.now.trees) (sound : IsDatabase s.now) (lists : Lists q s.now AreRows)
+      (taken : List (RecordOf q.table)) where
+    all_listed : (new : State) → AreAll (record_in q.table) q.text q.params s new taken
+        → AreRows (world_of s.now.trees) taken
     all_listed new all =
         let (u, words) = worded s.now.schema has in
-        let sel = answers_selection sql params s new tree terms project order names (is u) (unlisted u) (plain u)
-        (apart s.now.trees) words all.rows all.shown in
-        subst (AreRows (world_of s.now.trees)) (all_read read all.rows taken all.reads)
-        (lists has keyed sound all.rows sel)
+        subst (AreRows (world_of s.now.trees)) (all_read (record_in q.table) all.rows taken all.reads)
+        (lists has keyed sound all.rows (selection (computes u) s new all.rows words all.shown))
 
-    first_listed : AreFirst g read sql params s taken → (left : List X) × AreRows (world_of s.now.trees) (taken ++ left)
+    first_listed : AreFirst g (record_in q.table) q.text q.params s taken
+        → (left : List (RecordOf q.table)) × AreRows (world_of s.now.trees) (taken ++ left)
     first_listed first =
+        let read = record_in q.table in
         let at = state g first.from in
         let (u, words) = worded s.now.schema has in
-        let begun = begins_as sql params at at (hall_in u) (ap (λ (d : Database). d.schema) first.same ∙ words) _ (is u)
-        (plain u)
-        (unlisted u) first.rows first.begun in
-        let tail = begun.1.0 in
-        let answer = subst (λ t. IsSelection (plain_query tree terms project order) t params (first.rows ++ tail))
-        (apart at.now.trees ∙ ap (λ (d : Database). d.trees tree) first.same)
-        (selected tree terms project order (overlay at.now.trees []) params (first.rows ++ tail) (begun.1.1 Null)) in
+        let it = begun (computes u) at first.rows (ap (λ (d : Database). d.schema) first.same ∙ words) first.begun in
+        let tail = it.0 in
+        let answer = subst (λ t. IsSelection (body_of q) t q.params (first.rows ++ tail))
+        (ap (λ (d : Database). d.trees (tree_of q.table)) first.same) it.1 in
         let all : records read (first.rows ++ tail) ≡ taken ++ records read tail =
         flat_map-append (λ r. option_to_list (read r)) first.rows tail
         ∙ ap (λ l. l ++ records read tail) (all_read read first.rows taken first.reads) in (
@@ -179,10 +164,11 @@ module _ {S X : Type 0} (g : Ghosts S) (read : Row → Option X) (sql : List ℕ
         )
 
   -- a sink that has taken a query's rows has taken the world's
-  pub fed_rows : {K E : Type 0} (Takes : K → X → K → Type 0) (AreRows : World → List X → Type 0) (old new : State)
+  pub fed_rows : {K E : Type 0} (Takes : K → RecordOf q.table → K → Type 0)
+      (AreRows : World → List (RecordOf q.table) → Type 0) (old new : State)
       (before after : K) (result : Result (Unit {0}) E) → IsHall old → KeptTables old new
-      → (IsTrue old.is_open → IsDatabase old.now) → Lists read tree terms project order params old.now AreRows
-      → FedRows g read Takes sql params old new before result after
+      → (IsTrue old.is_open → IsDatabase old.now) → Lists q old.now AreRows
+      → FedRows g (record_in q.table) Takes q.text q.params old new before result after
       → Fed Takes AreRows (content_of old) (content_of new) before result after
   fed_rows Takes AreRows old new before after (Ok done) hall rested sound lists fed = λ clean.
       let was : HasCleanDisk old = omega (arith, rested.follows.lasts.clean, clean) in
@@ -193,9 +179,9 @@ module _ {S X : Type 0} (g : Ghosts S) (read : Row → Option X) (sql : List ℕ
       (it.0, (fed.0, all, fed.1))
   fed_rows {K} {E} Takes AreRows old new before after (Err fault) hall rested sound lists fed = (fed.0, fed.1, go fed.2)
     where
-      go : ((fed.0 ≡ []) ⊎ (HasCleanDisk new → AreFirst g read sql params old fed.0))
+      go : ((fed.0 ≡ []) ⊎ (HasCleanDisk new → AreFirst g (record_in q.table) q.text q.params old fed.0))
           → (fed.0 ≡ []) ⊎ (HasCleanDisk new → IsTrue old.is_open
-          × ((left : List X) × AreRows (world_of old.now.trees) (fed.0 ++ left)))
+          × ((left : List (RecordOf q.table)) × AreRows (world_of old.now.trees) (fed.0 ++ left)))
       go (inl none) = inl none
       go (inr part) = inr (λ clean.
           let was : HasCleanDisk old = omega (arith, rested.follows.lasts.clean, clean) in

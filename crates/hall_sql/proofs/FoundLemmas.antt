@@ -1,5 +1,5 @@
 -- The record under a key is the one that a query by the key gives.
-use Rattle.std.proofs.Common.{◌≡◌, ◌≤◌, inl, suc, List, [], ◌∷◌, ◌++◌, ℕ, length, map, filter, slice_get, Bool, true}
+use Rattle.std.proofs.Common.{◌≡◌, ◌≤◌, inl, suc, List, [], ◌∷◌, ◌++◌, length, map, filter, slice_get, Bool, true}
 use Rattle.std.proofs.Common.{false, Option, Some, None, IfSome, refl, sym, ap, subst, ◌∙◌, arith}
 use Rattle.std.proofs.lemmas.List.Sorted.{IsPermutation-sym, length_permutation}
 use Rattle.std.specs.List.Sorted.{IsPermutation}
@@ -10,19 +10,15 @@ use Rattle.std.specs.FinMap.{IsAntisymmetric, find as find_key, get}
 use Rattle.sqlite.specs.Order.{Row}
 use Rattle.sqlite.proofs.Callers.{one_permutation}
 use Rattle.sqlite_rules.specs.Lists.{Has}
+use Rattle.sqlite_trees.proofs.ListLemmas.{map-map}
 use Rattle.sqlite_rules.proofs.ListLemmas.{all_from, has_filtered}
-use Rattle.std.specs.List.{list_all}
-use Rattle.sqlite.specs.Tree.{Trees}
-use Rattle.sqlite.specs.Program.{overlay}
-use Rattle.sqlite.specs.Term.{Term, holds, eval_all}
-use Rattle.sqlite.specs.Listing.{understood, reads_listing}
-use Rattle.sqlite.specs.Command.TheVariants.{Select}
 use Rattle.sqlite.specs.State.{State, Shown}
-use Rattle.sqlite.proofs.Callers.{IsPlain, command_of}
 use Rattle.sqlite.specs.Schema.{Schema}
-use Rattle.hall_sql.specs.Statements.{plain_query}
-use Rattle.hall_sql.proofs.CallLemmas.{answers_selection}
 use Rattle.hall_sql.specs.Rows.{columns_from, entry, kept}
+use Rattle.hall_sql.specs.Scan.{tree_of}
+use Rattle.hall_sql.specs.Standing.{IsSelection}
+use Rattle.hall_sql.proofs.Queries.{Computes, RecordOf, TableQuery, body_of, passes, record_in, record_of, selection}
+use Rattle.hall_sql.proofs.Queries.{shows, width_of}
 use Rattle.hall_sql.proofs.MapLemmas.{Lacks, found, filter_found, get_kept}
 
 no_more : {A : Type 0} (xs : List A) → length xs ≡ 0 → xs ≡ []
@@ -89,47 +85,31 @@ module _ {K X : Type 0} {R : K → K → Ordering} (total : IsTotalOrder R) (sam
       go (r ∷ y ∷ some) out permuted is short = absurd (let long = length_read read (r ∷ y ∷ some) out is in omega
           (arith, long, short))
 
--- the records of the columns that are shown are those of the rows
-module _ {X : Type 0} (read : Row → Option X) (count : ℕ) (params : Row) (project : List Term)
-    (shows : (r : Row) → eval_all project (params ∷ r ∷ []) ≡ columns_from 1 count r) where
-  reads_shown : (found_rows : List Row) → map read (map (λ r. eval_all project (params ∷ r ∷ [])) found_rows) ≡ map
-      (λ r. read (columns_from 1 count r)) found_rows
-  reads_shown [] = refl
-  reads_shown (r ∷ rows) = rw (shows r) (ap (λ l. read (columns_from 1 count r) ∷ l) (reads_shown rows))
+-- a query by a key
+module _ {K : Type 0} {R : K → K → Ordering} (total : IsTotalOrder R) (same : IsAntisymmetric R) {q : TableQuery}
+    {schema : Schema}
+    (computes : Computes q schema) (key : RecordOf q.table → K) (k : K)
+    (agrees : (r : Row) (x : RecordOf q.table) → record_of q.table r ≡ Some x → passes q r ≡ eq_by_cmp R (key x) k)
+    (old new : State) (rows : List Row) (out : List (RecordOf q.table)) (has : old.now.schema ≡ schema)
+    (shown : Shown q.text q.params old new rows) (is_read : map (record_in q.table) rows ≡ map Some out)
+    (short : length out ≤ 1) where
+  sel : IsSelection (body_of q) (old.now.trees (tree_of q.table)) q.params rows
+  sel = selection computes old new rows has shown
 
--- What is asked of the text of a query by key is computed for each statement.
-module _ {K X : Type 0} {R : K → K → Ordering} (total : IsTotalOrder R) (same : IsAntisymmetric R) (key : X → K)
-    (read : Row → Option X) (count : ℕ) (k : K)
-    {schema : Schema} (text : List ℕ) (params : Row) (tree : ℕ) (terms project : List Term) (names : List (List ℕ))
-    (is : command_of (understood schema text) ≡ Select (record { lets = []; body = plain_query tree terms project [] })
-    names)
-    (unlisted : reads_listing schema text ≡ false) (plain : IsPlain (understood schema text))
-    (apart : (db : Trees) → overlay db [] tree ≡ db tree)
-    (shows : (r : Row) → eval_all project (params ∷ r ∷ []) ≡ columns_from 1 count r)
-    (agrees : (r : Row) (x : X) → read (columns_from 1 count r) ≡ Some x
-    → list_all (holds (params ∷ r ∷ [])) terms ≡ eq_by_cmp R (key x) k) where
-  -- the record that a query by the key gives is the one under the key
-  pub asked_found : (old new : State) (rows : List Row) (out : List X) → old.now.schema ≡ schema
-      → Shown text params old new rows
-      → map read rows ≡ map Some out → length out ≤ 1
-      → slice_get out 0 ≡ get (kept R key (λ r. read (columns_from 1 count r)) (old.now.trees tree)) k
-  asked_found old new rows out has shown is_read short =
-      let sel = answers_selection text params old new tree terms project [] names is unlisted plain
-      (apart old.now.trees) has rows shown in
-      one_found total same key (λ r. read (columns_from 1 count r)) k (λ r. list_all (holds (params ∷ r ∷ [])) terms)
-      agrees (old.now.trees tree) sel.found out sel.same
-      (sym (reads_shown read count params project shows sel.found) ∙ ap (map read) (sym sel.shown) ∙ is_read) short
+  found_read : map (record_of q.table) sel.found ≡ map Some out
+  found_read = sym (map-map (record_in q.table) (columns_from 1 (width_of q.table)) sel.found)
+      ∙ sym (λ i. map (record_in q.table) (map (λ r. shows q.table q.params r i) sel.found))
+      ∙ ap (map (record_in q.table)) (sym sel.shown) ∙ is_read
+
+  -- the record that it gives is the one under the key
+  pub asked_found : slice_get out 0 ≡ get (kept R key (record_of q.table) (old.now.trees (tree_of q.table))) k
+  asked_found =
+      one_found total same key (record_of q.table) k (passes q) agrees (old.now.trees (tree_of q.table)) sel.found out
+      sel.same found_read short
 
   -- and its row is the only one under the key
-  pub asked_alone : (old new : State) (rows : List Row) (out : List X) → old.now.schema ≡ schema
-      → Shown text params old new rows
-      → map read rows ≡ map Some out → length out ≤ 1
-      → IfSome (slice_get out 0) (λ x. (r : Row) × (filter (λ r. list_all (holds (params ∷ r ∷ [])) terms)
-      (old.now.trees tree) ≡ r ∷ [])
-      × (read (columns_from 1 count r) ≡ Some x))
-  asked_alone old new rows out has shown is_read short =
-      let sel = answers_selection text params old new tree terms project [] names is unlisted plain
-      (apart old.now.trees) has rows shown in
-      one_alone (λ r. read (columns_from 1 count r)) (filter (λ r. list_all (holds (params ∷ r ∷ [])) terms)
-      (old.now.trees tree)) sel.found out sel.same
-      (sym (reads_shown read count params project shows sel.found) ∙ ap (map read) (sym sel.shown) ∙ is_read) short
+  pub asked_alone : IfSome (slice_get out 0) (λ x. (r : Row)
+      × (filter (passes q) (old.now.trees (tree_of q.table)) ≡ r ∷ []) × (record_of q.table r ≡ Some x))
+  asked_alone =
+      one_alone (record_of q.table) (filter (passes q) (old.now.trees (tree_of q.table))) sel.found out sel.same
+      found_read short

@@ -1,5 +1,5 @@
 -- What the statements on the heads of rounds mean under the hall's tables.
-use Rattle.std.proofs.Common.{◌≡◌, List, ℕ, codes, refl, true, false, [], ◌∷◌}
+use Rattle.std.proofs.Common.{◌≡◌, List, ℕ, codes, refl, false, [], ◌∷◌}
 use Rattle.sqlite_tied.specs.Compute.{everything}
 use Rattle.sqlite.specs.Term.{Term, lit, col}
 use Rattle.sqlite.specs.declared.types.Value.TheVariants.{Null, Text}
@@ -16,10 +16,8 @@ use Rattle.hall_sql.specs.Statements.{equals, plain_query}
 use Rattle.hall_sql.specs.declared.rounds.TheConstants.{HEAD}
 use Rattle.hall_sql.specs.declared.round_writes.TheConstants.{LOOK_HEAD, ADD_HEAD, REPLACE_HEAD}
 use Rattle.hall_sql.proofs.UpdateLemmas.{update}
-use Rattle.hall_sql.proofs.RoundTexts.{round_columns, round_names}
-use Rattle.hall_sql.specs.Asked.{IsAsked, IsAskedIn, is_whole}
-use Rattle.hall_sql.proofs.AskedLemmas.{asked}
-use Rattle.hall_sql.proofs.Wordings.{Wording, by_hall, hall_in, table_in}
+use Rattle.hall_sql.proofs.Wordings.{Wording, hall_in, table_in}
+use Rattle.hall_sql.proofs.Queries.{Computes, TableQuery, query}
 
 -- id = ?1
 abbrev pub id_terms : List Term
@@ -29,17 +27,12 @@ id_terms = equals 1 0 ∷ []
 abbrev pub rounds_there : Table
 rounds_there = table_at Rounds
 
-pub head_is : (u : Wording) → (command_of (understood (hall_in u) HEAD.now)
-    ≡ Select (record { lets = []; body = plain_query 5 id_terms round_columns [] }) round_names)
-    × (reads_listing (hall_in u) HEAD.now ≡ false) × IsPlain (understood (hall_in u) HEAD.now)
-    × (is_whole HEAD.now 1 (understood (hall_in u) HEAD.now) ≡ true)
-unfolding understood everything
-head_is u = (refl, refl, (refl, refl), refl)
+abbrev pub head : List ℕ → TableQuery
+head id = query Rounds HEAD.now (Text id ∷ []) id_terms []
 
-pub head_asked : (id : List ℕ) → IsAsked HEAD.now (Text id ∷ [])
-head_asked id =
-    by_hall (IsAskedIn HEAD.now (Text id ∷ [])) (λ u. asked HEAD.now (Text id ∷ []) 5 id_terms round_columns [] _
-    (head_is u).0 (head_is u).1 (head_is u).2 (head_is u).3 refl)
+pub head_is : (id : List ℕ) (u : Wording) → Computes (head id) (hall_in u)
+unfolding understood everything
+head_is id u = record { is = refl; unlisted = refl; plain = (refl, refl); whole = refl; typed = refl }
 
 pub look_head_is : (u : Wording) → (command_of (understood (hall_in u) LOOK_HEAD.now)
     ≡ Select (record { lets = []; body = plain_query 5 id_terms (col 1 1 ∷ []) [] }) (codes "id" ∷ []))

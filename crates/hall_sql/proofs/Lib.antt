@@ -7,6 +7,7 @@ pub mod WriteCauseLemmas
 pub mod Written
 pub mod ShowsNothing
 pub mod AskedLemmas
+pub mod Queries
 pub mod ColumnLemmas
 pub mod MapLemmas
 pub mod FoundLemmas

@@ -1,14 +1,13 @@
 -- Who has a key, of the people of the table.
 use Rattle.std.proofs.Common.{◌≡◌, ◌≤◌, inr, ℕ, List, [], ◌∷◌, length, map, filter, flat_map, true, Option, Some, None}
 use Rattle.std.proofs.Common.{IfSome, option_to_list, slice_get, take, ap, refl, sym, subst, ◌∙◌}
-use Rattle.std.specs.List.{list_all}
 use Rattle.std.specs.List.Sorted.{IsPermutation}
 use Rattle.std.specs.FinMap.{get, values}
 use Rattle.sqlite.specs.declared.types.Value.TheVariants.{Text}
 use Rattle.sqlite.specs.Effect.{IsDatabase}
 use Rattle.sqlite.specs.Order.{Row}
 use Rattle.sqlite.specs.State.{State, Shown}
-use Rattle.sqlite.specs.Term.{Term, holds}
+use Rattle.sqlite.specs.Term.{Term}
 use Rattle.sqlite.specs.Tree.{Trees}
 use Rattle.sqlite_schema.specs.Rules.{agree}
 use Rattle.sqlite_rules.proofs.ListLemmas.{all_has}
@@ -28,11 +27,9 @@ use Rattle.hall_sql.specs.Standing.{AreKeyed, AreKeyedIn}
 use Rattle.hall_sql.specs.declared.people.TheConstants.{PERSON_BY_KEY, ALL_PEOPLE, PEOPLE_AFTER}
 use Rattle.hall_sql.proofs.AmongLemmas.{kept_value, is_among, only_found, only_one}
 use Rattle.hall_sql.proofs.ColumnLemmas.{and_true, column_same}
-use Rattle.hall_sql.proofs.ListedLemmas.{by_order, records_asked}
+use Rattle.hall_sql.proofs.ListedLemmas.{records_asked}
 use Rattle.hall_sql.proofs.PeopleLemmas.{name_column, name_kept, key_column}
-use Rattle.hall_sql.proofs.PeopleTexts.{person_columns, person_by_key_is, name_order, people_after_is, all_people_are}
 use Rattle.hall_sql.specs.Bounds.{text_before}
-use Rattle.hall_sql.specs.Statements.{above, equals}
 use Rattle.hall_sql.proofs.BoundLemmas.{column_above, name_after}
 use Rattle.hall_sql.proofs.FirstRows.{first_records, first_shown}
 use Rattle.hall_sql.proofs.SelectedLemmas.{values_selected}
@@ -44,6 +41,9 @@ use Rattle.hall_sql.specs.declared.tables.HallTable.TheVariants.{People}
 use Rattle.hall_sql.proofs.Versions.{all_listed, keyed_in, unique_in}
 use Rattle.sqlite_value.proofs.OrderLemmas.{then-Equal, value_cmp-Text}
 use Rattle.hall_policy.specs.Text.{text_cmp}
+use Rattle.hall_sql.proofs.PeopleTexts.{all_people_are, name_order, people_after as people_after_all, people_after_is}
+use Rattle.hall_sql.proofs.PeopleTexts.{person_by_key, person_by_key_is, person_columns}
+use Rattle.hall_sql.proofs.Queries.{by_order, passes, query}
 
 -- two rows of one name agree on the column of the primary key
 agreeing : (r y : Row) (x z : Person) → person_of_row r ≡ Some x → person_of_row y ≡ Some z → x.name ≡ z.name
@@ -62,7 +62,7 @@ people_listed {schema} version db keyed sound =
 
 -- WHERE pass = ?1 asks for the key
 keyed_so : (key : List ℕ) (r : Row) (p : Person) → person_of_row r ≡ Some p
-    → list_all (holds ((Text key ∷ []) ∷ r ∷ [])) (equals 2 0 ∷ []) ≡ same_text p.key key
+    → passes (person_by_key key) r ≡ same_text p.key key
 keyed_so key r p h = and_true _ ∙ column_same (column r 2) p.key key (key_column r p h)
 
 -- where at most one has the key, that one is its holder
@@ -99,16 +99,13 @@ key_holder old new has keyed sound rows out is short key shown =
     let db = old.now.trees in
     let whole = people_listed {schema = old.now.schema} (inr has) db keyed sound in
     holder db key out
-    (records_asked person_in 3 PERSON_BY_KEY.now (Text key ∷ []) 0 (equals 2 0 ∷ []) person_columns [] _
-    (person_by_key_is u).0
-    (person_by_key_is u).1 (person_by_key_is u).2 (λ db. refl) (λ r. refl) (λ p. same_text p.key key) (keyed_so key) old
-    new rows
-    out words shown is (values (world_of db).people) whole) short
+    (records_asked (person_by_key_is key u) old new rows out words shown is (λ p. same_text p.key key) (keyed_so key)
+    (values (world_of db).people) whole) short
 
 -- ORDER BY name is the order of names
-same_order : (params : Row) (terms : List Term) (a b : Row) (x y : Person) → person_of_row a ≡ Some x
-    → person_of_row b ≡ Some y → by_order 0 terms person_columns name_order params a b ≡ text_cmp x.name y.name
-same_order params terms a b x y p q =
+same_order : (text : List ℕ) (params : Row) (terms : List Term) (a b : Row) (x y : Person) → person_of_row a ≡ Some x
+    → person_of_row b ≡ Some y → by_order (query People text params terms (1 ∷ [])) a b ≡ text_cmp x.name y.name
+same_order text params terms a b x y p q =
     rw (name_column a x p, name_column b y q, value_cmp-Text x.name y.name, then-Equal (text_cmp x.name y.name))
 
 pub all_people_listed : (schema : Schema) → IsVersion schema → (old new : State) → old.now.schema ≡ schema
@@ -120,13 +117,12 @@ all_people_listed schema version old new has keyed sound =
     let db = old.now.trees in
     let whole = people_listed version db (keyed_in schema People db version keyed)
     (subst (λ s. IsDatabase (record { schema = s; trees = db })) has sound) in
-    all_listed (all_people_are schema version) text_total same_texts (λ (p : Person). p.name) person_in 3 (λ db. refl)
-    (λ r. refl)
-    (same_order [] []) old new has whole
+    all_listed (all_people_are schema version) text_total same_texts (λ (p : Person). p.name)
+    (same_order ALL_PEOPLE.now [] []) old new has whole
 
 -- WHERE name > ?1 asks for those after the name
 after_so : (after : Option (List ℕ)) (r : Row) (p : Person) → person_of_row r ≡ Some p
-    → list_all (holds ((Text (text_before after) ∷ []) ∷ r ∷ [])) (above 1 0 ∷ []) ≡ is_after after p.name
+    → passes (people_after_all (text_before after)) r ≡ is_after after p.name
 after_so after r p is =
     and_true _ ∙ column_above (column r 1) p.name (text_before after) (name_column r p is)
     ∙ name_after after p.name (name_kept r p is)
@@ -139,12 +135,10 @@ pub people_after_listed : (old new : State) → IsHallSchema old.now.schema → 
 people_after_listed old new has keyed sound rows out is after shown =
     let (u, words) = worded old.now.schema has in
     let db = old.now.trees in
-    let params = Text (text_before after) ∷ [] in
-    let terms = above 1 0 ∷ [] in
-    let first = first_shown people_at_once 0 terms person_columns name_order PEOPLE_AFTER.now params _
+    let q = people_after_all (text_before after) in
+    let first = first_shown people_at_once 0 q.terms person_columns name_order q.text q.params _
     (people_after_is u).0 (people_after_is u).1 (people_after_is u).2 old new rows refl words shown in
     first_records person_in people_at_once first.0 out (subst (λ l. map person_in l ≡ map Some out) first.2 is)
-    ∙ ap (take people_at_once) (values_selected person_in 3 params 0 terms person_columns name_order (λ r. refl) (db 0)
-    first.0 first.1 text_total same_texts (λ (p : Person). p.name)
+    ∙ ap (take people_at_once) (values_selected q (db 0) first.0 first.1 text_total same_texts (λ (p : Person). p.name)
     (people_listed {schema = old.now.schema} (inr has) db keyed sound) (λ p. is_after after p.name) (after_so after)
-    (same_order params terms))
+    (same_order q.text q.params q.terms))

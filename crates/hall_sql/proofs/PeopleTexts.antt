@@ -14,12 +14,12 @@ use Rattle.hall_sql.specs.declared.people.TheConstants.{PERSON, PERSON_BY_KEY, A
 use Rattle.hall_sql.specs.declared.people.TheConstants.{PEOPLE_AFTER}
 use Rattle.hall_store.specs.Store.{people_at_once}
 use Rattle.hall_sql.specs.Asked.{IsAsked, IsAskedIn, is_whole}
-use Rattle.hall_sql.proofs.AskedLemmas.{asked}
 use Rattle.hall_sql.proofs.FirstRows.{first_asked}
 use Rattle.hall_sql.specs.Versions.{IsVersion}
 use Rattle.sqlite.specs.Schema.{Schema}
-use Rattle.hall_sql.proofs.Versions.{AsksAll, by_version}
+use Rattle.hall_sql.proofs.Versions.{by_version}
 use Rattle.hall_sql.proofs.Wordings.{Wording, by_hall, hall_in}
+use Rattle.hall_sql.proofs.Queries.{Computes, TableQuery, query}
 
 abbrev pub person_columns : List Term
 person_columns = col 1 1 ∷ col 1 2 ∷ col 1 3 ∷ []
@@ -27,30 +27,26 @@ person_columns = col 1 1 ∷ col 1 2 ∷ col 1 3 ∷ []
 abbrev pub person_names : List (List ℕ)
 person_names = names_of People
 
-pub person_is : (u : Wording) → (command_of (understood (hall_in u) PERSON.now)
-    ≡ Select (record { lets = []; body = plain_query 0 (equals 1 0 ∷ []) person_columns [] }) person_names)
-    × (reads_listing (hall_in u) PERSON.now ≡ false) × IsPlain (understood (hall_in u) PERSON.now)
-    × (is_whole PERSON.now 1 (understood (hall_in u) PERSON.now) ≡ true)
+abbrev pub person : List ℕ → TableQuery
+person name = query People PERSON.now (Text name ∷ []) (equals 1 0 ∷ []) []
+
+abbrev pub person_by_key : List ℕ → TableQuery
+person_by_key key = query People PERSON_BY_KEY.now (Text key ∷ []) (equals 2 0 ∷ []) []
+
+-- what it would be without its LIMIT
+abbrev pub people_after : List ℕ → TableQuery
+people_after name = query People PEOPLE_AFTER.now (Text name ∷ []) (above 1 0 ∷ []) (1 ∷ [])
+
+abbrev pub all_people : TableQuery
+all_people = query People ALL_PEOPLE.now [] [] (1 ∷ [])
+
+pub person_is : (name : List ℕ) (u : Wording) → Computes (person name) (hall_in u)
 unfolding understood everything
-person_is u = (refl, refl, (refl, refl), refl)
+person_is name u = record { is = refl; unlisted = refl; plain = (refl, refl); whole = refl; typed = refl }
 
-pub person_asked : (name : List ℕ) → IsAsked PERSON.now (Text name ∷ [])
-person_asked name =
-    by_hall (IsAskedIn PERSON.now (Text name ∷ [])) (λ u. asked PERSON.now (Text name ∷ []) 0 (equals 1 0 ∷ [])
-    person_columns [] _ (person_is u).0 (person_is u).1 (person_is u).2 (person_is u).3 refl)
-
-pub person_by_key_is : (u : Wording) → (command_of (understood (hall_in u) PERSON_BY_KEY.now)
-    ≡ Select (record { lets = []; body = plain_query 0 (equals 2 0 ∷ []) person_columns [] }) person_names)
-    × (reads_listing (hall_in u) PERSON_BY_KEY.now ≡ false) × IsPlain (understood (hall_in u) PERSON_BY_KEY.now)
-    × (is_whole PERSON_BY_KEY.now 1 (understood (hall_in u) PERSON_BY_KEY.now) ≡ true)
+pub person_by_key_is : (key : List ℕ) (u : Wording) → Computes (person_by_key key) (hall_in u)
 unfolding understood everything
-person_by_key_is u = (refl, refl, (refl, refl), refl)
-
-pub person_by_key_asked : (key : List ℕ) → IsAsked PERSON_BY_KEY.now (Text key ∷ [])
-person_by_key_asked key =
-    by_hall (IsAskedIn PERSON_BY_KEY.now (Text key ∷ [])) (λ u. asked PERSON_BY_KEY.now (Text key ∷ []) 0
-    (equals 2 0 ∷ []) person_columns [] _ (person_by_key_is u).0 (person_by_key_is u).1 (person_by_key_is u).2
-    (person_by_key_is u).3 refl)
+person_by_key_is key u = record { is = refl; unlisted = refl; plain = (refl, refl); whole = refl; typed = refl }
 
 -- the order of names
 abbrev pub name_order : List (Term × Key)
@@ -81,10 +77,9 @@ pub add_person_is : (u : Wording) → (command_of (understood (hall_in u) ADD_PE
 unfolding understood everything
 add_person_is u = (refl, (refl, refl))
 
-pub all_people_are : (schema : Schema) → IsVersion schema → AsksAll ALL_PEOPLE.now 0 person_columns name_order
-    person_names schema
+pub all_people_are : (schema : Schema) → IsVersion schema → Computes all_people schema
 unfolding understood everything
 all_people_are =
-    by_version (AsksAll ALL_PEOPLE.now 0 person_columns name_order person_names)
+    by_version (Computes all_people)
     (λ u. record { is = refl; unlisted = refl; plain = (refl, refl); whole = refl; typed = refl })
     (λ u. record { is = refl; unlisted = refl; plain = (refl, refl); whole = refl; typed = refl })

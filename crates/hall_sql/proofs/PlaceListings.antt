@@ -1,11 +1,11 @@
 -- What the queries on places say of the world.
 use Rattle.std.proofs.Common.{◌≡◌, ◌&&◌, ℕ, pos, List, [], ◌∷◌, map, filter, flat_map, Bool, true, Some, option_to_list}
-use Rattle.std.proofs.Common.{Contains, refl, sym, ap, ap₂, subst, ◌∙◌, ◌+◌, ◌<◌, length, arith, inr}
+use Rattle.std.proofs.Common.{Contains, sym, ap, ap₂, subst, ◌∙◌, ◌+◌, ◌<◌, length, arith, inr}
 use Rattle.std.proofs.lemmas.List.{get_or-map, length-map}
 use Rattle.std.proofs.lemmas.List.Kept.{Contains-dedup, Contains-from_dedup, IsStrictlySortedBy-dedup}
 use Rattle.std.proofs.lemmas.Cmp.{tied_itself}
 use Rattle.std.specs.Cmp.Lexicographic.{nat_list_eq_equiv, texts_ties}
-use Rattle.std.specs.List.{list_all, dedup}
+use Rattle.std.specs.List.{dedup}
 use Rattle.std.specs.List.Sorted.{IsPermutation, IsSorted, IsStrictlySortedBy}
 use Rattle.std.specs.Ordering.{is_lt, nat_cmp, ordering_then}
 use Rattle.std.specs.FinMap.{FinMap, get, values, entries}
@@ -13,7 +13,6 @@ use Rattle.sqlite.specs.declared.types.Value.TheVariants.{Int, Text}
 use Rattle.sqlite.specs.Effect.{IsDatabase}
 use Rattle.sqlite.specs.Order.{Row}
 use Rattle.sqlite.specs.State.{State, Shown}
-use Rattle.sqlite.specs.Term.{holds}
 use Rattle.sqlite.specs.Tree.{Trees}
 use Rattle.sqlite_schema.specs.Rules.{agree}
 use Rattle.sqlite_rules.proofs.ListLemmas.{all_has}
@@ -41,9 +40,7 @@ use Rattle.hall_sql.specs.declared.rounds.TheConstants.{PLACES_WITH, PLACES_OF, 
 use Rattle.hall_sql.proofs.AmongLemmas.{mapped, mapped_from}
 use Rattle.hall_sql.proofs.ColumnLemmas.{int_as_nat, kind_column, number_column, column_same, and_true}
 use Rattle.hall_sql.proofs.EntryListings.{are_entries, rise_strictly}
-use Rattle.hall_sql.proofs.ListedLemmas.{by_order, records_asked, records_sorted}
-use Rattle.hall_sql.proofs.RoundQueries.{place_columns, puzzle_terms, first_terms, number_order, round_order}
-use Rattle.hall_sql.proofs.RoundQueries.{places_with_is, places_of_is, all_places_are, place_order}
+use Rattle.hall_sql.proofs.ListedLemmas.{records_asked, records_sorted}
 use Rattle.hall_sql.proofs.UniqueLemmas.{equal_texts, equal_numbers, records_listed}
 use Rattle.hall_sql.proofs.EntryLemmas.{entries_kept}
 use Rattle.hall_sql.proofs.RecordParts.{place_parts_of}
@@ -51,6 +48,9 @@ use Rattle.hall_sql.specs.Versions.{IsVersion}
 use Rattle.sqlite.specs.Schema.{Schema}
 use Rattle.hall_sql.specs.declared.tables.HallTable.TheVariants.{Places}
 use Rattle.hall_sql.proofs.Versions.{all_listed, keyed_in, unique_in}
+use Rattle.hall_sql.proofs.RoundQueries.{all_places, all_places_are, places_of, places_of_is, places_with}
+use Rattle.hall_sql.proofs.RoundQueries.{places_with_is}
+use Rattle.hall_sql.proofs.Queries.{by_order, passes}
 
 abbrev pub Place : Type 0
 Place = PlaceKey × Entry
@@ -141,7 +141,7 @@ module _ (old new : State) (has : IsHallSchema old.now.schema) (keyed : AreKeyed
       places_listed {schema = old.now.schema} (inr has) db keyed sound
 
   with_agrees : (key : PuzzleKey) (r : Row) (x : Place) → place_of_row r ≡ Some x
-      → list_all (holds ((Text key.author ∷ Text key.label ∷ []) ∷ r ∷ [])) puzzle_terms ≡ has_puzzle key x
+      → passes (places_with key) r ≡ has_puzzle key x
   with_agrees key r x h =
       let it = has_columns r x h in
       ap₂ ◌&&◌ (column_same (column r 3) x.1.puzzle.author key.author it.author)
@@ -149,7 +149,7 @@ module _ (old new : State) (has : IsHallSchema old.now.schema) (keyed : AreKeyed
 
   -- ORDER BY round is the order of rounds
   same_rounds : (key : PuzzleKey) (a b : Row) (x y : Place) → place_of_row a ≡ Some x → place_of_row b ≡ Some y
-      → by_order 7 puzzle_terms place_columns round_order (Text key.author ∷ Text key.label ∷ []) a b ≡ round_cmp x y
+      → by_order (places_with key) a b ≡ round_cmp x y
   same_rounds key a b x y p q =
       rw (
         (has_columns a x p).round,
@@ -162,24 +162,19 @@ module _ (old new : State) (has : IsHallSchema old.now.schema) (keyed : AreKeyed
       → ArePlacesWith (world_of old.now.trees) key out
   places_with_told key shown = record {
     whole = are_places old.now.trees (has_puzzle key) out
-        (records_asked place_in 5 PLACES_WITH.now (Text key.author ∷ Text key.label ∷ []) 7 puzzle_terms place_columns
-        round_order _ (places_with_is said.0).0 (places_with_is said.0).1 (places_with_is said.0).2 (λ db. refl)
-        (λ r. refl) (has_puzzle key)
-        (with_agrees key) old new rows out said.1 shown is _ whole);
+        (records_asked (places_with_is key said.0) old new rows out said.1 shown is (has_puzzle key) (with_agrees key) _
+        whole);
     in_order =
-        records_sorted place_in 5 PLACES_WITH.now (Text key.author ∷ Text key.label ∷ []) 7 puzzle_terms place_columns
-        round_order _ (places_with_is said.0).0 (places_with_is said.0).1 (places_with_is said.0).2 (λ db. refl)
-        (λ r. refl) (has_puzzle key)
-        (with_agrees key) old new rows out said.1 shown is round_cmp (same_rounds key);
+        records_sorted (places_with_is key said.0) old new rows out said.1 shown is round_cmp (same_rounds key);
   }
 
   in_agrees : (id : List ℕ) (r : Row) (x : Place) → place_of_row r ≡ Some x
-      → list_all (holds ((Text id ∷ []) ∷ r ∷ [])) first_terms ≡ is_in_round id x
+      → passes (places_of id) r ≡ is_in_round id x
   in_agrees id r x h = and_true _ ∙ column_same (column r 1) x.0.round id (has_columns r x h).round
 
   -- ORDER BY number is the order of numbers
   same_order : (id : List ℕ) (a b : Row) (x y : Place) → place_of_row a ≡ Some x → place_of_row b ≡ Some y
-      → by_order 7 first_terms place_columns number_order (Text id ∷ []) a b ≡ number_cmp x y
+      → by_order (places_of id) a b ≡ number_cmp x y
   same_order id a b x y p q =
       rw (
         (has_columns a x p).number,
@@ -192,16 +187,10 @@ module _ (old new : State) (has : IsHallSchema old.now.schema) (keyed : AreKeyed
   pub places_of_told : (id : List ℕ) → Shown PLACES_OF.now (Text id ∷ []) old new rows
       → AreListed (world_of old.now.trees) id out
   places_of_told id shown =
-      let same = records_asked place_in 5 PLACES_OF.now (Text id ∷ []) 7 first_terms place_columns number_order _
-      (places_of_is said.0).0
-      (places_of_is said.0).1 (places_of_is said.0).2 (λ db. refl) (λ r. refl) (is_in_round id) (in_agrees id) old new
-      rows out said.1 shown
-      is _ whole in
-      let sorted = records_sorted place_in 5 PLACES_OF.now (Text id ∷ []) 7 first_terms place_columns number_order _
-      (places_of_is said.0).0
-      (places_of_is said.0).1 (places_of_is said.0).2 (λ db. refl) (λ r. refl) (is_in_round id) (in_agrees id) old new
-      rows out said.1 shown
-      is number_cmp (same_order id) in
+      let same = records_asked (places_of_is id said.0) old new rows out said.1 shown is (is_in_round id) (in_agrees id)
+      _ whole in
+      let sorted = records_sorted (places_of_is id said.0) old new rows out said.1 shown is number_cmp
+      (same_order id) in
       record {
         whole = are_places old.now.trees (is_in_round id) out same;
         in_order = numbers_rise old.now.trees id out same sorted;
@@ -211,7 +200,7 @@ module _ (old new : State) (has : IsHallSchema old.now.schema) (keyed : AreKeyed
 
 -- ORDER BY round, number is the order of places
 by_place : (a b : Row) (x y : Place) → place_of_row a ≡ Some x → place_of_row b ≡ Some y
-    → by_order 7 [] place_columns place_order [] a b ≡ place_cmp x.0 y.0
+    → by_order all_places a b ≡ place_cmp x.0 y.0
 by_place a b x y p q =
     let one = has_columns a x p in
     let two = has_columns b y q in
@@ -235,8 +224,8 @@ all_places_listed schema version old new has keyed sound rows out is shown =
     let db = old.now.trees in
     let whole = places_listed version db (keyed_in schema Places db version keyed)
     (subst (λ s. IsDatabase (record { schema = s; trees = db })) has sound) in
-    all_listed (all_places_are schema version) place_total same_place_keys key_of place_in 5 (λ db. refl) (λ r. refl)
-    by_place old new has whole rows out is shown
+    all_listed (all_places_are schema version) place_total same_place_keys key_of by_place old new has whole rows out is
+    shown
     ∙ entries_kept place_total same_place_keys place_of_row (db 7)
 
 -- ---- the rounds of places

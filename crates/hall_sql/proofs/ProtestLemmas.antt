@@ -1,6 +1,6 @@
 -- What the statements on protests say of the world.
 use Rattle.std.proofs.Common.{◌≡◌, ◌≤◌, inr, ◌&&◌, ℕ, pos, List, [], ◌∷◌, length, map, flat_map, true, slice_get, Some}
-use Rattle.std.proofs.Common.{IfSome, option_to_list, refl, sym, ap, subst, ◌∙◌}
+use Rattle.std.proofs.Common.{IfSome, option_to_list, sym, ap, subst, ◌∙◌}
 use Rattle.std.proofs.lemmas.Option.{IfSome_then}
 use Rattle.std.specs.List.{list_all}
 use Rattle.std.specs.List.Sorted.{IsPermutation}
@@ -35,16 +35,17 @@ use Rattle.hall_sql.specs.declared.protests.TheConstants.{ALL_PROTESTS, PROTEST,
 use Rattle.hall_sql.proofs.ColumnLemmas.{kind_column, number_column, column_equals, column_same, and_true, last_equal}
 use Rattle.hall_sql.proofs.ColumnLemmas.{more_equal}
 use Rattle.hall_sql.proofs.FoundLemmas.{asked_found, asked_alone}
-use Rattle.hall_sql.proofs.ListedLemmas.{by_order, values_asked}
+use Rattle.hall_sql.proofs.ListedLemmas.{values_asked}
 use Rattle.hall_sql.specs.Statements.{equals}
-use Rattle.hall_sql.proofs.ProtestTexts.{all_protests_are, key_terms, key_order, protest_columns, protest_is}
-use Rattle.hall_sql.proofs.ProtestTexts.{protests_of_is, protests_in_is}
 use Rattle.hall_sql.proofs.RecordParts.{protest_parts_of}
 use Rattle.hall_sql.proofs.UniqueLemmas.{equal_texts, records_listed}
 use Rattle.hall_sql.specs.Versions.{IsVersion}
 use Rattle.sqlite.specs.Schema.{Schema}
 use Rattle.hall_sql.specs.declared.tables.HallTable.TheVariants.{Protests}
 use Rattle.hall_sql.proofs.Versions.{all_listed, keyed_in, unique_in}
+use Rattle.hall_sql.proofs.ProtestTexts as queries
+use Rattle.hall_sql.proofs.ProtestTexts.{all_protests_are, keys, protest, protest_is}
+use Rattle.hall_sql.proofs.Queries.{by_order, passes, query}
 
 -- the columns of a protest, and what its ruling is read from
 pub record HasColumns (r : Row) (row : ProtestRow) : Type 0 where
@@ -69,12 +70,9 @@ has_columns r row is =
       ruling = it.ruling;
     }
 
-abbrev pub key_params : ProtestKey → Row
-key_params key = Text key.entrant ∷ Text key.round ∷ Text key.token ∷ []
-
 -- WHERE entrant = ?1 AND round = ?2 AND token = ?3 asks for the key
 pub agrees : (key : ProtestKey) (r : Row) (row : ProtestRow) → protest_of_row r ≡ Some row
-    → list_all (holds (key_params key ∷ r ∷ [])) key_terms ≡ eq_by_cmp protest_cmp row.key key
+    → passes (protest key) r ≡ eq_by_cmp protest_cmp row.key key
 agrees key r row is =
     let it = has_columns r row is in
     more_equal _ _ _ _ (column_equals (column r 1) row.key.entrant key.entrant it.entrant)
@@ -82,26 +80,23 @@ agrees key r row is =
     (last_equal _ _ (column_equals (column r 3) row.key.token key.token it.token)))
 
 pub protest_found : (key : ProtestKey) (old new : State) (rows : List Row) (out : List ProtestRow)
-    → IsHallSchema old.now.schema → Shown PROTEST.now (key_params key) old new rows
+    → IsHallSchema old.now.schema → Shown PROTEST.now (protest key).params old new rows
     → map protest_in rows ≡ map Some out → length out ≤ 1
     → slice_get out 0 ≡ get (world_of old.now.trees).protests key
 protest_found key old new rows out has =
     let (u, words) = worded old.now.schema has in
-    asked_found protest_total same_protest_keys (λ (row : ProtestRow). row.key) protest_in 7 key PROTEST.now
-    (key_params key) 12 key_terms protest_columns _
-    (protest_is u).0 (protest_is u).1 (protest_is u).2 (λ db. refl) (λ r. refl) (agrees key) old new rows out words
+    asked_found protest_total same_protest_keys (protest_is key u) (λ (row : ProtestRow). row.key) key (agrees key) old
+    new rows out words
 
 -- the protest that it gives stands alone under the key
 pub protest_alone : (key : ProtestKey) (old new : State) (rows : List Row) (out : List ProtestRow)
-    → IsHallSchema old.now.schema → Shown PROTEST.now (key_params key) old new rows
+    → IsHallSchema old.now.schema → Shown PROTEST.now (protest key).params old new rows
     → map protest_in rows ≡ map Some out → length out ≤ 1 → IfSome (slice_get out 0) (IsAlone key old)
 protest_alone key old new rows out has shown is short =
     let (u, words) = worded old.now.schema has in
     IfSome_then (slice_get out 0)
-    (asked_alone protest_total same_protest_keys (λ (row : ProtestRow). row.key) protest_in 7 key PROTEST.now
-    (key_params key) 12 key_terms protest_columns _
-    (protest_is u).0 (protest_is u).1 (protest_is u).2 (λ db. refl) (λ r. refl) (agrees key) old new rows out words
-    shown is short)
+    (asked_alone protest_total same_protest_keys (protest_is key u) (λ (row : ProtestRow). row.key) key (agrees key) old
+    new rows out words shown is short)
     (λ row it. record { one = it.0; found = it.1; reads = it.2 })
 
 -- ---- listings
@@ -137,10 +132,10 @@ protests_listed {schema} version db keyed sound =
     (λ r h. all_has _ (db 12) r rule h)
 
 -- ORDER BY entrant, round, token is the order of keys
-pub same_order : (params : Row) (terms : List Term) (a b : Row) (x y : ProtestRow) → protest_of_row a ≡ Some x
-    → protest_of_row b ≡ Some y
-    → by_order 12 terms protest_columns key_order params a b ≡ protest_cmp x.key y.key
-same_order params terms a b x y p q =
+pub same_order : (text : List ℕ) (params : Row) (terms : List Term) (a b : Row) (x y : ProtestRow)
+    → protest_of_row a ≡ Some x → protest_of_row b ≡ Some y
+    → by_order (query Protests text params terms keys) a b ≡ protest_cmp x.key y.key
+same_order text params terms a b x y p q =
     let one = has_columns a x p in
     let two = has_columns b y q in
     rw (
@@ -166,8 +161,7 @@ all_protests_listed schema version old new has keyed sound =
     let whole = protests_listed version db (keyed_in schema Protests db version keyed)
     (subst (λ s. IsDatabase (record { schema = s; trees = db })) has sound) in
     all_listed (all_protests_are schema version) protest_total same_protest_keys (λ (row : ProtestRow). row.key)
-    protest_in 7 (λ db. refl) (λ r. refl)
-    (same_order [] []) old new has whole
+    (same_order ALL_PROTESTS.now [] []) old new has whole
 
 -- what a query gives of the world's protests
 module _ (old new : State) (has : IsHallSchema old.now.schema) (keyed : AreKeyed (old.now.trees 12))
@@ -183,12 +177,11 @@ module _ (old new : State) (has : IsHallSchema old.now.schema) (keyed : AreKeyed
       protests_listed {schema = old.now.schema} (inr has) db keyed sound
 
   pub in_agrees : (round : List ℕ) (r : Row) (x : ProtestRow) → protest_of_row r ≡ Some x
-      → list_all (holds ((Text round ∷ []) ∷ r ∷ [])) (equals 2 0 ∷ []) ≡ is_protest_in round x
+      → passes (queries.protests_in round) r ≡ is_protest_in round x
   in_agrees round r x h = and_true _ ∙ column_same (column r 2) x.key.round round (has_columns r x h).round
 
   of_agrees : (entrant round : List ℕ) (r : Row) (x : ProtestRow) → protest_of_row r ≡ Some x
-      → list_all (holds ((Text entrant ∷ Text round ∷ []) ∷ r ∷ [])) (equals 2 1 ∷ equals 1 0 ∷ [])
-      ≡ is_protest_of entrant round x
+      → passes (queries.protests_of entrant round) r ≡ is_protest_of entrant round x
   of_agrees entrant round r x h =
       let it = has_columns r x h in
       ap (λ b. b && (list_all (holds ((Text entrant ∷ Text round ∷ []) ∷ r ∷ [])) (equals 1 0 ∷ [])))
@@ -198,19 +191,15 @@ module _ (old new : State) (has : IsHallSchema old.now.schema) (keyed : AreKeyed
   pub protests_in_listed : (round : List ℕ) → Shown PROTESTS_IN.now (Text round ∷ []) old new rows
       → out ≡ protests_in (world_of old.now.trees) round
   protests_in_listed round shown =
-      values_asked protest_in 7 PROTESTS_IN.now (Text round ∷ []) 12 (equals 2 0 ∷ []) protest_columns key_order _
-      (protests_in_is said.0).0 (protests_in_is said.0).1 (protests_in_is said.0).2 (λ db. refl) (λ r. refl)
-      (is_protest_in round) (in_agrees round)
-      old new rows out said.1 shown is protest_total same_protest_keys (λ (row : ProtestRow). row.key) whole
-      (same_order (Text round ∷ []) (equals 2 0 ∷ []))
+      values_asked (queries.protests_in_is round said.0) old new rows out said.1 shown is (is_protest_in round)
+      (in_agrees round) protest_total same_protest_keys (λ (row : ProtestRow). row.key) whole
+      (same_order PROTESTS_IN.now (Text round ∷ []) (equals 2 0 ∷ []))
 
   pub protests_of_listed : (entrant round : List ℕ) → Shown PROTESTS_OF.now (Text entrant ∷ Text round ∷ []) old new
       rows
       → out ≡ protests_of (world_of old.now.trees) entrant round
   protests_of_listed entrant round shown =
-      values_asked protest_in 7 PROTESTS_OF.now (Text entrant ∷ Text round ∷ []) 12 (equals 2 1 ∷ equals 1 0 ∷ [])
-      protest_columns key_order _ (protests_of_is said.0).0 (protests_of_is said.0).1 (protests_of_is said.0).2
-      (λ db. refl) (λ r. refl)
-      (is_protest_of entrant round) (of_agrees entrant round) old new rows out said.1 shown is protest_total
-      same_protest_keys
-      (λ (row : ProtestRow). row.key) whole (same_order (Text entrant ∷ Text round ∷ []) (equals 2 1 ∷ equals 1 0 ∷ []))
+      let q = queries.protests_of entrant round in
+      values_asked (queries.protests_of_is entrant round said.0) old new rows out said.1 shown is
+      (is_protest_of entrant round) (of_agrees entrant round) protest_total same_protest_keys
+      (λ (row : ProtestRow). row.key) whole (same_order q.text q.params q.terms)

@@ -1,82 +1,61 @@
 -- What the statements on protests mean under the hall's tables.
-use Rattle.std.proofs.Common.{◌≡◌, List, ℕ, refl, true, false, [], ◌∷◌}
+use Rattle.std.proofs.Common.{◌≡◌, List, ℕ, refl, [], ◌∷◌}
 use Rattle.sqlite_tied.specs.Compute.{everything}
-use Rattle.sqlite_value.specs.declared.keys.Key.{Key}
 use Rattle.sqlite.specs.declared.types.Value.TheVariants.{Null, Text}
 use Rattle.sqlite.specs.Term.{Term, col, lit}
-use Rattle.sqlite.specs.Listing.{understood, reads_listing}
+use Rattle.sqlite.specs.Listing.{understood}
 use Rattle.sqlite.specs.Program.{overlay}
 use Rattle.sqlite.specs.Source.TheVariants.{Values}
 use Rattle.sqlite.specs.Table.{Table}
 use Rattle.sqlite.specs.Tree.{Trees}
-use Rattle.sqlite.specs.Command.TheVariants.{Select, Insert, Update}
+use Rattle.sqlite.specs.Command.TheVariants.{Insert, Update}
 use Rattle.sqlite.proofs.Callers.{IsPlain, command_of}
 use Rattle.hall_sql.specs.Tables.{table_at}
 use Rattle.hall_sql.specs.declared.tables.HallTable.TheVariants.{Protests}
-use Rattle.hall_sql.specs.Statements.{equals, rising, names_of, plain_query}
+use Rattle.hall_sql.specs.Statements.{equals}
 use Rattle.hall_sql.specs.declared.protests.TheConstants.{PROTEST, PROTESTS_OF, PROTESTS_IN, ADD_PROTEST, RULE_PROTEST}
 use Rattle.hall_sql.specs.declared.protests.TheConstants.{ALL_PROTESTS}
 use Rattle.hall_sql.proofs.UpdateLemmas.{update}
-use Rattle.hall_sql.specs.Asked.{IsAsked, IsAskedIn, is_whole}
-use Rattle.hall_sql.proofs.AskedLemmas.{asked}
 use Rattle.hall_sql.specs.Versions.{IsVersion}
 use Rattle.sqlite.specs.Schema.{Schema}
-use Rattle.hall_sql.proofs.Versions.{AsksAll, by_version}
-use Rattle.hall_sql.proofs.Wordings.{Wording, by_hall, hall_in, table_in}
-
-abbrev pub protest_columns : List Term
-protest_columns = col 1 1 ∷ col 1 2 ∷ col 1 3 ∷ col 1 4 ∷ col 1 5 ∷ col 1 6 ∷ col 1 7 ∷ []
-
-abbrev pub protest_names : List (List ℕ)
-protest_names = names_of Protests
+use Rattle.hall_sql.proofs.Versions.{by_version}
+use Rattle.hall_sql.proofs.Wordings.{Wording, hall_in, table_in}
+use Rattle.hall_sql.proofs.Queries.{Computes, TableQuery, query}
+use Rattle.hall_policy.specs.declared.record.ProtestKey.{ProtestKey}
 
 -- entrant = ?1 AND round = ?2 AND token = ?3
 abbrev pub key_terms : List Term
 key_terms = equals 1 0 ∷ equals 2 1 ∷ equals 3 2 ∷ []
 
+abbrev pub protest : ProtestKey → TableQuery
+protest key = query Protests PROTEST.now (Text key.entrant ∷ Text key.round ∷ Text key.token ∷ []) key_terms []
+
 -- the order of keys: entrant, round, token
-abbrev pub key_order : List (Term × Key)
-key_order = (col 1 1, rising) ∷ (col 1 2, rising) ∷ (col 1 3, rising) ∷ []
+abbrev pub keys : List ℕ
+keys = 1 ∷ 2 ∷ 3 ∷ []
 
-pub protest_is : (u : Wording) → (command_of (understood (hall_in u) PROTEST.now)
-    ≡ Select (record { lets = []; body = plain_query 12 key_terms protest_columns [] }) protest_names)
-    × (reads_listing (hall_in u) PROTEST.now ≡ false) × IsPlain (understood (hall_in u) PROTEST.now)
-    × (is_whole PROTEST.now 3 (understood (hall_in u) PROTEST.now) ≡ true)
+abbrev pub protests_of : List ℕ → List ℕ → TableQuery
+protests_of entrant round =
+    query Protests PROTESTS_OF.now (Text entrant ∷ Text round ∷ []) (equals 2 1 ∷ equals 1 0 ∷ []) keys
+
+abbrev pub protests_in : List ℕ → TableQuery
+protests_in round = query Protests PROTESTS_IN.now (Text round ∷ []) (equals 2 0 ∷ []) keys
+
+abbrev pub all_protests : TableQuery
+all_protests = query Protests ALL_PROTESTS.now [] [] keys
+
+pub protest_is : (key : ProtestKey) (u : Wording) → Computes (protest key) (hall_in u)
 unfolding understood everything
-protest_is u = (refl, refl, (refl, refl), refl)
+protest_is key u = record { is = refl; unlisted = refl; plain = (refl, refl); whole = refl; typed = refl }
 
-pub protest_asked : (entrant round token : List ℕ) → IsAsked PROTEST.now (Text entrant ∷ Text round ∷ Text token ∷ [])
-protest_asked entrant round token =
-    by_hall (IsAskedIn PROTEST.now (Text entrant ∷ Text round ∷ Text token ∷ []))
-    (λ u. asked PROTEST.now (Text entrant ∷ Text round ∷ Text token ∷ []) 12 key_terms protest_columns [] _
-    (protest_is u).0 (protest_is u).1 (protest_is u).2 (protest_is u).3 refl)
-
-pub protests_of_is : (u : Wording) → (command_of (understood (hall_in u) PROTESTS_OF.now)
-    ≡ Select (record { lets = []; body = plain_query 12 (equals 2 1 ∷ equals 1 0 ∷ []) protest_columns key_order })
-    protest_names)
-    × (reads_listing (hall_in u) PROTESTS_OF.now ≡ false) × IsPlain (understood (hall_in u) PROTESTS_OF.now)
-    × (is_whole PROTESTS_OF.now 2 (understood (hall_in u) PROTESTS_OF.now) ≡ true)
+pub protests_of_is : (entrant round : List ℕ) (u : Wording) → Computes (protests_of entrant round) (hall_in u)
 unfolding understood everything
-protests_of_is u = (refl, refl, (refl, refl), refl)
+protests_of_is entrant round u =
+    record { is = refl; unlisted = refl; plain = (refl, refl); whole = refl; typed = refl }
 
-pub protests_of_asked : (entrant round : List ℕ) → IsAsked PROTESTS_OF.now (Text entrant ∷ Text round ∷ [])
-protests_of_asked entrant round =
-    by_hall (IsAskedIn PROTESTS_OF.now (Text entrant ∷ Text round ∷ []))
-    (λ u. asked PROTESTS_OF.now (Text entrant ∷ Text round ∷ []) 12 (equals 2 1 ∷ equals 1 0 ∷ []) protest_columns
-    key_order _ (protests_of_is u).0 (protests_of_is u).1 (protests_of_is u).2 (protests_of_is u).3 refl)
-
-pub protests_in_is : (u : Wording) → (command_of (understood (hall_in u) PROTESTS_IN.now)
-    ≡ Select (record { lets = []; body = plain_query 12 (equals 2 0 ∷ []) protest_columns key_order }) protest_names)
-    × (reads_listing (hall_in u) PROTESTS_IN.now ≡ false) × IsPlain (understood (hall_in u) PROTESTS_IN.now)
-    × (is_whole PROTESTS_IN.now 1 (understood (hall_in u) PROTESTS_IN.now) ≡ true)
+pub protests_in_is : (round : List ℕ) (u : Wording) → Computes (protests_in round) (hall_in u)
 unfolding understood everything
-protests_in_is u = (refl, refl, (refl, refl), refl)
-
-pub protests_in_asked : (round : List ℕ) → IsAsked PROTESTS_IN.now (Text round ∷ [])
-protests_in_asked round =
-    by_hall (IsAskedIn PROTESTS_IN.now (Text round ∷ [])) (λ u. asked PROTESTS_IN.now (Text round ∷ []) 12
-    (equals 2 0 ∷ []) protest_columns key_order _ (protests_in_is u).0 (protests_in_is u).1 (protests_in_is u).2
-    (protests_in_is u).3 refl)
+protests_in_is round u = record { is = refl; unlisted = refl; plain = (refl, refl); whole = refl; typed = refl }
 
 -- the rowid that is chosen, and each parameter
 abbrev pub added_terms : List Term
@@ -105,10 +84,9 @@ pub rule_protest_is : (u : Wording) → (command_of (understood (hall_in u) RULE
 unfolding understood everything
 rule_protest_is u = (refl, (refl, refl))
 
-pub all_protests_are : (schema : Schema) → IsVersion schema → AsksAll ALL_PROTESTS.now 12 protest_columns key_order
-    protest_names schema
+pub all_protests_are : (schema : Schema) → IsVersion schema → Computes all_protests schema
 unfolding understood everything
 all_protests_are =
-    by_version (AsksAll ALL_PROTESTS.now 12 protest_columns key_order protest_names)
+    by_version (Computes all_protests)
     (λ u. record { is = refl; unlisted = refl; plain = (refl, refl); whole = refl; typed = refl })
     (λ u. record { is = refl; unlisted = refl; plain = (refl, refl); whole = refl; typed = refl })

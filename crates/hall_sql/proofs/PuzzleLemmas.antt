@@ -1,12 +1,10 @@
 -- What the statements on puzzles say of the world.
-use Rattle.std.proofs.Common.{◌≡◌, ◌≤◌, List, [], ◌∷◌, length, map, slice_get, Some, refl}
-use Rattle.std.specs.List.{list_all}
+use Rattle.std.proofs.Common.{◌≡◌, ◌≤◌, List, length, map, slice_get, Some}
 use Rattle.std.specs.Ordering.{eq_by_cmp}
 use Rattle.std.specs.FinMap.{get}
 use Rattle.sqlite.specs.declared.types.Value.TheVariants.{Text}
 use Rattle.sqlite.specs.Order.{Row}
 use Rattle.sqlite_value.specs.Order.{column}
-use Rattle.sqlite.specs.Term.{holds}
 use Rattle.sqlite.specs.State.{State, Shown}
 use Rattle.hall_policy.specs.Text.{is_word_byte}
 use Rattle.hall_policy.specs.World.{puzzle_cmp}
@@ -18,7 +16,8 @@ use Rattle.hall_sql.proofs.Wordings.{worded}
 use Rattle.hall_sql.specs.declared.puzzles.TheConstants.{PUZZLE}
 use Rattle.hall_sql.specs.Values.{name_in, puzzle_in, state_in}
 use Rattle.hall_sql.specs.Rows.{puzzle_row_in, puzzle_of_row, world_of}
-use Rattle.hall_sql.proofs.PuzzleTexts.{key_terms, puzzle_columns, puzzle_is}
+use Rattle.hall_sql.proofs.PuzzleTexts.{puzzle, puzzle_is}
+use Rattle.hall_sql.proofs.Queries.{passes}
 use Rattle.hall_sql.proofs.ColumnLemmas.{kind_column, column_equals, last_equal, more_equal}
 use Rattle.hall_sql.proofs.FoundLemmas.{asked_found}
 use Rattle.hall_sql.proofs.RecordParts.{puzzle_parts_of}
@@ -33,12 +32,9 @@ key_columns r row is =
           row.key.label parts.label,
     )
 
-abbrev pub key_params : PuzzleKey → Row
-key_params key = Text key.author ∷ Text key.label ∷ []
-
 -- WHERE author = ?1 AND label = ?2 asks for the key
 agrees : (key : PuzzleKey) (r : Row) (row : PuzzleRow) → puzzle_of_row r ≡ Some row
-    → list_all (holds (key_params key ∷ r ∷ [])) key_terms ≡ eq_by_cmp puzzle_cmp row.key key
+    → passes (puzzle key) r ≡ eq_by_cmp puzzle_cmp row.key key
 agrees key r row is =
     let columns = key_columns r row is in
     more_equal _ _ _ _ (column_equals (column r 1) row.key.author key.author columns.0)
@@ -46,10 +42,9 @@ agrees key r row is =
 
 pub puzzle_found : (key : PuzzleKey) (old new : State) (rows : List Row) (out : List PuzzleRow)
     → IsHallSchema old.now.schema
-    → Shown PUZZLE.now (key_params key) old new rows → map puzzle_row_in rows ≡ map Some out → length out ≤ 1
+    → Shown PUZZLE.now (puzzle key).params old new rows → map puzzle_row_in rows ≡ map Some out → length out ≤ 1
     → slice_get out 0 ≡ get (world_of old.now.trees).puzzles key
 puzzle_found key old new rows out has =
     let (u, words) = worded old.now.schema has in
-    asked_found puzzle_total same_puzzle_keys (λ (row : PuzzleRow). row.key) puzzle_row_in 5 key PUZZLE.now
-    (key_params key) 3 key_terms puzzle_columns _
-    (puzzle_is u).0 (puzzle_is u).1 (puzzle_is u).2 (λ db. refl) (λ r. refl) (agrees key) old new rows out words
+    asked_found puzzle_total same_puzzle_keys (puzzle_is key u) (λ (row : PuzzleRow). row.key) key (agrees key) old new
+    rows out words

@@ -1,14 +1,13 @@
 -- What the listings of puzzles say of the world.
-use Rattle.std.proofs.Common.{◌≡◌, inr, ℕ, List, [], ◌∷◌, length, map, flat_map, true, Some, option_to_list, refl, sym}
+use Rattle.std.proofs.Common.{◌≡◌, inr, ℕ, List, [], ◌∷◌, length, map, flat_map, true, Some, option_to_list, sym}
 use Rattle.std.proofs.Common.{ap, subst, ◌∙◌}
-use Rattle.std.specs.List.{list_all}
 use Rattle.std.specs.List.Sorted.{IsPermutation}
 use Rattle.std.specs.FinMap.{values}
 use Rattle.sqlite.specs.declared.types.Value.TheVariants.{Text}
 use Rattle.sqlite.specs.Effect.{IsDatabase}
 use Rattle.sqlite.specs.Order.{Row}
 use Rattle.sqlite.specs.State.{State, Shown}
-use Rattle.sqlite.specs.Term.{Term, holds}
+use Rattle.sqlite.specs.Term.{Term}
 use Rattle.sqlite.specs.Tree.{Trees}
 use Rattle.sqlite_schema.specs.Rules.{agree}
 use Rattle.sqlite_rules.proofs.ListLemmas.{all_has}
@@ -30,10 +29,12 @@ use Rattle.hall_sql.specs.Rows.{puzzle_row_in, puzzle_of_row, world_of}
 use Rattle.hall_sql.specs.Standing.{AreKeyed, AreKeyedIn}
 use Rattle.hall_sql.specs.declared.puzzles.TheConstants.{ALL_PUZZLES, PUZZLES_OF}
 use Rattle.hall_sql.proofs.ColumnLemmas.{and_true, column_same}
-use Rattle.hall_sql.proofs.ListedLemmas.{by_order, values_asked}
+use Rattle.hall_sql.proofs.ListedLemmas.{values_asked}
 use Rattle.hall_sql.specs.Statements.{equals}
 use Rattle.hall_sql.proofs.PuzzleLemmas.{key_columns}
-use Rattle.hall_sql.proofs.PuzzleTexts.{puzzle_columns, key_order, all_puzzles_are, puzzles_of_is}
+use Rattle.hall_sql.proofs.PuzzleTexts as queries
+use Rattle.hall_sql.proofs.PuzzleTexts.{all_puzzles_are}
+use Rattle.hall_sql.proofs.Queries.{by_order, passes, query}
 use Rattle.hall_sql.proofs.UniqueLemmas.{equal_texts, records_listed}
 use Rattle.hall_sql.specs.Versions.{IsVersion}
 use Rattle.sqlite.specs.Schema.{Schema}
@@ -67,10 +68,10 @@ puzzles_listed {schema} version db keyed sound =
     (λ r h. all_has _ (db 3) r rule h)
 
 -- ORDER BY author, label is the order of keys
-same_order : (params : Row) (terms : List Term) (a b : Row) (x y : PuzzleRow) → puzzle_of_row a ≡ Some x
-    → puzzle_of_row b ≡ Some y
-    → by_order 3 terms puzzle_columns key_order params a b ≡ puzzle_cmp x.key y.key
-same_order params terms a b x y p q =
+same_order : (text : List ℕ) (params : Row) (terms : List Term) (a b : Row) (x y : PuzzleRow)
+    → puzzle_of_row a ≡ Some x → puzzle_of_row b ≡ Some y
+    → by_order (query Puzzles text params terms (1 ∷ 2 ∷ [])) a b ≡ puzzle_cmp x.key y.key
+same_order text params terms a b x y p q =
     let one = key_columns a x p in
     let two = key_columns b y q in
     rw (
@@ -92,8 +93,7 @@ all_puzzles_listed schema version old new has keyed sound =
     let whole = puzzles_listed version db (keyed_in schema Puzzles db version keyed)
     (subst (λ s. IsDatabase (record { schema = s; trees = db })) has sound) in
     all_listed (all_puzzles_are schema version) puzzle_total same_puzzle_keys (λ (row : PuzzleRow). row.key)
-    puzzle_row_in 5 (λ db. refl) (λ r. refl)
-    (same_order [] []) old new has whole
+    (same_order ALL_PUZZLES.now [] []) old new has whole
 
 -- the author's puzzles are as many as the rules count
 pub puzzles_counted : (world : World) (author : List ℕ) → length (puzzles_of world author) ≡ puzzles_put world author
@@ -114,15 +114,12 @@ module _ (old new : State) (has : IsHallSchema old.now.schema) (keyed : AreKeyed
       puzzles_listed {schema = old.now.schema} (inr has) db keyed sound
 
   by_author : (author : List ℕ) (r : Row) (x : PuzzleRow) → puzzle_of_row r ≡ Some x
-      → list_all (holds ((Text author ∷ []) ∷ r ∷ [])) (equals 1 0 ∷ []) ≡ same_text x.key.author author
+      → passes (queries.puzzles_of author) r ≡ same_text x.key.author author
   by_author author r x h = and_true _ ∙ column_same (column r 1) x.key.author author (key_columns r x h).0
 
   pub puzzles_of_listed : (author : List ℕ) → Shown PUZZLES_OF.now (Text author ∷ []) old new rows
       → out ≡ puzzles_of (world_of old.now.trees) author
   puzzles_of_listed author shown =
-      values_asked puzzle_row_in 5 PUZZLES_OF.now (Text author ∷ []) 3 (equals 1 0 ∷ []) puzzle_columns key_order _
-      (puzzles_of_is said.0).0 (puzzles_of_is said.0).1 (puzzles_of_is said.0).2 (λ db. refl) (λ r. refl)
-      (λ row. same_text row.key.author author)
-      (by_author author) old new rows out said.1 shown is puzzle_total same_puzzle_keys (λ (row : PuzzleRow). row.key)
-      whole
-      (same_order (Text author ∷ []) (equals 1 0 ∷ []))
+      values_asked (queries.puzzles_of_is author said.0) old new rows out said.1 shown is
+      (λ row. same_text row.key.author author) (by_author author) puzzle_total same_puzzle_keys
+      (λ (row : PuzzleRow). row.key) whole (same_order PUZZLES_OF.now (Text author ∷ []) (equals 1 0 ∷ []))

@@ -1,5 +1,5 @@
 -- What the statements on rounds say of the world.
-use Rattle.std.proofs.Common.{◌≡◌, List, [], ◌∷◌, map, flat_map, true, Some, option_to_list, refl, sym, subst}
+use Rattle.std.proofs.Common.{◌≡◌, List, [], ◌∷◌, map, flat_map, true, Some, option_to_list, sym, subst}
 use Rattle.std.specs.List.Sorted.{IsPermutation}
 use Rattle.std.specs.FinMap.{values}
 use Rattle.sqlite.specs.declared.types.Value.TheVariants.{Text}
@@ -22,8 +22,8 @@ use Rattle.hall_sql.specs.Rows.{round_in, round_of_row, world_of}
 use Rattle.hall_sql.specs.Standing.{AreKeyed, AreKeyedIn}
 use Rattle.hall_sql.specs.declared.rounds.TheConstants.{ALL_ROUNDS}
 use Rattle.hall_sql.proofs.ColumnLemmas.{kind_column}
-use Rattle.hall_sql.proofs.ListedLemmas.{by_order}
-use Rattle.hall_sql.proofs.RoundTexts.{round_columns, id_order, all_rounds_are}
+use Rattle.hall_sql.proofs.Queries.{by_order}
+use Rattle.hall_sql.proofs.RoundTexts.{all_rounds, all_rounds_are}
 use Rattle.hall_sql.proofs.UniqueLemmas.{equal_texts, records_listed}
 use Rattle.hall_sql.proofs.RecordParts.{round_parts_of}
 use Rattle.hall_sql.specs.Versions.{IsVersion}
@@ -56,7 +56,7 @@ rounds_listed {schema} version db keyed sound =
 
 -- ORDER BY id is the order of ids
 same_order : (a b : Row) (x y : Round) → round_of_row a ≡ Some x → round_of_row b ≡ Some y
-    → by_order 5 [] round_columns id_order [] a b ≡ text_cmp x.id y.id
+    → by_order all_rounds a b ≡ text_cmp x.id y.id
 same_order a b x y p q =
     rw (id_column a x p, id_column b y q, value_cmp-Text x.id y.id, then-Equal (text_cmp x.id y.id))
 
@@ -69,6 +69,5 @@ all_rounds_listed schema version old new has keyed sound =
     let db = old.now.trees in
     let whole = rounds_listed version db (keyed_in schema Rounds db version keyed)
     (subst (λ s. IsDatabase (record { schema = s; trees = db })) has sound) in
-    all_listed (all_rounds_are schema version) text_total same_texts (λ (round : Round). round.id) round_in 10
-    (λ db. refl) (λ r. refl)
-    same_order old new has whole
+    all_listed (all_rounds_are schema version) text_total same_texts (λ (round : Round). round.id) same_order old new
+    has whole

@@ -54,7 +54,6 @@ use Rattle.hall_sql.specs.Standing.{IsHall, HasMade}
 use Rattle.hall_sql.proofs.AnswerWrites.{is_within}
 use Rattle.hall_sql.proofs.HeadTexts.{id_terms, rounds_there, head_is, look_head_is, added_terms, add_head_is}
 use Rattle.hall_sql.proofs.HeadTexts.{replaced_terms, apart, replace_head_is}
-use Rattle.hall_sql.proofs.RoundTexts.{round_columns}
 use Rattle.hall_sql.proofs.RoundLemmas.{id_column}
 use Rattle.hall_sql.proofs.CallLemmas.{executed_open, answers_selection, shown_unchanged}
 use Rattle.hall_sql.proofs.InsideLemmas.{did, shown_mode}
@@ -71,6 +70,7 @@ use Rattle.hall_sql.proofs.UniqueLemmas.{kept_keyed}
 use Rattle.hall_sql.proofs.UpdateLemmas.{update, updates, made_with}
 use Rattle.hall_sql.proofs.PuzzleWrites.{text_is, no_rows}
 use Rattle.hall_sql.proofs.WriteLemmas.{writes_hall, cast_null, cast_number, cast_int}
+use Rattle.hall_sql.proofs.Queries.{selection}
 
 -- ---- the head of an id
 
@@ -84,20 +84,16 @@ pub head_found : (id : List ℕ) (old new : State) (rows : List Row) (out : List
     → slice_get out 0 ≡ get (world_of old.now.trees).rounds id
 head_found id old new rows out has =
     let (u, words) = worded old.now.schema has in
-    asked_found text_total same_texts (λ (round : Round). round.id) round_in 10 id HEAD.now (Text id ∷ []) 5 id_terms
-    round_columns _
-    (head_is u).0 (head_is u).1 (head_is u).2 (λ db. refl) (λ r. refl) (agrees id) old new rows out words
+    asked_found text_total same_texts (head_is id u) (λ (round : Round). round.id) id (agrees id) old new rows out words
 
 -- as many rows as the query gives stand under the id
 heads_counted : (id : List ℕ) (old new : State) (rows : List Row) → IsHallSchema old.now.schema
     → Shown HEAD.now (Text id ∷ []) old new rows → HasSoManyHeads id old.now (length rows)
 heads_counted id old new rows has shown =
-    let given = Text id ∷ [] in
     let (u, words) = worded old.now.schema has in
-    let sel = answers_selection HEAD.now given old new 5 id_terms round_columns [] _ (head_is u).0 (head_is u).1
-    (head_is u).2 refl words rows shown in
+    let sel = selection (head_is id u) old new rows words shown in
     sym (length_permutation _ sel.found sel.same) ∙ sym (length-map sel.found
-    (λ r. eval_all round_columns (given ∷ r ∷ []))) ∙ ap length (sym sel.shown)
+    _) ∙ ap length (sym sel.shown)
 
 pub head_alone : (id : List ℕ) (old new : State) (rows : List Row) (out : List Round) (one : Option Round)
     → IsHallSchema old.now.schema

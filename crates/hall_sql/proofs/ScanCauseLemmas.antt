@@ -37,17 +37,17 @@ use Rattle.sqlite.proofs.Callers.{EndsIn, begins_shown, command_of, given_begin}
 use Rattle.hall_sql.specs.AdoptCause.{IsUnfit, NextFails, ScanFails}
 use Rattle.hall_sql.specs.Scan.{tree_of, Rises, IsAbove, HasScanned, IsTableKeyed, AreScanned}
 use Rattle.hall_sql.specs.Standing.{Apart, AreKeyed, LeadsConnection}
-use Rattle.hall_sql.specs.Statements.{rowids_text}
+use Rattle.hall_sql.specs.Statements.{plain_query, rowids_text}
 use Rattle.hall_sql.specs.declared.tables.HallTable.{HallTable}
 use Rattle.hall_sql.specs.Versions.{HasTable}
 use Rattle.hall_sql.proofs.AskedLemmas.{open_cause}
 use Rattle.hall_sql.proofs.Versions.{asked_all}
 use Rattle.hall_sql.proofs.CallLemmas.{answers_selection}
 use Rattle.hall_sql.proofs.KeyedLemmas.{keyed_permuted}
-use Rattle.hall_sql.proofs.ListedLemmas.{by_order}
 use Rattle.hall_sql.proofs.RisingLemmas.{AtMost, ascending}
 use Rattle.hall_sql.proofs.ScanLemmas.{by_rowid, rowids_are, apart, all_pass}
 use Rattle.hall_sql.proofs.WriteCauseLemmas.{cause_over}
+use Rattle.sqlite.specs.Query.{output, output_cmp}
 
 -- a row with no integer in its column
 pub unfit_unread : (last : Option ℤ) (shown : Row) → (0 < length shown → ¬ IsInt (column shown 0)) → IsUnfit last shown
@@ -126,7 +126,13 @@ above ids (Some j) id met below = all_has (λ k. int_cmp k id ≡ Less) ids j be
 
 -- ---- the scan
 
-order_is : (tree : ℕ) (a b : Row) → by_order tree [] (col 1 0 ∷ []) by_rowid [] a b ≡ value_cmp (rowid a) (rowid b)
+-- ORDER BY rowid
+abbrev by_order : ℕ → Row → Row → Ordering
+by_order tree a b =
+    let q = plain_query tree [] (col 1 0 ∷ []) by_rowid in
+    output_cmp q (output q ([] ∷ a ∷ [])) (output q ([] ∷ b ∷ []))
+
+order_is : (tree : ℕ) (a b : Row) → by_order tree a b ≡ value_cmp (rowid a) (rowid b)
 order_is tree a b = then-Equal (value_cmp (rowid a) (rowid b))
 
 -- an unfit row stands in a table that is not keyed

@@ -1,7 +1,6 @@
 -- The records that a query's rows are, where some of the table's rows may be none.
-use Rattle.std.proofs.Common.{◌≡◌, ℕ, List, [], ◌∷◌, ◌++◌, map, filter, is_some, Bool, true, false, cond, Option, Some}
+use Rattle.std.proofs.Common.{◌≡◌, List, [], ◌∷◌, ◌++◌, map, filter, is_some, Bool, true, false, cond, Option, Some}
 use Rattle.std.proofs.Common.{None, option_to_list, refl, sym, ap, subst, ◌∙◌}
-use Rattle.std.specs.List.{list_all}
 use Rattle.std.specs.List.Sorted.{IsPermutation, IsSorted}
 use Rattle.std.specs.Cmp.{IsTotalOrder, IsStrictWeakOrder, on_total, upto}
 use Rattle.std.specs.declared.cmp.Ordering.{Ordering}
@@ -13,15 +12,13 @@ use Rattle.std.proofs.lemmas.List.Kept.{IsSortedBy-filter}
 use Rattle.sqlite_trees.proofs.ListLemmas.{IsPermutation-flat_map, IsPermutation-filter, flat_map-map}
 use Rattle.sqlite_sql.proofs.QueryLemmas.{output_cmp_total}
 use Rattle.sqlite.specs.Order.{Row}
-use Rattle.sqlite.specs.Term.{Term, holds, eval_all}
-use Rattle.sqlite_value.specs.declared.keys.Key.{Key}
 use Rattle.sqlite.specs.Query.{output}
 use Rattle.hall_sql.specs.Rows.{columns_from, kept}
 use Rattle.hall_sql.specs.Standing.{IsSelection}
-use Rattle.hall_sql.specs.Statements.{plain_query}
 use Rattle.hall_sql.proofs.ContentLemmas.{kept_records}
 use Rattle.hall_sql.proofs.FeedLemmas.{records}
-use Rattle.hall_sql.proofs.ListedLemmas.{by_order}
+use Rattle.hall_sql.proofs.Queries.{RecordOf, TableQuery, body_of, by_order, passes, record_in, record_of, shows}
+use Rattle.hall_sql.proofs.Queries.{width_of}
 use Rattle.hall_sql.proofs.RisingLemmas.{rows_listed}
 use Rattle.hall_sql.proofs.SortedLemmas.{sorted_records}
 
@@ -57,51 +54,46 @@ strict_weak {X} {cmp} order = record {
       sym (flips (cmp x z)) ∙ ap is_gt (sym (order.antisymm z x)) ∙ three;
 }
 
-module _ {X : Type 0} (read : Row → Option X) (count : ℕ) (params : Row) (tree : ℕ) (terms project : List Term)
-    (order : List (Term × Key)) (shows : (r : Row) → eval_all project (params ∷ r ∷ []) ≡ columns_from 1 count r)
-    (table rows : List Row) (sel : IsSelection (plain_query tree terms project order) table params rows) where
-  abbrev of_row : Row → Option X
-  of_row r = read (columns_from 1 count r)
-
-  found_records : records of_row sel.found ≡ records read rows
+module _ (q : TableQuery) (table rows : List Row) (sel : IsSelection (body_of q) table q.params rows) where
+  found_records : records (record_of q.table) sel.found ≡ records (record_in q.table) rows
   found_records =
-      sym (flat_map-map (λ r. option_to_list (read r)) (columns_from 1 count) sel.found)
-      ∙ ap (records read) (sym (λ i. map (λ r. shows r i) sel.found) ∙ sym sel.shown)
+      sym (flat_map-map (λ r. option_to_list (record_in q.table r)) (columns_from 1 (width_of q.table)) sel.found)
+      ∙ ap (records (record_in q.table)) (sym (λ i. map (λ r. shows q.table q.params r i) sel.found) ∙ sym sel.shown)
 
   -- the records that pass, in some order
-  pub records_selected : (test : X → Bool) → ((r : Row) (x : X) → of_row r ≡ Some x
-      → list_all (holds (params ∷ r ∷ [])) terms ≡ test x)
-      → (held : List X) → IsPermutation (records of_row table) held
-      → IsPermutation (filter test held) (records read rows)
+  pub records_selected : (test : RecordOf q.table → Bool)
+      → ((r : Row) (x : RecordOf q.table) → record_of q.table r ≡ Some x → passes q r ≡ test x)
+      → (held : List (RecordOf q.table)) → IsPermutation (records (record_of q.table) table) held
+      → IsPermutation (filter test held) (records (record_in q.table) rows)
   records_selected test agrees held whole =
-      let keeps = λ (r : Row). list_all (holds (params ∷ r ∷ [])) terms in
       let back = IsPermutation-filter test _ _ (IsPermutation-sym _ _ whole) in
       let kept = subst (IsPermutation (filter test held)) (sym
-      (kept_records read (columns_from 1 count) keeps test agrees table)) back in
+      (kept_records (record_in q.table) (columns_from 1 (width_of q.table)) (passes q) test agrees table)) back in
       IsPermutation-trans _ _ _ kept
-      (subst (IsPermutation (records of_row (filter keeps table))) found_records
+      (subst (IsPermutation (records (record_of q.table) (filter (passes q) table))) found_records
       (IsPermutation-flat_map _ _ _ sel.same))
 
   -- in this order, where ORDER BY is this order of the records
-  pub records_in_order : (by : X → X → Ordering)
-      → ((a b : Row) (x y : X) → of_row a ≡ Some x → of_row b ≡ Some y → by_order tree terms project order params a b ≡
-      by x y)
-      → IsSorted by (records read rows)
+  pub records_in_order : (by : RecordOf q.table → RecordOf q.table → Ordering)
+      → ((a b : Row) (x y : RecordOf q.table) → record_of q.table a ≡ Some x → record_of q.table b ≡ Some y
+      → by_order q a b ≡ by x y)
+      → IsSorted by (records (record_in q.table) rows)
   records_in_order by agree =
-      let q = plain_query tree terms project order in
-      let total = on_total (λ r. output q (params ∷ r ∷ [])) (output_cmp_total q) in
-      let up = IsSortedBy-filter _ (strict_weak total) (λ r. is_some (of_row r)) sel.found sel.sorted in
-      sorted_records of_row (by_order tree terms project order params) by agree
-      (filter (λ r. is_some (of_row r)) sel.found) (records read rows)
-      (read_some of_row sel.found ∙ ap (map Some) found_records) up
+      let total = on_total (λ r. output (body_of q) (q.params ∷ r ∷ [])) (output_cmp_total (body_of q)) in
+      let up = IsSortedBy-filter _ (strict_weak total) (λ r. is_some (record_of q.table r)) sel.found sel.sorted in
+      sorted_records (record_of q.table) (by_order q) by agree
+      (filter (λ r. is_some (record_of q.table r)) sel.found) (records (record_in q.table) rows)
+      (read_some (record_of q.table) sel.found ∙ ap (map Some) found_records) up
 
   -- the map's values that pass, where ORDER BY is the order of keys
-  pub values_selected : {K : Type 0} {R : K → K → Ordering} → IsTotalOrder R → IsAntisymmetric R → (key : X → K)
-      → IsPermutation (records of_row table) (values (kept R key of_row table)) → (test : X → Bool)
-      → ((r : Row) (x : X) → of_row r ≡ Some x → list_all (holds (params ∷ r ∷ [])) terms ≡ test x)
-      → ((a b : Row) (x y : X) → of_row a ≡ Some x → of_row b ≡ Some y → by_order tree terms project order params a b ≡
-      R (key x) (key y))
-      → records read rows ≡ filter test (values (kept R key of_row table))
+  pub values_selected : {K : Type 0} {R : K → K → Ordering} → IsTotalOrder R → IsAntisymmetric R
+      → (key : RecordOf q.table → K)
+      → IsPermutation (records (record_of q.table) table) (values (kept R key (record_of q.table) table))
+      → (test : RecordOf q.table → Bool)
+      → ((r : Row) (x : RecordOf q.table) → record_of q.table r ≡ Some x → passes q r ≡ test x)
+      → ((a b : Row) (x y : RecordOf q.table) → record_of q.table a ≡ Some x → record_of q.table b ≡ Some y
+      → by_order q a b ≡ R (key x) (key y))
+      → records (record_in q.table) rows ≡ filter test (values (kept R key (record_of q.table) table))
   values_selected {K} {R} total same key whole test agrees keyed =
-      rows_listed total same key of_row table test (records read rows)
+      rows_listed total same key (record_of q.table) table test (records (record_in q.table) rows)
       (records_selected test agrees _ whole) (records_in_order (λ a b. R (key a) (key b)) keyed)

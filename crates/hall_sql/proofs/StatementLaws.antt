@@ -1,5 +1,5 @@
 -- What each statement asks, as it is computed of its text.
-use Rattle.std.proofs.Common.{List, ℕ, []}
+use Rattle.std.proofs.Common.{List, ℕ, [], None}
 use Rattle.sqlite.specs.Schema.{Schema}
 use Rattle.sqlite_value.specs.declared.keys.Key.{Key}
 use Rattle.sqlite.specs.Term.{Term}
@@ -16,6 +16,7 @@ use Rattle.hall_sql.proofs.ProtestTexts.{protest_is, protests_of_is, protests_in
 use Rattle.hall_sql.proofs.ProtestTexts.{all_protests_are}
 use Rattle.hall_sql.proofs.PuzzleTexts.{puzzle_is, puzzles_of_is, look_puzzle_is, add_puzzle_is, replace_puzzle_is}
 use Rattle.hall_sql.proofs.PuzzleTexts.{all_puzzles_are}
+use Rattle.hall_sql.proofs.Queries.{command_in, law}
 use Rattle.hall_sql.proofs.RoundQueries.{places_of_is, places_with_is, all_places_are}
 use Rattle.hall_sql.proofs.RoundTexts.{all_rounds_are}
 use Rattle.hall_sql.proofs.TesterTexts.{testers_of_is, add_tester_is, drop_testers_is, all_testers_are}
@@ -42,19 +43,14 @@ over_halls {sql} {parameters} {command} = by_hall (λ schema. IsCommand schema s
 
 pub asks_of_people : AskOfPeople
 asks_of_people = record {
-  person = over_halls (λ u. record { is = (person_is u).0; plain = (person_is u).2; whole = (person_is u).3 });
-  person_by_key = over_halls (λ u. record {
-    is = (person_by_key_is u).0;
-    plain = (person_by_key_is u).2;
-    whole =
-        (person_by_key_is u).3;
-  });
+  person = law (person_is []);
+  person_by_key = law (person_by_key_is []);
   people_after = over_halls (λ u. record {
     is = (people_after_is u).0;
     plain = (people_after_is u).2;
     whole = (people_after_is u).3;
   });
-  all_people = λ schema has. listing (all_people_are schema has);
+  all_people = λ schema has. command_in (all_people_are schema has);
   add_person = over_halls (λ u. record {
     is = (add_person_is u).0;
     plain = (add_person_is u).1;
@@ -65,14 +61,9 @@ asks_of_people = record {
 
 pub asks_of_puzzles : AskOfPuzzles
 asks_of_puzzles = record {
-  puzzle = over_halls (λ u. record { is = (puzzle_is u).0; plain = (puzzle_is u).2; whole = (puzzle_is u).3 });
-  puzzles_of = over_halls (λ u. record {
-    is = (puzzles_of_is u).0;
-    plain = (puzzles_of_is u).2;
-    whole =
-        (puzzles_of_is u).3;
-  });
-  all_puzzles = λ schema has. listing (all_puzzles_are schema has);
+  puzzle = law (puzzle_is (record { author = []; label = [] }));
+  puzzles_of = law (puzzles_of_is []);
+  all_puzzles = λ schema has. command_in (all_puzzles_are schema has);
   look_puzzle = over_halls (λ u. record {
     is = (look_puzzle_is u).0;
     plain = (look_puzzle_is u).2;
@@ -95,8 +86,8 @@ asks_of_puzzles = record {
 
 pub asks_of_rounds : AskOfRounds
 asks_of_rounds = record {
-  head = over_halls (λ u. record { is = (head_is u).0; plain = (head_is u).2; whole = (head_is u).3 });
-  all_rounds = λ schema has. listing (all_rounds_are schema has);
+  head = law (head_is []);
+  all_rounds = λ schema has. command_in (all_rounds_are schema has);
   look_head = over_halls (λ u. record {
     is = (look_head_is u).0;
     plain = (look_head_is u).2;
@@ -114,19 +105,9 @@ asks_of_rounds = record {
 
 pub asks_of_places : AskOfPlaces
 asks_of_places = record {
-  places_of = over_halls (λ u. record {
-    is = (places_of_is u).0;
-    plain = (places_of_is u).2;
-    whole =
-        (places_of_is u).3;
-  });
-  places_with = over_halls (λ u. record {
-    is = (places_with_is u).0;
-    plain = (places_with_is u).2;
-    whole =
-        (places_with_is u).3;
-  });
-  all_places = λ schema has. listing (all_places_are schema has);
+  places_of = law (places_of_is []);
+  places_with = law (places_with_is (record { author = []; label = [] }));
+  all_places = λ schema has. command_in (all_places_are schema has);
   add_place = over_halls (λ u. record {
     is = (add_place_is u).0;
     plain = (add_place_is u).1;
@@ -143,13 +124,8 @@ asks_of_places = record {
 
 pub asks_of_testers : AskOfTesters
 asks_of_testers = record {
-  testers_of = over_halls (λ u. record {
-    is = (testers_of_is u).0;
-    plain = (testers_of_is u).2;
-    whole =
-        (testers_of_is u).3;
-  });
-  all_testers = λ schema has. listing (all_testers_are schema has);
+  testers_of = law (testers_of_is []);
+  all_testers = λ schema has. command_in (all_testers_are schema has);
   add_tester = over_halls (λ u. record {
     is = (add_tester_is u).0;
     plain = (add_tester_is u).1;
@@ -166,37 +142,13 @@ asks_of_testers = record {
 
 pub asks_of_answers : AskOfAnswers
 asks_of_answers = record {
-  answer = over_halls (λ u. record { is = (answer_is u).0; plain = (answer_is u).2; whole = (answer_is u).3 });
-  answers_of = over_halls (λ u. record {
-    is = (answers_of_is u).0;
-    plain = (answers_of_is u).2;
-    whole =
-        (answers_of_is u).3;
-  });
-  answers_in = over_halls (λ u. record {
-    is = (answers_in_is u).0;
-    plain = (answers_in_is u).2;
-    whole =
-        (answers_in_is u).3;
-  });
-  answers_between = over_halls (λ u. record {
-    is = (answers_between_is u).0;
-    plain = (answers_between_is u).2;
-    whole = (answers_between_is u).3;
-  });
-  answers_given = over_halls (λ u. record {
-    is = (answers_given_is u).0;
-    plain = (answers_given_is u).2;
-    whole =
-        (answers_given_is u).3;
-  });
-  number_taken = over_halls (λ u. record {
-    is = (number_taken_is u).0;
-    plain = (number_taken_is u).2;
-    whole =
-        (number_taken_is u).3;
-  });
-  all_answers = λ schema has. listing (all_answers_are schema has);
+  answer = law (answer_is (record { entrant = []; round = []; number = 0; token = [] }));
+  answers_of = law (answers_of_is [] []);
+  answers_in = law (answers_in_is []);
+  answers_between = law (answers_between_is [] None None);
+  answers_given = law (answers_given_is [] [] 0);
+  number_taken = law (number_taken_is [] [] 0 0);
+  all_answers = λ schema has. command_in (all_answers_are schema has);
   add_answer = over_halls (λ u. record {
     is = (add_answer_is u).0;
     plain = (add_answer_is u).1;
@@ -207,20 +159,10 @@ asks_of_answers = record {
 
 pub asks_of_protests : AskOfProtests
 asks_of_protests = record {
-  protest = over_halls (λ u. record { is = (protest_is u).0; plain = (protest_is u).2; whole = (protest_is u).3 });
-  protests_of = over_halls (λ u. record {
-    is = (protests_of_is u).0;
-    plain = (protests_of_is u).2;
-    whole =
-        (protests_of_is u).3;
-  });
-  protests_in = over_halls (λ u. record {
-    is = (protests_in_is u).0;
-    plain = (protests_in_is u).2;
-    whole =
-        (protests_in_is u).3;
-  });
-  all_protests = λ schema has. listing (all_protests_are schema has);
+  protest = law (protest_is (record { entrant = []; round = []; token = [] }));
+  protests_of = law (protests_of_is [] []);
+  protests_in = law (protests_in_is []);
+  all_protests = λ schema has. command_in (all_protests_are schema has);
   add_protest = over_halls (λ u. record {
     is = (add_protest_is u).0;
     plain = (add_protest_is u).1;

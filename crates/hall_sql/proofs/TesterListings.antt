@@ -7,7 +7,7 @@ use Rattle.std.proofs.lemmas.Map.Keys.{IsDistinct-from_sorted}
 use Rattle.std.proofs.lemmas.Map.Made.{AllPairs-from_IsDistinct}
 use Rattle.std.specs.Bool.{Decides}
 use Rattle.std.specs.Cmp.Lexicographic.{texts_ties}
-use Rattle.std.specs.List.{list_all, AllByRecursion}
+use Rattle.std.specs.List.{AllByRecursion}
 use Rattle.std.specs.List.Sorted.{IsPermutation, IsStrictlySortedBy}
 use Rattle.std.specs.Ordering.{eq_by_cmp, ordering_then}
 use Rattle.std.specs.declared.cmp.Ordering.{Ordering}
@@ -17,7 +17,6 @@ use Rattle.sqlite.specs.declared.types.Value.TheVariants.{Text}
 use Rattle.sqlite.specs.Effect.{IsDatabase}
 use Rattle.sqlite.specs.Order.{Row}
 use Rattle.sqlite.specs.State.{State, Shown}
-use Rattle.sqlite.specs.Term.{holds}
 use Rattle.sqlite.specs.Tree.{Trees}
 use Rattle.sqlite_schema.specs.Rules.{agree}
 use Rattle.sqlite_rules.proofs.ListLemmas.{all_has}
@@ -41,16 +40,16 @@ use Rattle.hall_sql.specs.declared.testers.TheConstants.{ALL_TESTERS, TESTERS_OF
 use Rattle.hall_sql.proofs.AmongLemmas.{mapped, mapped_from}
 use Rattle.hall_sql.proofs.ColumnLemmas.{kind_column, column_same, and_true}
 use Rattle.hall_sql.proofs.EntryListings.{are_entries, rise_strictly}
-use Rattle.hall_sql.proofs.ListedLemmas.{by_order, records_asked, records_sorted}
+use Rattle.hall_sql.proofs.ListedLemmas.{records_asked, records_sorted}
 use Rattle.hall_sql.proofs.EntryLemmas.{entries_kept}
-use Rattle.hall_sql.proofs.TesterTexts.{all_testers_are, tester_columns, tester_order, round_terms, name_order}
-use Rattle.hall_sql.proofs.TesterTexts.{testers_of_is}
 use Rattle.hall_sql.proofs.ValueLemmas.{no_more}
 use Rattle.hall_sql.specs.declared.tables.HallTable.TheVariants.{Testers}
 use Rattle.sqlite.specs.Schema.{Schema}
 use Rattle.hall_sql.proofs.Versions.{all_listed, unique_in}
 use Rattle.hall_sql.proofs.UniqueLemmas.{equal_texts, records_listed}
 use Rattle.hall_sql.proofs.RecordParts.{tester_parts_of}
+use Rattle.hall_sql.proofs.TesterTexts.{all_testers, all_testers_are, testers_of, testers_of_is}
+use Rattle.hall_sql.proofs.Queries.{by_order, passes}
 
 abbrev pub Tester : Type 0
 Tester = TesterKey × Unit {0}
@@ -120,13 +119,12 @@ module _ (old new : State) (has : IsHallSchema old.now.schema) (keyed : AreKeyed
       let db = old.now.trees in
       testers_listed {schema = old.now.schema} has db keyed sound
 
-  in_agrees : (r : Row) (x : Tester) → tester_of_row r ≡ Some x → list_all (holds ((Text id ∷ []) ∷ r ∷ [])) round_terms
-      ≡ tests_round id x
+  in_agrees : (r : Row) (x : Tester) → tester_of_row r ≡ Some x → passes (testers_of id) r ≡ tests_round id x
   in_agrees r x h = and_true _ ∙ column_same (column r 1) x.0.round id (has_columns r x h).round
 
   -- ORDER BY name is the order of names
   same_order : (a b : Row) (x y : Tester) → tester_of_row a ≡ Some x → tester_of_row b ≡ Some y
-      → by_order 14 round_terms tester_columns name_order (Text id ∷ []) a b ≡ name_cmp x y
+      → by_order (testers_of id) a b ≡ name_cmp x y
   same_order a b x y p q =
       rw (
         (has_columns a x p).name,
@@ -137,16 +135,9 @@ module _ (old new : State) (has : IsHallSchema old.now.schema) (keyed : AreKeyed
 
   pub testers_of_named : Shown TESTERS_OF.now (Text id ∷ []) old new rows → AreNamed (world_of old.now.trees) id out
   testers_of_named shown =
-      let same = records_asked tester_in 2 TESTERS_OF.now (Text id ∷ []) 14 round_terms tester_columns name_order _
-      (testers_of_is said.0).0
-      (testers_of_is said.0).1 (testers_of_is said.0).2 (λ db. refl) (λ r. refl) (tests_round id) in_agrees old new rows
-      out said.1 shown
-      is _ whole in
-      let sorted = records_sorted tester_in 2 TESTERS_OF.now (Text id ∷ []) 14 round_terms tester_columns name_order _
-      (testers_of_is said.0).0
-      (testers_of_is said.0).1 (testers_of_is said.0).2 (λ db. refl) (λ r. refl) (tests_round id) in_agrees old new rows
-      out said.1 shown
-      is name_cmp same_order in
+      let same = records_asked (testers_of_is id said.0) old new rows out said.1 shown is (tests_round id) in_agrees _
+      whole in
+      let sorted = records_sorted (testers_of_is id said.0) old new rows out said.1 shown is name_cmp same_order in
       record {
         whole = are_entries tester_total same_tester_keys tester_of_row (old.now.trees 14) (tests_round id) out same;
         in_order = rise_strictly tester_total same_tester_keys tester_of_row (old.now.trees 14) (tests_round id) out
@@ -158,7 +149,7 @@ module _ (old new : State) (has : IsHallSchema old.now.schema) (keyed : AreKeyed
 
 -- ORDER BY round, name is the order of keys
 by_tester : (a b : Row) (x y : Tester) → tester_of_row a ≡ Some x → tester_of_row b ≡ Some y
-    → by_order 14 [] tester_columns tester_order [] a b ≡ tester_cmp x.0 y.0
+    → by_order all_testers a b ≡ tester_cmp x.0 y.0
 by_tester a b x y p q =
     let one = has_columns a x p in
     let two = has_columns b y q in
@@ -179,8 +170,7 @@ pub all_testers_listed : (old new : State) → IsHallSchema old.now.schema → A
 all_testers_listed old new has keyed sound rows out is shown =
     let db = old.now.trees in
     let whole = testers_listed {schema = old.now.schema} has db keyed sound in
-    all_listed (all_testers_are old.now.schema has) tester_total same_tester_keys key_of tester_in 2 (λ db. refl)
-    (λ r. refl) by_tester old new refl whole
+    all_listed (all_testers_are old.now.schema has) tester_total same_tester_keys key_of by_tester old new refl whole
     rows out is shown
     ∙ entries_kept tester_total same_tester_keys tester_of_row (db 14)
 

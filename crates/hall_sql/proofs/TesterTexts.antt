@@ -1,5 +1,5 @@
 -- What the statements on the testers of rounds mean under the hall's tables.
-use Rattle.std.proofs.Common.{◌≡◌, inl, List, ℕ, true, false, [], ◌∷◌, refl}
+use Rattle.std.proofs.Common.{◌≡◌, inl, List, ℕ, true, [], ◌∷◌, refl}
 use Rattle.sqlite_tied.specs.Compute.{everything}
 use Rattle.sqlite.specs.Order.{Row}
 use Rattle.sqlite.specs.Term.{Term, lit, col}
@@ -9,66 +9,41 @@ use Rattle.sqlite.specs.Table.{Table}
 use Rattle.sqlite.specs.Schema.{Schema}
 use Rattle.sqlite.specs.Tree.{Trees}
 use Rattle.sqlite.specs.Program.{overlay}
-use Rattle.sqlite.specs.Listing.{understood, reads_listing}
-use Rattle.sqlite.specs.Command.TheVariants.{Delete, Insert, Select}
+use Rattle.sqlite.specs.Listing.{understood}
+use Rattle.sqlite.specs.Command.TheVariants.{Delete, Insert}
 use Rattle.sqlite.proofs.Callers.{IsPlain, command_of}
 use Rattle.sqlite_value.specs.Keys.{joined}
-use Rattle.sqlite_value.specs.declared.keys.Key.{Key}
 use Rattle.sqlite_schema.specs.Names.{same_name}
 use Rattle.sqlite_schema.specs.declared.schema.Keys.TheVariants.{Enforced}
 use Rattle.sqlite_schema.specs.Rules.{parent_key}
 use Rattle.sqlite_rules.specs.Action.{deed_for, works}
-use Rattle.hall_sql.specs.Asked.{IsAsked, IsAskedIn, is_whole}
 use Rattle.hall_sql.specs.Tables.{IsHallSchema, table_at}
 use Rattle.hall_sql.specs.declared.tables.HallTable.TheVariants.{Testers}
-use Rattle.hall_sql.specs.Statements.{equals, rising, names_of, plain_query}
+use Rattle.hall_sql.specs.Statements.{equals}
 use Rattle.hall_sql.specs.declared.testers.TheConstants.{ALL_TESTERS, TESTERS_OF, DROP_TESTERS, ADD_TESTER}
-use Rattle.hall_sql.proofs.AskedLemmas.{asked}
-use Rattle.hall_sql.proofs.Versions.{AsksAll}
 use Rattle.hall_sql.proofs.RestrictLemmas.{OnlyRefuses, Restricts, refusing_works}
 use Rattle.hall_sql.proofs.DeleteLemmas.{deletion}
 use Rattle.hall_sql.proofs.Wordings.{Wording, all_in, by_hall, hall_in, table_in}
+use Rattle.hall_sql.proofs.Queries.{Computes, TableQuery, query}
 
 -- as the schema has it
 abbrev pub testers_there : Table
 testers_there = table_at Testers
 
-abbrev pub tester_columns : List Term
-tester_columns = col 1 1 ∷ col 1 2 ∷ []
+abbrev pub testers_of : List ℕ → TableQuery
+testers_of id = query Testers TESTERS_OF.now (Text id ∷ []) (equals 1 0 ∷ []) (2 ∷ [])
 
-abbrev pub tester_names : List (List ℕ)
-tester_names = names_of Testers
+abbrev pub all_testers : TableQuery
+all_testers = query Testers ALL_TESTERS.now [] [] (1 ∷ 2 ∷ [])
 
--- round = ?1
-abbrev pub round_terms : List Term
-round_terms = equals 1 0 ∷ []
-
--- the order of names
-abbrev pub name_order : List (Term × Key)
-name_order = (col 1 2, rising) ∷ []
-
-pub testers_of_is : (u : Wording) → (command_of (understood (hall_in u) TESTERS_OF.now)
-    ≡ Select (record { lets = []; body = plain_query 14 round_terms tester_columns name_order }) tester_names)
-    × (reads_listing (hall_in u) TESTERS_OF.now ≡ false) × IsPlain (understood (hall_in u) TESTERS_OF.now)
-    × (is_whole TESTERS_OF.now 1 (understood (hall_in u) TESTERS_OF.now) ≡ true)
+pub testers_of_is : (id : List ℕ) (u : Wording) → Computes (testers_of id) (hall_in u)
 unfolding understood everything
-testers_of_is u = (refl, refl, (refl, refl), refl)
+testers_of_is id u = record { is = refl; unlisted = refl; plain = (refl, refl); whole = refl; typed = refl }
 
-pub testers_of_asked : (id : List ℕ) → IsAsked TESTERS_OF.now (Text id ∷ [])
-testers_of_asked id =
-    by_hall (IsAskedIn TESTERS_OF.now (Text id ∷ [])) (λ u. asked TESTERS_OF.now (Text id ∷ []) 14 round_terms
-    tester_columns name_order _ (testers_of_is u).0 (testers_of_is u).1 (testers_of_is u).2 (testers_of_is u).3
-    refl)
-
--- the order of keys
-abbrev pub tester_order : List (Term × Key)
-tester_order = (col 1 1, rising) ∷ (col 1 2, rising) ∷ []
-
-pub all_testers_are : (schema : Schema) → IsHallSchema schema → AsksAll ALL_TESTERS.now 14 tester_columns tester_order
-    tester_names schema
+pub all_testers_are : (schema : Schema) → IsHallSchema schema → Computes all_testers schema
 unfolding understood everything
 all_testers_are =
-    by_hall (AsksAll ALL_TESTERS.now 14 tester_columns tester_order tester_names)
+    by_hall (Computes all_testers)
     (λ u. record { is = refl; unlisted = refl; plain = (refl, refl); whole = refl; typed = refl })
 
 pub testers_apart : (db : Trees) → overlay db [] testers_there.tree ≡ db testers_there.tree

@@ -1,5 +1,5 @@
 -- What is said of the hall's tables of either version.
-use Rattle.std.proofs.Common.{◌≡◌, inl, inr, ℕ, List, [], ◌∷◌, flat_map, map, Bool, true, false, ◌&&◌, Option, Some}
+use Rattle.std.proofs.Common.{◌≡◌, inl, inr, ℕ, List, [], ◌∷◌, flat_map, map, Bool, true, false, ◌&&◌, Some}
 use Rattle.std.proofs.Common.{option_to_list, IsTrue, Result, IfOk, refl, ◌∙◌}
 use Rattle.std.proofs.lemmas.Bool.{and_parts}
 use Rattle.std.specs.Cmp.{IsTotalOrder}
@@ -18,10 +18,9 @@ use Rattle.sqlite.specs.Command.TheVariants.{Select}
 use Rattle.sqlite.specs.Effect.{IsDatabase}
 use Rattle.sqlite.specs.Listing.{understood, reads_listing}
 use Rattle.sqlite.specs.Order.{Row}
-use Rattle.sqlite.specs.Program.{overlay}
 use Rattle.sqlite.specs.Schema.{Schema}
 use Rattle.sqlite.specs.State.{State, HasCleanDisk, Shown}
-use Rattle.sqlite.specs.Term.{Term, eval_all}
+use Rattle.sqlite.specs.Term.{Term}
 use Rattle.sqlite.specs.Tree.{Trees}
 use Rattle.sqlite.proofs.Callers.{IsPlain, command_of}
 use Rattle.hall_policy.specs.World.{World}
@@ -32,7 +31,7 @@ use Rattle.hall_sql.specs.declared.tables.HallTable.TheVariants.{Testers}
 use Rattle.hall_sql.specs.Asked.{IsAskedIn, is_whole}
 use Rattle.hall_sql.specs.Made.{all_tables, old_tables}
 use Rattle.hall_sql.specs.Tables.{shape_of}
-use Rattle.hall_sql.specs.Rows.{columns_from, kept, world_of}
+use Rattle.hall_sql.specs.Rows.{kept, world_of}
 use Rattle.hall_sql.specs.Scan.{tree_of}
 use Rattle.hall_sql.specs.Standing.{AreKeyed, AreKeyedIn, IsOver, KeptAnyTables}
 use Rattle.hall_sql.specs.Content.{content_of}
@@ -40,7 +39,8 @@ use Rattle.hall_sql.specs.Statements.{plain_query}
 use Rattle.hall_sql.specs.Tables.{IsHallSchema, IsOldSchema, table_at}
 use Rattle.hall_sql.specs.Versions.{IsVersion, IsAnyHall, HasTable}
 use Rattle.hall_sql.proofs.AskedLemmas.{asked}
-use Rattle.hall_sql.proofs.ListedLemmas.{by_order, values_asked}
+use Rattle.hall_sql.proofs.ListedLemmas.{values_asked}
+use Rattle.hall_sql.proofs.Queries.{Computes, RecordOf, by_order, query, record_in, record_of}
 use Rattle.hall_sql.proofs.StoreLemmas.{told}
 use Rattle.hall_sql.proofs.UniqueLemmas.{first_not}
 use Rattle.hall_sql.proofs.Wordings.{Wording, by_hall, by_old, hall_in, old_in, trees_like}
@@ -164,24 +164,21 @@ module _ {text : List ℕ} {tree : ℕ} {project : List Term} {order : List (Ter
   pub asked_all : IsAskedIn text [] schema
   asked_all = asked text [] tree [] project order names all.is all.unlisted all.plain all.whole all.typed
 
-  module _ {K X : Type 0} {R : K → K → Ordering} (total : IsTotalOrder R) (same : IsAntisymmetric R) (key : X → K)
-      (read : Row → Option X) (count : ℕ) (apart : (db : Trees) → overlay db [] tree ≡ db tree)
-      (shows : (r : Row) → eval_all project ([] ∷ r ∷ []) ≡ columns_from 1 count r)
-      (keyed : (a b : Row) (x y : X) → read (columns_from 1 count a) ≡ Some x → read (columns_from 1 count b) ≡ Some y
-      → by_order tree [] project order [] a b ≡ R (key x) (key y)) where
-    abbrev map_of : List Row → List X
-    map_of rows = values (kept R key (λ r. read (columns_from 1 count r)) rows)
-
-    -- the records of its answer are the map's values, where the table's are
-    pub all_listed : (old new : State) → old.now.schema ≡ schema
-        → IsPermutation (flat_map (λ r. option_to_list (read (columns_from 1 count r))) (old.now.trees tree))
-        (map_of (old.now.trees tree))
-        → (rows : List Row) (out : List X) → map read rows ≡ map Some out → Shown text [] old new rows
-        → out ≡ map_of (old.now.trees tree)
-    all_listed old new has whole rows out is shown =
-        values_asked read count text [] tree [] project order names all.is all.unlisted all.plain apart shows
-        (λ _. true) (λ r x h. refl) old new rows out has shown is total same key whole keyed
-        ∙ filter_all (λ _. true) (map_of (old.now.trees tree)) (all_of (λ _. true ≡ true) (λ _. refl) _)
+-- the records of the answer of a query of all rows of a table are the map's values, where the table's are
+pub all_listed : {table : HallTable} {text : List ℕ} {order : List ℕ} {schema : Schema}
+    → Computes (query table text [] [] order) schema → {K : Type 0} {R : K → K → Ordering} → IsTotalOrder R
+    → IsAntisymmetric R → (key : RecordOf table → K)
+    → ((a b : Row) (x y : RecordOf table) → record_of table a ≡ Some x → record_of table b ≡ Some y
+    → by_order (query table text [] [] order) a b ≡ R (key x) (key y))
+    → (old new : State) → old.now.schema ≡ schema
+    → IsPermutation (flat_map (λ r. option_to_list (record_of table r)) (old.now.trees (tree_of table)))
+    (values (kept R key (record_of table) (old.now.trees (tree_of table))))
+    → (rows : List Row) (out : List (RecordOf table)) → map (record_in table) rows ≡ map Some out
+    → Shown text [] old new rows → out ≡ values (kept R key (record_of table) (old.now.trees (tree_of table)))
+all_listed {table} computes {K} {R} total same key keyed old new has whole rows out is shown =
+    let all = values (kept R key (record_of table) (old.now.trees (tree_of table))) in
+    values_asked computes old new rows out has shown is (λ _. true) (λ r x h. refl) total same key whole keyed
+    ∙ filter_all (λ _. true) all (all_of (λ _. true ≡ true) (λ _. refl) all)
 
 -- each of these tables is in the schema
 pub all_there : (schema : Schema) → IsHallSchema schema → AllByRecursion (HasTable schema) all_tables

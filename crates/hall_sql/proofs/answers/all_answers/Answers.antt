@@ -4,12 +4,13 @@ use Rattle.hall_sql.specs.declared.answers.TheConstants.{ALL_ANSWERS}
 use Rattle.hall_sql.proofs.AnswerLemmas.{all_answers_listed}
 use Rattle.hall_sql.proofs.AnswerTexts.{all_answers_are}
 use Rattle.hall_sql.proofs.ReadLemmas.{reads_table}
-use Rattle.hall_sql.proofs.Versions.{asked_all, over_any}
+use Rattle.hall_sql.proofs.Versions.{over_any}
+use Rattle.hall_sql.proofs.Queries.{asked_in}
 use Rattle.hall_sql.proofs.answers.all_answers.Goals as goal
 
 pub read_any-requires : goal.read_any-requires
 read_any-requires g c =
-    record { asks = over_any c.requires.hall (λ schema version. asked_all (all_answers_are schema version)) }
+    record { asks = over_any c.requires.hall (λ schema version. asked_in (all_answers_are schema version)) }
 
 pub returns : goal.returns
 returns g c =

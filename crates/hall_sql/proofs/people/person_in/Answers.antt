@@ -1,7 +1,7 @@
 use Rattle.std.proofs.Common.{◌∙◌, inl, inr, [], ◌∷◌, length, ◌≤◌, arith}
 use Rattle.std.proofs.lemmas.Result.{IfOk-weaker, IfErr-weaker}
 use Rattle.sqlite.specs.Held.{state}
-use Rattle.hall_sql.proofs.PeopleTexts.{person_is, person_asked}
+use Rattle.hall_sql.proofs.PeopleTexts.{person_is}
 use Rattle.hall_sql.proofs.PeopleLemmas.{person_found}
 use Rattle.hall_sql.proofs.InsideLemmas.{shown_did}
 use Rattle.sqlite.specs.declared.types.Value.TheVariants.{Text}
@@ -11,6 +11,7 @@ use Rattle.hall_sql.proofs.FoundLemmas.{length_read}
 use Rattle.hall_sql.specs.Rows.{person_in}
 use Rattle.hall_sql.proofs.UnreadRows.{person_one}
 use Rattle.hall_sql.proofs.WriteCauseLemmas.{asked_inside}
+use Rattle.hall_sql.proofs.Queries.{asked}
 use Rattle.hall_sql.proofs.people.person_in.Goals as goal
 
 pub returns-clause-done : goal.returns-clause-done
@@ -19,7 +20,7 @@ returns-clause-done g c clean inside =
     let new = state g.S.Store c.ask_in.new.tx.conn.now in
     let shown = rw (c.params-to_sql.ensures, c.as_str.ensures.text) at (c.in_ok-rows.ensures.shown clean) in
     IfOk-weaker c.at_most_one.result _ _
-    (λ o h. shown_did _ _ _ old new c.in_ok-rows.rows.items inside (λ u. (person_is u).2) shown
+    (λ o h. shown_did _ _ _ old new c.in_ok-rows.rows.items inside (λ u. (person_is c.args.name.now u).plain) shown
     (λ it. h.1 ∙ person_found c.args.name.now old new c.in_ok-rows.rows.items c.in_ok-read_all.field-0.items it.schema
     shown
     (rw c.deref.ensures.value at c.in_ok-read_all.ensures.all) h.0))
@@ -29,7 +30,7 @@ pub returns-in_err-rows-clause-cause : goal.returns-in_err-rows-clause-cause
 returns-in_err-rows-clause-cause g c clean goes =
     fails_as c.from_residual.result _ _ c.from_residual.ensures.1 (λ failed.
     inl (asked_inside PERSON.now (Text c.args.name.now ∷ []) (state g.S.Store c.args.tx.now.conn.now)
-    (state g.S.Store c.ask_in.new.tx.conn.now) (person_asked c.args.name.now) goes
+    (state g.S.Store c.ask_in.new.tx.conn.now) (asked (person_is c.args.name.now)) goes
     (rw (c.params-to_sql.ensures, c.as_str.ensures.text) at (c.in_err-rows.ensures.cause clean failed))))
 
 pub returns-in_err-read_all-clause-cause : goal.returns-in_err-read_all-clause-cause

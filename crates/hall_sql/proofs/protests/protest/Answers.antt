@@ -9,11 +9,12 @@ use Rattle.sqlite.specs.Held.{state}
 use Rattle.sqlite.specs.State.{HasCleanDisk}
 use Rattle.hall_sql.specs.Columns.{is_protest_under, IsAlone}
 use Rattle.hall_sql.specs.Tables.{IsHallSchema}
-use Rattle.hall_sql.proofs.ProtestTexts.{protest_asked}
 use Rattle.hall_sql.proofs.ProtestLemmas.{protest_found, protest_alone}
 use Rattle.hall_sql.proofs.ReadLemmas.{finds_row}
-use Rattle.hall_sql.proofs.UnreadRows.{asks_one, protest_one, protest_unread}
+use Rattle.hall_sql.proofs.UnreadRows.{asks_one, protest_one, unread}
 use Rattle.hall_sql.specs.Cause.{IsFound}
+use Rattle.hall_sql.proofs.ProtestTexts.{protest_is}
+use Rattle.hall_sql.proofs.Queries.{asked}
 use Rattle.hall_sql.proofs.protests.protest.Goals as goal
 
 pub find-requires-clause-asks : goal.find-requires-clause-asks
@@ -26,7 +27,7 @@ find-requires-clause-asks g c =
       c.as_str-2.ensures.text,
       c.as_str-3.ensures.text,
     )
-    (protest_asked c.args.key.now.entrant c.args.key.now.round c.args.key.now.token)
+    (asked (protest_is c.args.key.now))
 
 pub find-requires-clause-one : goal.find-requires-clause-one
 find-requires-clause-one g c =
@@ -39,7 +40,7 @@ find-requires-clause-one g c =
       c.as_str-3.ensures.text,
     )
     (asks_one g.S.Store PROTEST.now (Text c.args.key.now.entrant ∷ Text c.args.key.now.round ∷ Text c.args.key.now.token
-    ∷ []) (protest_one c.args.key.now.entrant c.args.key.now.round c.args.key.now.token))
+    ∷ []) (protest_one c.args.key.now))
 
 pub returns-clause-reads : goal.returns-clause-reads
 returns-clause-reads g c =
@@ -52,8 +53,7 @@ returns-clause-reads g c =
       c.as_str-2.ensures.text,
       c.as_str-3.ensures.text,
     ) at c.find.ensures in
-    finds_row protest_in PROTEST.now (Text key.entrant ∷ Text key.round ∷ Text key.token ∷ []) c.find.result _
-    c.requires.hall told.rested (protest_unread key.entrant key.round key.token) told.found told.cause
+    finds_row _ _ _ c.find.result _ c.requires.hall told.rested (unread (protest_is key)) told.found told.cause
     (λ found it opened has keyed. it.is ∙ protest_found key _ (state g.S.Store c.find.new.conn)
     it.are.1.rows it.records has it.are.1.shown it.are.1.reads it.few)
 

@@ -1,21 +1,19 @@
-use Rattle.std.proofs.Common.{[], ◌∷◌}
 use Rattle.sqlite.specs.Held.{state}
-use Rattle.sqlite.specs.declared.types.Value.TheVariants.{Text}
-use Rattle.hall_sql.specs.Rows.{protest_in}
-use Rattle.hall_sql.specs.declared.protests.TheConstants.{PROTESTS_IN}
 use Rattle.hall_sql.proofs.ProtestLemmas.{protests_in_listed}
-use Rattle.hall_sql.proofs.ProtestTexts.{protests_in_asked}
 use Rattle.hall_sql.proofs.ReadLemmas.{reads_rows}
-use Rattle.hall_sql.proofs.UnreadRows.{protests_in_unread}
+use Rattle.hall_sql.proofs.ProtestTexts.{protests_in_is}
+use Rattle.hall_sql.proofs.Queries.{asked}
+use Rattle.hall_sql.proofs.UnreadRows.{unread}
 use Rattle.hall_sql.proofs.protests.protests_in.Goals as goal
 
 pub read-requires-clause-asks : goal.read-requires-clause-asks
-read-requires-clause-asks g c = rw (c.params-to_sql.ensures, c.as_str.ensures.text) (protests_in_asked c.args.round.now)
+read-requires-clause-asks g c =
+    rw (c.params-to_sql.ensures, c.as_str.ensures.text) (asked (protests_in_is c.args.round.now))
 
 pub returns : goal.returns
 returns g c =
-    reads_rows protest_in PROTESTS_IN.now (Text c.args.round.now ∷ []) c.read.result _ c.requires.hall
-    c.read.ensures.rested (λ out. out.items) (protests_in_unread c.args.round.now)
+    reads_rows _ _ _ c.read.result _ c.requires.hall
+    c.read.ensures.rested (λ out. out.items) (unread (protests_in_is c.args.round.now))
     (rw (c.params-to_sql.ensures, c.as_str.ensures.text) at c.read.ensures.read)
     (rw (c.params-to_sql.ensures, c.as_str.ensures.text) at c.read.ensures.cause)
     (λ out it opened has keyed. protests_in_listed _ (state g.S.Store c.read.new.conn) has keyed.1.1.1.1.1.0

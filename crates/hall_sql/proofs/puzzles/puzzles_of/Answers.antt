@@ -1,21 +1,19 @@
-use Rattle.std.proofs.Common.{[], ◌∷◌}
 use Rattle.sqlite.specs.Held.{state}
-use Rattle.sqlite.specs.declared.types.Value.TheVariants.{Text}
-use Rattle.hall_sql.specs.Rows.{puzzle_row_in}
-use Rattle.hall_sql.specs.declared.puzzles.TheConstants.{PUZZLES_OF}
 use Rattle.hall_sql.proofs.PuzzleListings.{puzzles_of_listed}
-use Rattle.hall_sql.proofs.PuzzleTexts.{puzzles_of_asked}
 use Rattle.hall_sql.proofs.ReadLemmas.{reads_rows}
-use Rattle.hall_sql.proofs.UnreadRows.{puzzles_of_unread}
+use Rattle.hall_sql.proofs.PuzzleTexts.{puzzles_of_is}
+use Rattle.hall_sql.proofs.Queries.{asked}
+use Rattle.hall_sql.proofs.UnreadRows.{unread}
 use Rattle.hall_sql.proofs.puzzles.puzzles_of.Goals as goal
 
 pub read-requires-clause-asks : goal.read-requires-clause-asks
-read-requires-clause-asks g c = rw (c.params-to_sql.ensures, c.as_str.ensures.text) (puzzles_of_asked c.args.author.now)
+read-requires-clause-asks g c =
+    rw (c.params-to_sql.ensures, c.as_str.ensures.text) (asked (puzzles_of_is c.args.author.now))
 
 pub returns : goal.returns
 returns g c =
-    reads_rows puzzle_row_in PUZZLES_OF.now (Text c.args.author.now ∷ []) c.read.result _ c.requires.hall
-    c.read.ensures.rested (λ out. out.items) (puzzles_of_unread c.args.author.now)
+    reads_rows _ _ _ c.read.result _ c.requires.hall
+    c.read.ensures.rested (λ out. out.items) (unread (puzzles_of_is c.args.author.now))
     (rw (c.params-to_sql.ensures, c.as_str.ensures.text) at c.read.ensures.read)
     (rw (c.params-to_sql.ensures, c.as_str.ensures.text) at c.read.ensures.cause)
     (λ out it opened has keyed. puzzles_of_listed _ (state g.S.Store c.read.new.conn) has keyed.1.0

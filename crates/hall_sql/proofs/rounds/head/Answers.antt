@@ -6,15 +6,16 @@ use Rattle.std.proofs.lemmas.Result.{IfOk-weaker}
 use Rattle.sqlite.specs.Held.{state}
 use Rattle.sqlite.specs.State.{HasCleanDisk}
 use Rattle.hall_sql.specs.Tables.{IsHallSchema}
-use Rattle.hall_sql.proofs.HeadTexts.{head_asked}
 use Rattle.hall_sql.proofs.RoundWrites.{head_found, head_alone, head_stays}
 use Rattle.hall_sql.proofs.ReadLemmas.{finds_row}
-use Rattle.hall_sql.proofs.UnreadRows.{asks_one, head_one, head_unread}
+use Rattle.hall_sql.proofs.UnreadRows.{asks_one, head_one, unread}
 use Rattle.hall_sql.specs.Cause.{IsFound}
+use Rattle.hall_sql.proofs.HeadTexts.{head_is}
+use Rattle.hall_sql.proofs.Queries.{asked}
 use Rattle.hall_sql.proofs.rounds.head.Goals as goal
 
 pub find-requires-clause-asks : goal.find-requires-clause-asks
-find-requires-clause-asks g c = rw (c.params-to_sql.ensures, c.as_str.ensures.text) (head_asked c.args.id.now)
+find-requires-clause-asks g c = rw (c.params-to_sql.ensures, c.as_str.ensures.text) (asked (head_is c.args.id.now))
 
 pub find-requires-clause-one : goal.find-requires-clause-one
 find-requires-clause-one g c =
@@ -23,8 +24,7 @@ find-requires-clause-one g c =
 
 pub returns-clause-reads : goal.returns-clause-reads
 returns-clause-reads g c =
-    finds_row round_in HEAD.now (Text c.args.id.now ∷ []) c.find.result _ c.requires.hall c.find.ensures.rested
-    (head_unread c.args.id.now)
+    finds_row _ _ _ c.find.result _ c.requires.hall c.find.ensures.rested (unread (head_is c.args.id.now))
     (rw (c.params-to_sql.ensures, c.as_str.ensures.text) at c.find.ensures.found)
     (rw (c.params-to_sql.ensures, c.as_str.ensures.text) at c.find.ensures.cause)
     (λ found it opened has keyed. it.is ∙ head_found c.args.id.now _ (state g.S.Store c.find.new.conn) it.are.1.rows

@@ -13,13 +13,14 @@ use Rattle.hall_sql.specs.declared.rounds.TheConstants.{HEAD, PLACES_OF}
 use Rattle.hall_sql.specs.declared.testers.TheConstants.{TESTERS_OF}
 use Rattle.hall_sql.proofs.CauseLemmas.{fails_as}
 use Rattle.hall_sql.proofs.FailLemmas.{round_fault}
-use Rattle.hall_sql.proofs.HeadTexts.{head_asked}
 use Rattle.hall_sql.proofs.ReadCauseLemmas.{after_shown}
 use Rattle.hall_sql.proofs.ReadLemmas.{refused}
-use Rattle.hall_sql.proofs.RoundQueries.{places_of_asked}
 use Rattle.hall_sql.proofs.RoundRows.{none_right}
 use Rattle.hall_sql.proofs.StoreLemmas.{always, rested_kept, rests_on, served_so}
-use Rattle.hall_sql.proofs.TesterTexts.{testers_of_asked}
+use Rattle.hall_sql.proofs.HeadTexts.{head_is}
+use Rattle.hall_sql.proofs.RoundQueries.{places_of_is}
+use Rattle.hall_sql.proofs.TesterTexts.{testers_of_is}
+use Rattle.hall_sql.proofs.Queries.{asked}
 use Rattle.hall_sql.proofs.rounds.round.Goals as goal
 
 pub returns : goal.returns
@@ -109,8 +110,8 @@ returns-in_err-places g c =
     let whole = c.in_ok-head.ensures.reads.whole late in
     fails_as c.from_residual-in_err-places.result _ _ c.from_residual-in_err-places.ensures.1 (λ failed.
     inr (inl (after_shown place_in HEAD.now (Text id ∷ []) PLACES_OF.now (Text id ∷ []) old mid new
-    (c.requires.hall.settled was opens).1 (head_asked id) (places_of_asked id) rested.follows.lasts.counts whole.rows
-    whole.shown
+    (c.requires.hall.settled was opens).1 (asked (head_is id)) (asked (places_of_is id)) rested.follows.lasts.counts
+    whole.rows whole.shown
     (c.in_err-places.ensures.cause clean failed))))
     in
     let to_places = rests_on old mid new rested c.places_of.ensures.rested in
@@ -139,11 +140,11 @@ returns-in_err-names g c =
     let places = c.in_ok-places.ensures.whole last in
     fails_as c.from_residual-in_err-names.result _ _ c.from_residual-in_err-names.ensures.1 (λ failed.
     inr (inr (inl (after_shown tester_in HEAD.now (Text id ∷ []) TESTERS_OF.now (Text id ∷ []) old headed new
-    (c.requires.hall.settled was opens).1 (head_asked id) (testers_of_asked id) first.follows.lasts.counts head.rows
-    head.shown
+    (c.requires.hall.settled was opens).1 (asked (head_is id)) (asked (testers_of_is id)) first.follows.lasts.counts
+    head.rows head.shown
     (after_shown tester_in PLACES_OF.now (Text id ∷ []) TESTERS_OF.now (Text id ∷ []) headed listed new
-    (first.tabled.settled late opened).1 (places_of_asked id) (testers_of_asked id) second.follows.lasts.counts
-    places.rows places.shown
+    (first.tabled.settled late opened).1 (asked (places_of_is id)) (asked (testers_of_is id))
+    second.follows.lasts.counts places.rows places.shown
     (c.in_err-names.ensures.cause clean failed))))))
     in
     let result = c.from_residual-in_err-names.result in

@@ -1,12 +1,11 @@
-use Rattle.std.proofs.Common.{◌∙◌, [], ◌∷◌, pos}
+use Rattle.std.proofs.Common.{◌∙◌}
 use Rattle.sqlite.specs.Held.{state}
-use Rattle.sqlite.specs.declared.types.Value.TheVariants.{Text, Int}
-use Rattle.hall_sql.specs.Rows.{answer_in}
 use Rattle.hall_sql.specs.declared.answers.TheConstants.{ANSWER}
 use Rattle.hall_sql.proofs.AnswerLemmas.{answer_found}
-use Rattle.hall_sql.proofs.AnswerTexts.{answer_asked}
+use Rattle.hall_sql.proofs.AnswerTexts as queries
+use Rattle.hall_sql.proofs.Queries.{asked}
 use Rattle.hall_sql.proofs.ReadLemmas.{finds_row}
-use Rattle.hall_sql.proofs.UnreadRows.{asks_one, answer_one, answer_unread}
+use Rattle.hall_sql.proofs.UnreadRows.{asks_one, answer_one, unread}
 use Rattle.hall_sql.proofs.sql_store.SqlStoreReadStore.answer.Goals as goal
 
 pub find-requires-clause-asks : goal.find-requires-clause-asks
@@ -21,7 +20,7 @@ find-requires-clause-asks g c =
       c.as_str-3.ensures.text,
       c.get.ensures.value,
     )
-    (answer_asked c.args.key.now.entrant c.args.key.now.round c.args.key.now.number c.args.key.now.token)
+    (asked (queries.answer_is c.args.key.now))
 
 pub find-requires-clause-one : goal.find-requires-clause-one
 find-requires-clause-one g c =
@@ -35,9 +34,7 @@ find-requires-clause-one g c =
       c.as_str-3.ensures.text,
       c.get.ensures.value,
     )
-    (asks_one g.S.Store ANSWER.now (Text c.args.key.now.entrant ∷ Text c.args.key.now.round ∷ Int
-    (pos c.args.key.now.number) ∷ Text c.args.key.now.token ∷ []) (answer_one c.args.key.now.entrant
-    c.args.key.now.round c.args.key.now.number c.args.key.now.token))
+    (asks_one g.S.Store ANSWER.now (queries.answer c.args.key.now).params (answer_one c.args.key.now))
 
 pub returns : goal.returns
 returns g c =
@@ -53,8 +50,6 @@ returns g c =
       c.get.ensures.value,
     ) at c.find.ensures in
     rw (← c.self.view_is)
-    (finds_row answer_in ANSWER.now
-    (Text key.entrant ∷ Text key.round ∷ Int (pos key.number) ∷ Text key.token ∷ []) c.find.result _ c.self.invariant
-    told.rested (answer_unread key.entrant key.round key.number key.token) told.found told.cause
+    (finds_row _ _ _ c.find.result _ c.self.invariant told.rested (unread (queries.answer_is key)) told.found told.cause
     (λ found it opened has keyed. it.is ∙ answer_found key _ (state g.S.Store c.find.new.conn) it.are.1.rows
     it.records has it.are.1.shown it.are.1.reads it.few))

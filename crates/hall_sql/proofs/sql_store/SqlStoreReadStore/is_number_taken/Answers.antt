@@ -1,12 +1,10 @@
-use Rattle.std.proofs.Common.{◌==◌, not, ap, [], ◌∷◌, pos}
+use Rattle.std.proofs.Common.{◌==◌, not, ap}
 use Rattle.sqlite.specs.Held.{state}
-use Rattle.sqlite.specs.declared.types.Value.TheVariants.{Text, Int}
-use Rattle.hall_sql.specs.Rows.{answer_in}
-use Rattle.hall_sql.specs.declared.answers.TheConstants.{NUMBER_TAKEN}
 use Rattle.hall_sql.proofs.AnswerCounts.{number_told}
-use Rattle.hall_sql.proofs.AnswerTexts.{number_taken_asked}
+use Rattle.hall_sql.proofs.AnswerTexts.{number_taken_is}
+use Rattle.hall_sql.proofs.Queries.{asked}
 use Rattle.hall_sql.proofs.ReadLemmas.{answers_count, refused_rows}
-use Rattle.hall_sql.proofs.UnreadRows.{number_taken_unread}
+use Rattle.hall_sql.proofs.UnreadRows.{unread}
 use Rattle.hall_sql.proofs.sql_store.SqlStoreReadStore.is_number_taken.Goals as goal
 
 pub count-requires-clause-asks : goal.count-requires-clause-asks
@@ -21,16 +19,12 @@ count-requires-clause-asks g c =
       c.get.ensures.value,
       c.get-2.ensures.value,
     )
-    (number_taken_asked c.args.entrant.now c.args.round.now c.args.number c.args.n)
+    (asked (number_taken_is c.args.entrant.now c.args.round.now c.args.number c.args.n))
 
 pub returns : goal.returns
 returns g c =
-    let old = state g.S.Store c.self.inside.conn in
-    let new = state g.S.Store c.count.new.conn in
     rw (← c.self.view_is)
-    (answers_count answer_in NUMBER_TAKEN.now
-    (Text c.args.entrant.now ∷ Text c.args.round.now ∷ Int (pos c.args.number) ∷ Int (pos c.args.n) ∷ [])
-    (not (c.in_ok-count.count == 0)) _ c.self.invariant c.count.ensures.rested c.in_ok-count.count
+    (answers_count _ _ _ (not (c.in_ok-count.count == 0)) _ c.self.invariant c.count.ensures.rested c.in_ok-count.count
     (rw (
       c.params-to_sql.ensures,
       c.params-to_sql-2.ensures,
@@ -50,10 +44,8 @@ returns g c =
 pub returns-in_err-count : goal.returns-in_err-count
 returns-in_err-count g c =
     rw (← c.self.view_is)
-    (refused_rows answer_in NUMBER_TAKEN.now
-    (Text c.args.entrant.now ∷ Text c.args.round.now ∷ Int (pos c.args.number) ∷ Int (pos c.args.n) ∷ [])
-    c.from_residual.result _ _ c.self.invariant c.count.ensures.rested
-    (number_taken_unread c.args.entrant.now c.args.round.now c.args.number c.args.n) c.from_residual.ensures.1
+    (refused_rows _ _ _ c.from_residual.result _ _ c.self.invariant c.count.ensures.rested
+    (unread (number_taken_is c.args.entrant.now c.args.round.now c.args.number c.args.n)) c.from_residual.ensures.1
     (rw (
       c.params-to_sql.ensures,
       c.params-to_sql-2.ensures,

@@ -1,8 +1,7 @@
-use Rattle.hall_sql.specs.Rows.{person_in}
-use Rattle.hall_sql.specs.declared.people.TheConstants.{ALL_PEOPLE}
 use Rattle.hall_sql.proofs.ReadLemmas.{table_in_hall}
 use Rattle.hall_sql.proofs.StoreLemmas.{rested_hall}
-use Rattle.hall_sql.proofs.UnreadRows.{people_unread}
+use Rattle.hall_sql.proofs.PeopleTexts.{all_people_are}
+use Rattle.hall_sql.proofs.UnreadRows.{all_unread}
 use Rattle.hall_sql.proofs.sql_store.SqlStoreReadStore.people.Goals as goal
 
 pub invariant_of-self : goal.invariant_of-self
@@ -10,5 +9,5 @@ invariant_of-self g c = (rested_hall c.self.invariant c.all_people.ensures.reste
 
 pub returns : goal.returns
 returns g c =
-    rw (← c.self.view_is) (table_in_hall person_in ALL_PEOPLE.now c.all_people.result c.self.invariant people_unread
+    rw (← c.self.view_is) (table_in_hall _ _ c.all_people.result c.self.invariant (all_unread all_people_are)
     c.all_people.ensures)

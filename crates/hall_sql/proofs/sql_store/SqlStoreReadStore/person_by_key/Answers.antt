@@ -2,16 +2,18 @@ use Rattle.std.proofs.Common.{sym, subst, [], ◌∷◌}
 use Rattle.sqlite.specs.Held.{state}
 use Rattle.sqlite.specs.declared.types.Value.TheVariants.{Text}
 use Rattle.hall_store.specs.Caller.{IsKeyHolder}
-use Rattle.hall_sql.specs.Rows.{world_of, person_in}
+use Rattle.hall_sql.specs.Rows.{world_of}
 use Rattle.hall_sql.specs.declared.people.TheConstants.{PERSON_BY_KEY}
 use Rattle.hall_sql.proofs.PeopleKeys.{key_holder}
-use Rattle.hall_sql.proofs.PeopleTexts.{person_by_key_asked}
 use Rattle.hall_sql.proofs.ReadLemmas.{finds_row}
-use Rattle.hall_sql.proofs.UnreadRows.{asks_one, person_by_key_one, person_by_key_unread}
+use Rattle.hall_sql.proofs.UnreadRows.{asks_one, person_by_key_one, unread}
+use Rattle.hall_sql.proofs.PeopleTexts.{person_by_key_is}
+use Rattle.hall_sql.proofs.Queries.{asked}
 use Rattle.hall_sql.proofs.sql_store.SqlStoreReadStore.person_by_key.Goals as goal
 
 pub find-requires-clause-asks : goal.find-requires-clause-asks
-find-requires-clause-asks g c = rw (c.params-to_sql.ensures, c.as_str.ensures.text) (person_by_key_asked c.args.key.now)
+find-requires-clause-asks g c =
+    rw (c.params-to_sql.ensures, c.as_str.ensures.text) (asked (person_by_key_is c.args.key.now))
 
 pub find-requires-clause-one : goal.find-requires-clause-one
 find-requires-clause-one g c =
@@ -21,8 +23,7 @@ find-requires-clause-one g c =
 pub returns : goal.returns
 returns g c =
     rw (← c.self.view_is)
-    (finds_row person_in PERSON_BY_KEY.now (Text c.args.key.now ∷ []) c.find.result _ c.self.invariant
-    c.find.ensures.rested (person_by_key_unread c.args.key.now)
+    (finds_row _ _ _ c.find.result _ c.self.invariant c.find.ensures.rested (unread (person_by_key_is c.args.key.now))
     (rw (c.params-to_sql.ensures, c.as_str.ensures.text) at c.find.ensures.found)
     (rw (c.params-to_sql.ensures, c.as_str.ensures.text) at c.find.ensures.cause)
     (λ found it opened has keyed. subst

@@ -1,30 +1,23 @@
-use Rattle.std.proofs.Common.{[], ◌∷◌}
 use Rattle.sqlite.specs.Held.{state}
-use Rattle.sqlite.specs.declared.types.Value.TheVariants.{Text}
-use Rattle.hall_sql.specs.Rows.{protest_in}
-use Rattle.hall_sql.specs.declared.protests.TheConstants.{PROTESTS_OF}
 use Rattle.hall_sql.proofs.ProtestLemmas.{protests_of_listed}
-use Rattle.hall_sql.proofs.ProtestTexts.{protests_of_asked}
 use Rattle.hall_sql.proofs.ReadLemmas.{reads_rows}
-use Rattle.hall_sql.proofs.UnreadRows.{protests_of_unread}
+use Rattle.hall_sql.proofs.ProtestTexts.{protests_of_is}
+use Rattle.hall_sql.proofs.Queries.{asked}
+use Rattle.hall_sql.proofs.UnreadRows.{unread}
 use Rattle.hall_sql.proofs.sql_store.SqlStoreReadStore.protests_of.Goals as goal
 
 pub read-requires-clause-asks : goal.read-requires-clause-asks
 read-requires-clause-asks g c =
     rw (c.params-to_sql.ensures, c.params-to_sql-2.ensures, c.as_str.ensures.text, c.as_str-2.ensures.text)
-    (protests_of_asked c.args.entrant.now c.args.round.now)
+    (asked (protests_of_is c.args.entrant.now c.args.round.now))
 
 pub returns : goal.returns
 returns g c =
+    let told = rw (c.params-to_sql.ensures, c.params-to_sql-2.ensures, c.as_str.ensures.text, c.as_str-2.ensures.text)
+    at c.read.ensures in
     rw (← c.self.view_is)
-    (reads_rows protest_in PROTESTS_OF.now (Text c.args.entrant.now ∷ Text c.args.round.now ∷ []) c.read.result _
-    c.self.invariant c.read.ensures.rested (λ out. out.items) (protests_of_unread c.args.entrant.now c.args.round.now)
-    (rw (c.params-to_sql.ensures, c.params-to_sql-2.ensures, c.as_str.ensures.text, c.as_str-2.ensures.text)
-    at c.read.ensures.read) (rw (
-      c.params-to_sql.ensures,
-      c.params-to_sql-2.ensures,
-      c.as_str.ensures.text,
-      c.as_str-2.ensures.text,
-    ) at c.read.ensures.cause)
+    (reads_rows _ _ _ c.read.result _
+    c.self.invariant told.rested (λ out. out.items) (unread (protests_of_is c.args.entrant.now c.args.round.now))
+    told.read told.cause
     (λ out it opened has keyed. protests_of_listed _ (state g.S.Store c.read.new.conn) has keyed.1.1.1.1.1.0
     (c.schema-schema.ensures.live opened).0 it.rows out.items it.reads c.args.entrant.now c.args.round.now it.shown))
