@@ -154,16 +154,43 @@ PLACES = {
     "hall_tool/src/check.rt": ["Ok(Migrated::Occupied) => Err(ToolFault::Store),"],
     "hall_tool/src/program.rt": ["end(Err(CommandFault::Tool(ToolFault::Memory)), error)"],
 }
-# Calls that answer 503 stand where a call of the desk was refused.
-ANSWERS = {
-    "hall_http/src/answer.rt": (
-        "unavailable(alloc, desk, request)",
-        [
-            "if let Prepared::Refused = prepared { return ",
-            "match step_answer(alloc, desk, moment, request) { Ok(answer) => answer_of(answer, request), Err(_) => ",
-        ],
+# Calls that answer 503, or a fault of memory though nothing grows: each pattern by the files that it is looked for in,
+# and where alone it may stand. A call that answers 503 stands where a call of the desk was refused.
+ANSWERS = (
+    (
+        r"\bunavailable\(", "hall_http/",
+        {
+            "hall_http/src/answer.rt": [
+                "if let Prepared::Refused = prepared { return unavailable(alloc, desk, request)",
+                "match step_answer(alloc, desk, moment, request) { Ok(answer) => answer_of(answer, request),"
+                " Err(_) => unavailable(alloc, desk, request)",
+            ],
+        },
     ),
-}
+    (
+        r"\brefused_end\(", "hall_http/",
+        {
+            "hall_http/src/joining.rt": [
+                "match desk.commit_all(alloc, joint) { Ok(()) => GroupEnd::Stored, Err(_) => refused_end(alloc, desk),",
+            ],
+        },
+    ),
+    # What takes an answer into a group refuses others, as it does a plan that stores none.
+    (
+        r"\btogether::(?:\{[^}]*)?take\b|\btake\((?:&mut )?joint\b|\buse hall_desk::\{[^}]*\btake\b", "hall_",
+        {
+            "hall_desk/src/lib.rt": ["pub use together::take;"],
+            "hall_http/src/joining.rt": ["use hall_desk::{Desk, Plan, take};", "match take(joint, plan) {"],
+        },
+    ),
+    (
+        r"\bJointAnswers::new\(|\bjoint\.push\(", "hall_",
+        {
+            "hall_desk/src/together.rt": ["Change::AddAnswer(row) => joint.push(row),"],
+            "hall_http/src/responder.rt": ["JointAnswers::new(alloc)"],
+        },
+    ),
+)
 # How many texts hold the number 503: the reply itself, its status line, and a line of the journal.
 SPELLED = {"hall_http/src/event_loop.rt": 1, "hall_http/src/reply.rt": 1, "hall_http/src/status.rt": 1}
 # Room is asked for by a name or a length.
@@ -233,6 +260,14 @@ INVENTED = {
         "hall_http/src/answer.rt", "match read_raw_request(bytes) {",
         "if bytes.is_empty() { return unavailable(alloc, desk, request); }",
     ),
+    "group_refused_for_a_right_answer": (
+        "hall_http/src/joining.rt", "if !serves_on(alloc, desk) {",
+        "if any_is_right(&joint) { return refused_end(alloc, desk); } if !serves_on(alloc, desk) {",
+    ),
+    "memory_wanting_to_who_joins_nothing": (
+        "hall_desk/src/submit.rt", "let n = number_after(facts.count);",
+        "let n = number_after(facts.count); crate::together::take(&mut group, plan_of_another_change)?;",
+    ),
     "group_refused_unasked": (
         "hall_http/src/joining.rt", "match desk.commit_all(alloc, joint) {",
         "if hits(&joint) { return GroupEnd::Refused; } match desk.commit_all(alloc, joint) {",
@@ -283,10 +318,13 @@ def faults_of(path, text):
     spelled = text.count('"503"')
     if spelled != SPELLED.get(path, 0):
         yield f"it spells 503 so often: {spelled}"
-    if path in ANSWERS:
-        call, before = ANSWERS[path]
-        if text.count(call) != len(before) or not all(it + call in text for it in before):
-            yield f"{call} stands elsewhere than in: {', '.join(before)}"
+    for call, part, places in ANSWERS:
+        known = spans(map(re.escape, places.get(path, ())), text)
+        for found in re.finditer(rf"(?<!fn )(?:{call})", text) if path.startswith(part) else ():
+            if not stands_in(known, found):
+                yield f"a call of this kind stands here: {text[max(0, found.start() - 80):found.end() + 20].strip()}"
+        if len(known) != len(places.get(path, ())):
+            yield f"this doesn't stand once any more: {', '.join(places[path])}"
 
 
 def main():
