@@ -69,6 +69,17 @@ def without_arguments(text):
     return text
 
 
+def without_parameters(text):
+    """The text of an `impl` without that word, and what stands between the < and the > behind it."""
+    text = re.sub(r"^.*?\bimpl\b", "", text)
+    depth = 0
+    for at, letter in enumerate(text):
+        depth += (letter == "<") - (letter == ">")
+        if depth == 0:
+            return text[at + 1 :] if letter == ">" else text
+    return text
+
+
 def block_of(head):
     """How the prover names the type or trait that an `impl` or `trait` is of, by its first lines, and whether it is the
     impl of a trait: the type's name, after a word for each reference to it, and then the trait's and those of its
@@ -78,7 +89,7 @@ def block_of(head):
     of = re.sub(r"&(?:'\w+ )?(mut )?", lambda it: "RefMut " if it[1] else "Ref ", without_arguments(of))
     words = [it for it in re.findall(r"\w\w+", of) if it not in ("impl", "trait", "pub", "mut", "dyn", "unsafe")]
     references = sum(it in ("Ref", "RefMut") for it in words)
-    of_trait = re.findall(r"\w\w+", re.sub(r"^[^<]*?impl(<[^>]*>)?", "", trait))
+    of_trait = re.findall(r"\w\w+", without_parameters(trait))
     return "".join(it[0].upper() + it[1:] for it in words[: references + 1] + of_trait), bool(trait)
 
 
