@@ -335,7 +335,11 @@ class Crate:
             # What the copy refuses as it stands shows nothing of an edit.
             as_it_stands = self.try_held(left, {})[1] if left else {}
             settled = {"no holes", "depends on a hole", "proved"}
-            alone = [it for it in sound if not it.own or not {as_it_stands[of] for of in it.own} <= settled]
+            refused = [of for of, verdict in as_it_stands.items() if verdict not in settled]
+            if refused:
+                told = f"refused as they stand, so their edits are tried over the whole crate: {', '.join(refused)}"
+                print(f"{self.crate.name}: {told}", flush=True)
+            alone = [it for it in sound if not it.own or it.own & set(refused)]
             left = [it for it in left if it not in alone]
             while left:
                 edits, texts = next_round(left, self.held.folder)

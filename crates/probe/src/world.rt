@@ -1,8 +1,8 @@
 //! Rows of requests: to the world that stands, and to a world made again, whose store answers ever more calls.
 use crate::words::{Fault, fields_of, number_of, with_lines, within};
 use hall_desk::{Desk, Reply};
-use hall_http::{Routes, answer_bytes};
-use hall_policy::Moment;
+use hall_http::{Answer, Routes, answer_bytes};
+use hall_policy::{Moment, People};
 use hall_sheet::read_people;
 use hall_store::MapStore;
 use std::alloc::Global;
@@ -29,11 +29,16 @@ const AMPLE: u64 = 1000;
 /// What is answered where the store fails.
 const UNAVAILABLE: &str = "503 {\"fault\":\"hall\"}";
 
-/// The reply to an import of the entry list before any request, over a store that answers so many calls.
+/// The reply to an import of the people before any request, over a store that answers so many calls.
+fn seed(alloc: Global, store: &mut MapStore, left: u64, people: &People) -> Reply {
+    let mut desk = Desk::new(LimitedStore { store, left });
+    desk.seed(alloc, people)
+}
+
+/// The same of the entry list, as it is shown.
 fn seeded(alloc: Global, store: &mut MapStore, left: u64, list: &str) -> Result<String, Fault> {
     let people = read_people(alloc, list.as_bytes())?;
-    let mut desk = Desk::new(LimitedStore { store, left });
-    match desk.seed(alloc, &people) {
+    match seed(alloc, store, left, &people) {
         Reply::Import(added) => Ok(format!(in alloc; "added {added}")?),
         Reply::Unavailable => Ok(String::from_str(alloc, UNAVAILABLE)?),
         _ => Err(Fault::Row),
@@ -70,12 +75,23 @@ fn shown(alloc: Global, bytes: &[u8]) -> Result<String, Fault> {
     Ok(format!(in alloc; "{status} {body}")?)
 }
 
+/// The answer to the request, over a store that answers so many calls.
+fn answer(
+    alloc: Global,
+    routes: &Routes,
+    store: &mut MapStore,
+    left: u64,
+    asked: &Asked,
+) -> Answer {
+    let mut desk = Desk::new(LimitedStore { store, left });
+    let request = asked.request.as_bytes();
+    answer_bytes(alloc, routes, &mut desk, asked.moment, request)
+}
+
 /// The reply to the request, over a store that answers so many calls.
 fn reply(alloc: Global, store: &mut MapStore, left: u64, asked: &Asked) -> Result<String, Fault> {
     let routes = Routes::new(alloc)?;
-    let mut desk = Desk::new(LimitedStore { store, left });
-    let request = asked.request.as_bytes();
-    let answer = answer_bytes(alloc, &routes, &mut desk, asked.moment, request);
+    let answer = answer(alloc, &routes, store, left, asked);
     let bytes = joined(alloc, answer.parts())?;
     shown(alloc, bytes.as_slice())
 }
