@@ -10,10 +10,9 @@ use Rattle.hall_desk.specs.Plan.{planned_reply, planned_change}
 use Rattle.hall_desk.specs.Step.{Step}
 use Rattle.hall_desk.specs.declared.reply.Reply.{Reply}
 use Rattle.hall_desk.proofs.Stepping.{committed, same_stops, planned_steps, planned_quiet, once_after, refused_step}
-use Rattle.hall_desk.proofs.Totalled.{fails_as}
 use Rattle.hall_http.specs.Reply.{BytesOf, IsCounted, text_behind}
 use Rattle.hall_http.specs.Answered.{IsStepReply, answer_text}
-use Rattle.hall_store.proofs.Knowing.{kept_leads, leads_then, over_turn}
+use Rattle.hall_store.proofs.Knowing.{fails_as, kept_leads, leads_then, over_turn}
 use Rattle.hall_http.proofs.Stops.{if_err, leaves_turn, planned_leaves}
 use Rattle.hall_http.proofs.answer.step_answer.Goals as goal
 
