@@ -7,7 +7,7 @@ use crate::peers::{After, Coming, Listed, Manner, PLAIN, Seen};
 use hall_desk::Desk;
 use hall_http::{Clock, ServeAllEnd, serve_all};
 use hall_policy::Moment;
-use hall_store::MapStore;
+use hall_store::{MapStore, Store};
 use std::alloc::AllocGlobal;
 use std::process::Abort;
 use test_harness::LimitedStore;
@@ -29,7 +29,21 @@ fn at<'a, T>(rt: &impl Abort, items: &'a [T], place: usize) -> &'a T {
     items.get(place).expect(rt, "place")
 }
 
-/// Serves these clients over one desk, for so many turns at most; how often the clock was asked.
+/// Serves these clients over the desk, for so many turns at most; how that ends.
+fn serve_listed<S: Store, C: Clock>(
+    rt: &(impl AllocGlobal + Abort),
+    desk: &mut Desk<S>,
+    clock: &mut C,
+    coming: Vec<Coming<'_>>,
+    turns: u64,
+    is_stubborn: bool,
+) -> ServeAllEnd {
+    let mut listed = Listed::new(rt.alloc(), coming, turns, is_stubborn);
+    let served = serve_all(rt.alloc(), desk, &mut listed, clock);
+    served.expect(rt, "memory").0
+}
+
+/// Serves these clients over the opening world, for so many turns at most; how often the clock was asked.
 fn serve_clients(
     rt: &(impl AllocGlobal + Abort),
     clients: &[Coming<'_>],
@@ -40,11 +54,10 @@ fn serve_clients(
     for client in clients {
         coming.push(*client).expect(rt, "memory");
     }
-    let mut listed = Listed::new(rt.alloc(), coming, turns, is_stubborn);
     let mut desk = opening_desk(rt);
     let mut clock = clock(&[1]);
-    let served = serve_all(rt.alloc(), &mut desk, &mut listed, &mut clock);
-    let (end, _clients) = served.expect(rt, "memory");
+    let end = serve_listed(rt, &mut desk, &mut clock, coming, turns, is_stubborn);
+    desk.into_store();
     assert!(rt; matches!(end, ServeAllEnd::Served));
     clock.asked
 }
@@ -232,13 +245,12 @@ fn a_moment_is_told_before_any_of_those_that_are_held_is_answered(rt: HostRuntim
         };
         coming.push(client).expect(&rt, "memory");
     }
-    let mut listed = Listed::new(rt.alloc(), coming, MANY, false);
     let mut desk = opening_desk(&rt);
     let mut clock = Unsent {
         seen: seen.as_slice(),
     };
-    let served = serve_all(rt.alloc(), &mut desk, &mut listed, &mut clock);
-    let (end, _clients) = served.expect(&rt, "memory");
+    let end = serve_listed(&rt, &mut desk, &mut clock, coming, MANY, false);
+    desk.into_store();
     assert!(rt; matches!(end, ServeAllEnd::Served));
     for seen in seen.iter() {
         assert!(rt; seen.is_sent(NO_ROUTE));
@@ -290,14 +302,26 @@ const UNKNOWN: &[u8] = b"\
     Content-Length: 12\r\n\r\n\
     {\"denied\":1}";
 
+/// Serves these clients over a store that answers so many calls; how that ends, and how often the clock was asked.
+fn serve_limited(
+    rt: &(impl AllocGlobal + Abort),
+    coming: Vec<Coming<'_>>,
+    left: u64,
+) -> (ServeAllEnd, u64) {
+    let mut empty = MapStore::new(rt.alloc());
+    let mut desk = Desk::new(LimitedStore {
+        store: &mut empty,
+        left,
+    });
+    let mut clock = clock(&[1]);
+    let end = serve_listed(rt, &mut desk, &mut clock, coming, MANY, false);
+    desk.into_store();
+    (end, clock.asked)
+}
+
 #[test]
 fn nothing_is_answered_after_a_request_that_left_the_store_shut(rt: HostRuntime) {
     for left in 0..5 {
-        let mut empty = MapStore::new(rt.alloc());
-        let mut desk = Desk::new(LimitedStore {
-            store: &mut empty,
-            left,
-        });
         let sent = joined(&rt, &[ASKING, ASKING, ASKING]);
         let seen = unseen(&rt, 2);
         let mut coming = Vec::new(rt.alloc());
@@ -309,15 +333,12 @@ fn nothing_is_answered_after_a_request_that_left_the_store_shut(rt: HostRuntime)
             };
             coming.push(client).expect(&rt, "memory");
         }
-        let mut listed = Listed::new(rt.alloc(), coming, MANY, false);
-        let mut clock = clock(&[1]);
-        let served = serve_all(rt.alloc(), &mut desk, &mut listed, &mut clock);
-        let (end, _clients) = served.expect(&rt, "memory");
+        let (end, asked) = serve_limited(&rt, coming, left);
         assert!(rt; matches!(end, ServeAllEnd::Shut), "{left} calls");
         // Each of the two has one request held at most, of which the last may not be answered any more.
         let answered = left.wrapping_add(1);
         assert!(rt;
-            clock.asked == answered || clock.asked == answered.wrapping_add(1),
+            asked == answered || asked == answered.wrapping_add(1),
             "{left} calls"
         );
         let mut told = NO_SERVICE.len();

@@ -69,15 +69,22 @@ fn requests(rt: &(impl AllocGlobal + Abort)) -> Vec<(Moment, Request)> {
 fn certified(rt: &(impl AllocGlobal + Abort), desk: &mut Desk<MapStore>, t: Moment) -> bool {
     let request = certificate(rt, "dora-key", 200_000);
     let plan = desk.plan(rt.alloc(), t, &request).expect(rt, "plan");
+    drop(request);
     let is_planned = matches!(plan.reply(), Reply::Certify(StateName::One));
     let reply = desk.commit(rt.alloc(), plan).expect(rt, "commit");
-    is_planned && matches!(&reply, Reply::Certify(StateName::One))
+    let is_done = matches!(&reply, Reply::Certify(StateName::One));
+    drop(reply);
+    is_planned && is_done
 }
 
 /// Releases the round by a step, and says whether it is answered so.
 fn released(rt: &(impl AllocGlobal + Abort), desk: &mut Desk<MapStore>, t: Moment) -> bool {
-    let reply = desk.step(rt.alloc(), t, &release(rt));
-    matches!(&reply, Reply::Release(_))
+    let request = release(rt);
+    let reply = desk.step(rt.alloc(), t, &request);
+    drop(request);
+    let is_released = matches!(&reply, Reply::Release(_));
+    drop(reply);
+    is_released
 }
 
 /// Dora's publication of the round r1.
@@ -103,8 +110,12 @@ pub(crate) fn published_desk(rt: &(impl AllocGlobal + Abort)) -> Desk<MapStore> 
     let mut desk = released_desk(rt);
     let replies = desk.run(rt.alloc(), &requests(rt)).expect(rt, "run");
     assert!(rt; replies.len() == 4);
-    let reply = desk.step(rt.alloc(), number(rt, 1_777_717_800), &publication(rt));
+    drop(replies);
+    let request = publication(rt);
+    let reply = desk.step(rt.alloc(), number(rt, 1_777_717_800), &request);
+    drop(request);
     assert!(rt; matches!(&reply, Reply::Publish(_)));
+    drop(reply);
     desk
 }
 
@@ -113,6 +124,7 @@ fn plans_are_committed_and_lists_run(rt: HostRuntime) {
     let mut desk = released_desk(&rt);
     let replies = desk.run(rt.alloc(), &requests(&rt)).expect(&rt, "run");
     assert!(rt; replies.len() == 4);
+    desk.into_store();
     for (reply, number) in replies.iter().zip([None, Some(1), Some(2), Some(1)]) {
         assert!(rt; right_number(reply) == number);
     }
@@ -135,4 +147,7 @@ fn what_a_search_found_outlasts_the_end_of_anothers(rt: HostRuntime) {
     let others = certificate(&rt, "bob-key-1", 1);
     assert!(rt; prepared(&rt, &mut desk, &own) && prepared(&rt, &mut desk, &others));
     assert!(rt; desk.prepare(rt.alloc(), &own) == Prepared::Ready);
+    desk.into_store();
+    drop(own);
+    drop(others);
 }

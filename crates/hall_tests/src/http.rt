@@ -30,7 +30,9 @@ fn replayed<R: Read, W: Write>(
     writer: &mut Counted<W>,
 ) -> Result<(), ReplayFault> {
     let mut desk = opening_desk(rt);
-    replay(rt.alloc(), &mut desk, reader, writer)
+    let ended = replay(rt.alloc(), &mut desk, reader, writer);
+    desk.into_store();
+    ended
 }
 
 /// Records that certify the puzzle of round r1, release it, read it too early and answer it.
@@ -263,7 +265,9 @@ fn served<R: Read, W: Write>(
     clock: &mut Telling<'_>,
 ) -> ServeEnd {
     let mut desk = opening_desk(rt);
-    serve(rt.alloc(), &mut desk, reader, writer, clock).expect(rt, "serve")
+    let ended = serve(rt.alloc(), &mut desk, reader, writer, clock);
+    desk.into_store();
+    ended.expect(rt, "serve")
 }
 
 pub(crate) fn clock(moments: &[u64]) -> Telling<'_> {

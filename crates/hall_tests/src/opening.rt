@@ -61,10 +61,13 @@ pub(crate) fn opening_desk(rt: &(impl AllocGlobal + Abort)) -> Desk<MapStore> {
     let mut desk = Desk::new(MapStore::new(rt.alloc()));
     let people = read_people(rt.alloc(), PEOPLE).expect(rt, "people");
     let reply = desk.seed(rt.alloc(), &people);
+    drop(people);
     assert!(rt; matches!(&reply, Reply::Import(6)));
+    drop(reply);
     let routes = Routes::new(rt.alloc()).expect(rt, "memory");
     for (key, line, body) in &PUTS {
         put(rt, &routes, &mut desk, key, line, body);
     }
+    drop(routes);
     desk
 }

@@ -37,8 +37,11 @@ fn add_people(rt: &(impl AllocGlobal + Abort), desk: &mut Desk<MapStore>, first:
         list.push_str(line.as_str()).expect(rt, "memory");
     }
     let people = read_people(rt.alloc(), list.as_bytes()).expect(rt, "people");
+    drop(list);
     let reply = desk.seed(rt.alloc(), &people);
+    drop(people);
     assert!(rt; matches!(&reply, Reply::Import(_)));
+    drop(reply);
 }
 
 /// Puts the n-th puzzle and the n-th round.

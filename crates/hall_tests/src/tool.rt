@@ -69,6 +69,7 @@ fn a_list_is_imported_over_a_writer_that_fails(rt: HostRuntime) {
         let mut writer = Counted::new(Vec::new(rt.alloc()));
         assert!(rt; init_run(rt.alloc(), &mut desk, PEOPLE, &mut writer) == Ok(0));
         assert!(rt; writer.into_inner().as_slice() == b"added 0\n".as_slice());
+        desk.into_store();
     }
 }
 
@@ -105,6 +106,7 @@ fn a_table_is_written_or_denied(rt: HostRuntime) {
     }
     let (ended, written) = tabled(rt.alloc(), &mut desk, b"r1");
     assert!(rt; ended == Ok(2) && written.as_slice() == b"denied 15\n".as_slice());
+    desk.into_store();
     let mut desk = published_desk(&rt);
     for _ in 0..2 {
         let (ended, written) = tabled(rt.alloc(), &mut desk, b"r1");
@@ -116,6 +118,7 @@ fn a_table_is_written_or_denied(rt: HostRuntime) {
         assert!(rt; ended == Err(ToolFault::Device));
         assert!(rt; writer.failures() == 1 && writer.into_inner().asked == fails_at + 1);
     }
+    desk.into_store();
 }
 
 #[test]
@@ -130,6 +133,7 @@ fn a_table_over_a_store_that_fails(rt: HostRuntime) {
     // Bytes that are no round's id don't ask the store.
     let (ended, written) = tabled(rt.alloc(), &mut desk, b"UP");
     assert!(rt; ended == Ok(2) && written.as_slice() == b"denied 4\n".as_slice());
+    desk.into_store();
 }
 
 /// Seeds the desk, and what was written.
@@ -160,6 +164,7 @@ fn a_list_is_seeded_over_a_writer_that_fails(rt: HostRuntime) {
         }
         let (ended, written) = seeded(rt.alloc(), &mut desk, list);
         assert!(rt; ended == Ok(2) && written.as_slice() == *line);
+        desk.into_store();
     }
 }
 
@@ -173,6 +178,7 @@ fn a_store_that_fails_is_told(rt: HostRuntime) {
             left,
         });
         let (ended, written) = seeded(rt.alloc(), &mut desk, PEOPLE);
+        desk.into_store();
         assert!(rt;
             ended == Err(ToolFault::Store) && written.is_empty(),
             "calls {left}"
@@ -184,5 +190,6 @@ fn a_store_that_fails_is_told(rt: HostRuntime) {
         left: 19,
     });
     let (ended, written) = seeded(rt.alloc(), &mut desk, PEOPLE);
+    desk.into_store();
     assert!(rt; ended == Ok(0) && written.is_empty());
 }

@@ -4,7 +4,7 @@ use hall_desk::{Desk, Reply};
 use hall_http::{Answer, Routes, answer_bytes};
 use hall_policy::{Moment, People};
 use hall_sheet::read_people;
-use hall_store::MapStore;
+use hall_store::{MapStore, Store};
 use std::alloc::Global;
 use test_harness::{LimitedStore, request_text};
 
@@ -29,16 +29,18 @@ const AMPLE: u64 = 1000;
 /// What is answered where the store fails.
 const UNAVAILABLE: &str = "503 {\"fault\":\"hall\"}";
 
-/// The reply to an import of the people before any request, over a store that answers so many calls.
-fn seed(alloc: Global, store: &mut MapStore, left: u64, people: &People) -> Reply {
-    let mut desk = Desk::new(LimitedStore { store, left });
-    desk.seed(alloc, people)
+/// The reply to an import of the people before any request.
+fn seed<S: Store>(alloc: Global, store: S, people: &People) -> Reply {
+    let mut desk = Desk::new(store);
+    let reply = desk.seed(alloc, people);
+    desk.into_store();
+    reply
 }
 
-/// The same of the entry list, as it is shown.
+/// The same of the entry list, over a store that answers so many calls, as it is shown.
 fn seeded(alloc: Global, store: &mut MapStore, left: u64, list: &str) -> Result<String, Fault> {
     let people = read_people(alloc, list.as_bytes())?;
-    match seed(alloc, store, left, &people) {
+    match seed(alloc, LimitedStore { store, left }, &people) {
         Reply::Import(added) => Ok(format!(in alloc; "added {added}")?),
         Reply::Unavailable => Ok(String::from_str(alloc, UNAVAILABLE)?),
         _ => Err(Fault::Row),
@@ -75,23 +77,19 @@ fn shown(alloc: Global, bytes: &[u8]) -> Result<String, Fault> {
     Ok(format!(in alloc; "{status} {body}")?)
 }
 
-/// The answer to the request, over a store that answers so many calls.
-fn answer(
-    alloc: Global,
-    routes: &Routes,
-    store: &mut MapStore,
-    left: u64,
-    asked: &Asked,
-) -> Answer {
-    let mut desk = Desk::new(LimitedStore { store, left });
+/// The answer to the request.
+fn answer<S: Store>(alloc: Global, routes: &Routes, store: S, asked: &Asked) -> Answer {
+    let mut desk = Desk::new(store);
     let request = asked.request.as_bytes();
-    answer_bytes(alloc, routes, &mut desk, asked.moment, request)
+    let answer = answer_bytes(alloc, routes, &mut desk, asked.moment, request);
+    desk.into_store();
+    answer
 }
 
 /// The reply to the request, over a store that answers so many calls.
 fn reply(alloc: Global, store: &mut MapStore, left: u64, asked: &Asked) -> Result<String, Fault> {
     let routes = Routes::new(alloc)?;
-    let answer = answer(alloc, &routes, store, left, asked);
+    let answer = answer(alloc, &routes, LimitedStore { store, left }, asked);
     let bytes = joined(alloc, answer.parts())?;
     shown(alloc, bytes.as_slice())
 }

@@ -264,6 +264,7 @@ impl Ask for Replies<'_> {
             let reply = answered(rt, &routes, &mut desk, asked);
             self.replies.push(reply).expect(rt, "memory");
         }
+        desk.into_store();
     }
 }
 

@@ -121,6 +121,7 @@ impl Ask for Asking<'_> {
         let (routes, asked) = (self.routes, self.asked);
         let mut desk = Desk::new(store);
         self.is_acknowledged = is_done(rt, routes, &mut desk, &asked);
+        desk.into_store();
     }
 }
 
@@ -161,7 +162,7 @@ struct Seeding;
 
 impl Ask for Seeding {
     fn ask<S: Store, R: AllocGlobal + Abort>(&mut self, rt: &R, store: S) {
-        let _desk = seeded(rt, store);
+        seeded(rt, store).into_store();
     }
 }
 
