@@ -1,12 +1,10 @@
 -- What the statement that adds one row to a table of the hall leaves.
 use Rattle.std.proofs.Common.{◌≡◌, ◌/◌, ℕ, List, [], ◌∷◌, length, slice_get, append-nil, Bool, true, IsTrue, Some, None}
 use Rattle.std.proofs.Common.{Ok, refl}
-use Rattle.std.specs.List.{AllByRecursion}
 use Rattle.sqlite.specs.declared.types.Value.TheVariants.{Null, Int}
 use Rattle.sqlite_rules.specs.Cast.{cast_row}
 use Rattle.sqlite_rules.specs.Edit.{next_rowid}
 use Rattle.sqlite.specs.Order.{Row}
-use Rattle.sqlite.specs.Table.{Table}
 use Rattle.sqlite.specs.Term.{Term}
 use Rattle.sqlite.specs.Effect.{Database, value_rows}
 use Rattle.sqlite.specs.Source.TheVariants.{Values}
@@ -18,8 +16,6 @@ use Rattle.hall_policy.specs.World.{World}
 use Rattle.hall_store.specs.Change.{changed}
 use Rattle.hall_store.specs.declared.change.Change.{Change}
 use Rattle.hall_sql.specs.declared.tables.HallTable.{HallTable}
-use Rattle.hall_sql.specs.declared.tables.HallTable.TheVariants.{People, Puzzles, Rounds, Places, Answers, Protests}
-use Rattle.hall_sql.specs.declared.tables.HallTable.TheVariants.{Testers}
 use Rattle.hall_sql.specs.AllRead.{IsRead, is_record}
 use Rattle.hall_sql.specs.Fill.{AddsRow}
 use Rattle.hall_sql.specs.Inside.{IsHallData}
@@ -31,20 +27,10 @@ use Rattle.hall_sql.proofs.AllRead.{added_read}
 use Rattle.hall_sql.proofs.CallLemmas.{executed_open}
 use Rattle.hall_sql.proofs.InsertLemmas.{inserts}
 use Rattle.hall_sql.proofs.KeyedLemmas.{data_added}
+use Rattle.hall_sql.proofs.Queries.{in_table}
 use Rattle.hall_sql.proofs.SparedLemmas.{added_spared, alone_spared}
 use Rattle.hall_sql.proofs.Wordings.{Wording, added_in, adds_quiet, hall_in, table_in, worded}
 use Rattle.hall_sql.proofs.WriteLemmas.{writes_hall}
-
--- what holds of each tree of the hall's tables holds of this table's
-in_table : (P : ℕ → Type 0) (table : HallTable) → AllByRecursion (λ (t : Table). P t.tree) hall_schema.tables
-    → P (table_at table).tree
-in_table P People all = all.0
-in_table P Puzzles all = all.1.0
-in_table P Rounds all = all.1.1.0
-in_table P Places all = all.1.1.1.0
-in_table P Answers all = all.1.1.1.1.0
-in_table P Protests all = all.1.1.1.1.1.0
-in_table P Testers all = all.1.1.1.1.1.1.0
 
 -- where one row was added, all others are spared if that one may be written
 pub added_spares : (takes : ℕ → Row → Bool) (tree : ℕ) (values : Row) (old new : Database)

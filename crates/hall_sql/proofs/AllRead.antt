@@ -28,9 +28,8 @@ use Rattle.hall_policy.specs.declared.record.ProtestRow.{ProtestRow}
 use Rattle.hall_store.specs.Maps.{empty_world}
 use Rattle.hall_sql.specs.AllRead.{AreAllRead, IsRead, StaysRead, is_record}
 use Rattle.hall_sql.specs.Cause.{IsStoreCause, ReadFails}
-use Rattle.hall_sql.specs.Rows.{answer_in, answer_of_row, columns_from, entry, kept, person_in, person_of_row, place_in}
-use Rattle.hall_sql.specs.Rows.{place_of_row, protest_in, protest_of_row, puzzle_row_in, puzzle_of_row, round_in}
-use Rattle.hall_sql.specs.Rows.{round_of_row, tester_in, tester_of_row, world_of}
+use Rattle.hall_sql.specs.Rows.{answer_of_row, columns_from, entry, kept, person_of_row, place_of_row, protest_of_row}
+use Rattle.hall_sql.specs.Rows.{puzzle_of_row, round_of_row, tester_of_row, world_of}
 use Rattle.hall_sql.specs.Standing.{HasAdded, IsBareLike, IsOver, IsSelection, KeptAnyTables}
 use Rattle.hall_sql.specs.declared.people.TheConstants.{ALL_PEOPLE}
 use Rattle.hall_sql.specs.declared.puzzles.TheConstants.{ALL_PUZZLES}
@@ -39,7 +38,7 @@ use Rattle.hall_sql.specs.declared.answers.TheConstants.{ALL_ANSWERS}
 use Rattle.hall_sql.specs.declared.protests.TheConstants.{ALL_PROTESTS}
 use Rattle.hall_sql.specs.declared.testers.TheConstants.{ALL_TESTERS}
 use Rattle.hall_sql.specs.Tables.{IsHallSchema, IsLike, hall_schema}
-use Rattle.hall_sql.specs.Versions.{IsAnyHall}
+use Rattle.hall_sql.specs.Versions.{HasTable, IsAnyHall}
 use Rattle.hall_sql.specs.Whole.{AreRecords}
 use Rattle.hall_sql.proofs.AnswerTexts.{all_answers_are}
 use Rattle.hall_sql.proofs.CallLemmas.{shown_was_open}
@@ -53,9 +52,11 @@ use Rattle.hall_sql.proofs.RoundTexts.{all_rounds_are}
 use Rattle.hall_sql.proofs.SparedLemmas.{own_key}
 use Rattle.hall_sql.proofs.TesterTexts.{all_testers_are}
 use Rattle.hall_sql.proofs.UnreadRows.{some_unread}
-use Rattle.hall_sql.proofs.Queries.{Computes, body_of, query, record_in, record_of, selection, shows, width_of}
+use Rattle.hall_sql.proofs.Queries.{Computes, body_of, is_read, query, record_in, selection, shows, width_of}
 use Rattle.hall_sql.specs.Scan.{tree_of}
 use Rattle.hall_sql.specs.declared.tables.HallTable.{HallTable}
+use Rattle.hall_sql.specs.declared.tables.HallTable.TheVariants.{People, Puzzles, Rounds, Places, Answers, Protests}
+use Rattle.hall_sql.specs.declared.tables.HallTable.TheVariants.{Testers}
 
 -- ---- what is asked of them
 
@@ -69,23 +70,50 @@ all_some read (r ∷ rows) (x ∷ out) is =
     let more : map read rows ≡ map Some out = cc in
     (ap is_some here, all_some read rows out more)
 
--- a query asks for all rows of a table
-module _ {Fits : Schema → Type 0} {table : HallTable} {text : List ℕ} {order : List ℕ}
-    (asks : (schema : Schema) → Fits schema → Computes (query table text [] [] order) schema)
-    (is_read : (r : Row) → is_record (tree_of table) r ≡ is_some (record_of table r))
-    (old new : State) (hall : IsOver Fits old) (clean : HasCleanDisk old) where
+-- the statement that asks for all rows of the table, and its order
+abbrev pub all_text : HallTable → List ℕ
+all_text People = ALL_PEOPLE.now
+all_text Puzzles = ALL_PUZZLES.now
+all_text Rounds = ALL_ROUNDS.now
+all_text Places = ALL_PLACES.now
+all_text Answers = ALL_ANSWERS.now
+all_text Protests = ALL_PROTESTS.now
+all_text Testers = ALL_TESTERS.now
+
+abbrev all_order : HallTable → List ℕ
+all_order People = 1 ∷ []
+all_order Puzzles = 1 ∷ 2 ∷ []
+all_order Rounds = 1 ∷ []
+all_order Places = 1 ∷ 2 ∷ []
+all_order Answers = 1 ∷ 2 ∷ 3 ∷ 4 ∷ []
+all_order Protests = 1 ∷ 2 ∷ 3 ∷ []
+all_order Testers = 1 ∷ 2 ∷ []
+
+asks : (table : HallTable) (schema : Schema) → HasTable schema table
+    → Computes (query table (all_text table) [] [] (all_order table)) schema
+asks People = all_people_are
+asks Puzzles = all_puzzles_are
+asks Rounds = all_rounds_are
+asks Places = all_places_are
+asks Answers = all_answers_are
+asks Protests = all_protests_are
+asks Testers = all_testers_are
+
+module _ (table : HallTable) (old new : State) (clean : HasCleanDisk old)
+    (over : IsOver (λ schema. HasTable schema table) old) where
   abbrev Reads : Row → Type 0
   Reads r = IsTrue (is_some (record_in table r))
 
   abbrev IsOne : Row → Type 0
   IsOne r = IsTrue (is_record (tree_of table) r)
 
-  module _ (rows : List Row) (shown : Shown text [] old new rows) where
-    like : IsLike hall.schema old.now.schema
-    like = (hall.tabled.settled clean (shown_was_open text [] old new rows shown)).1
+  module _ (rows : List Row) (shown : Shown (all_text table) [] old new rows) where
+    like : IsLike over.schema old.now.schema
+    like = (over.tabled.settled clean (shown_was_open (all_text table) [] old new rows shown)).1
 
-    sel : IsSelection (body_of (query table text [] [] order)) (old.now.trees (tree_of table)) [] rows
-    sel = selection (asks old.now.schema (hall.fits old.now.schema like)) old new rows refl shown
+    sel : IsSelection (body_of (query table (all_text table) [] [] (all_order table)))
+        (old.now.trees (tree_of table)) [] rows
+    sel = selection (asks table old.now.schema (over.fits old.now.schema like)) old new rows refl shown
 
     same : IsPermutation (old.now.trees (tree_of table)) sel.found
     same = subst (λ l. IsPermutation l sel.found) (filter_all (λ _. true) (old.now.trees (tree_of table))
@@ -99,75 +127,25 @@ module _ {Fits : Schema → Type 0} {table : HallTable} {text : List ℕ} {order
         let found = all_from_map Reads (columns_from 1 (width_of table)) sel.found
         (subst (AllByRecursion Reads) shown_are each) in
         all-permutation IsOne sel.found (old.now.trees (tree_of table)) (IsPermutation-sym _ _ same)
-        (all_weaker (λ r. Reads (columns_from 1 (width_of table) r)) IsOne (λ r h. is_read r ∙ h) sel.found found)
+        (all_weaker (λ r. Reads (columns_from 1 (width_of table) r)) IsOne (λ r h. is_read table r ∙ h) sel.found found)
 
     from_table : IsRead old.now.trees (tree_of table) → AllByRecursion Reads rows
     from_table each =
         let found = all-permutation IsOne (old.now.trees (tree_of table)) sel.found same each in
         subst (AllByRecursion Reads) (sym shown_are)
         (all-map Reads (columns_from 1 (width_of table)) sel.found
-        (all_weaker IsOne (λ r. Reads (columns_from 1 (width_of table) r)) (λ r h. sym (is_read r) ∙ h) sel.found
+        (all_weaker IsOne (λ r. Reads (columns_from 1 (width_of table) r)) (λ r h. sym (is_read table r) ∙ h) sel.found
         found))
 
   -- where all that it answers are records, each row of the table is one
-  read_all : AreRecords (record_in table) text [] old new → IsRead old.now.trees (tree_of table)
+  pub read_all : AreRecords (record_in table) (all_text table) [] old new → IsRead old.now.trees (tree_of table)
   read_all it = to_table it.rows it.shown (all_some (record_in table) it.rows it.records it.reads)
 
   -- where it fails, the cause lies in the store, or a row of the table is no record
-  read_fails : ReadFails (record_in table) text [] old new → IsStoreCause old new
+  pub read_fails : ReadFails (record_in table) (all_text table) [] old new → IsStoreCause old new
       ⊎ (¬ IsRead old.now.trees (tree_of table))
   read_fails (inl cause) = inl cause
   read_fails (inr it) = inr (λ each. some_unread (record_in table) it.0 it.2 (from_table it.0 it.1 each))
-
-module _ (old new : State) (clean : HasCleanDisk old) where
-  pub people_read : IsAnyHall old → AreRecords person_in ALL_PEOPLE.now [] old new → IsRead old.now.trees 0
-  people_read hall = read_all all_people_are (λ r. refl) old new hall clean
-
-  pub puzzles_read : IsAnyHall old → AreRecords puzzle_row_in ALL_PUZZLES.now [] old new → IsRead old.now.trees 3
-  puzzles_read hall = read_all all_puzzles_are (λ r. refl) old new hall clean
-
-  pub rounds_read : IsAnyHall old → AreRecords round_in ALL_ROUNDS.now [] old new → IsRead old.now.trees 5
-  rounds_read hall = read_all all_rounds_are (λ r. refl) old new hall clean
-
-  pub places_read : IsAnyHall old → AreRecords place_in ALL_PLACES.now [] old new → IsRead old.now.trees 7
-  places_read hall = read_all all_places_are (λ r. refl) old new hall clean
-
-  pub answers_read : IsAnyHall old → AreRecords answer_in ALL_ANSWERS.now [] old new → IsRead old.now.trees 9
-  answers_read hall = read_all all_answers_are (λ r. refl) old new hall clean
-
-  pub protests_read : IsAnyHall old → AreRecords protest_in ALL_PROTESTS.now [] old new → IsRead old.now.trees 12
-  protests_read hall = read_all all_protests_are (λ r. refl) old new hall clean
-
-  pub testers_read : IsOver IsHallSchema old → AreRecords tester_in ALL_TESTERS.now [] old new → IsRead old.now.trees 14
-  testers_read hall = read_all all_testers_are (λ r. refl) old new hall clean
-
-  pub people_fails : IsAnyHall old → ReadFails person_in ALL_PEOPLE.now [] old new → IsStoreCause old new
-      ⊎ (¬ IsRead old.now.trees 0)
-  people_fails hall = read_fails all_people_are (λ r. refl) old new hall clean
-
-  pub puzzles_fails : IsAnyHall old → ReadFails puzzle_row_in ALL_PUZZLES.now [] old new → IsStoreCause old new
-      ⊎ (¬ IsRead old.now.trees 3)
-  puzzles_fails hall = read_fails all_puzzles_are (λ r. refl) old new hall clean
-
-  pub rounds_fails : IsAnyHall old → ReadFails round_in ALL_ROUNDS.now [] old new → IsStoreCause old new
-      ⊎ (¬ IsRead old.now.trees 5)
-  rounds_fails hall = read_fails all_rounds_are (λ r. refl) old new hall clean
-
-  pub places_fails : IsAnyHall old → ReadFails place_in ALL_PLACES.now [] old new → IsStoreCause old new
-      ⊎ (¬ IsRead old.now.trees 7)
-  places_fails hall = read_fails all_places_are (λ r. refl) old new hall clean
-
-  pub answers_fails : IsAnyHall old → ReadFails answer_in ALL_ANSWERS.now [] old new → IsStoreCause old new
-      ⊎ (¬ IsRead old.now.trees 9)
-  answers_fails hall = read_fails all_answers_are (λ r. refl) old new hall clean
-
-  pub protests_fails : IsAnyHall old → ReadFails protest_in ALL_PROTESTS.now [] old new → IsStoreCause old new
-      ⊎ (¬ IsRead old.now.trees 12)
-  protests_fails hall = read_fails all_protests_are (λ r. refl) old new hall clean
-
-  pub testers_fails : IsOver IsHallSchema old → ReadFails tester_in ALL_TESTERS.now [] old new → IsStoreCause old new
-      ⊎ (¬ IsRead old.now.trees 14)
-  testers_fails hall = read_fails all_testers_are (λ r. refl) old new hall clean
 
 -- a table that rests was read before, where it is
 pub read_before : (tree : ℕ) (old new : State) → IsAnyHall old → KeptAnyTables old new → HasCleanDisk new

@@ -1,16 +1,9 @@
 -- How a call that reads fails as what it called did.
-use Rattle.std.proofs.Common.{◌≡◌, Option, Some, None, Result, Ok, Err, IfErr, IfNone, IsErrAnd, ok_or, refl, sym, ◌∙◌}
+use Rattle.std.proofs.Common.{◌≡◌, Option, Some, None, Result, IfErr, IfNone, ok_or, refl, sym, ◌∙◌}
 use Rattle.hall_store.specs.declared.fault.StoreFault.{StoreFault}
 use Rattle.hall_store.specs.declared.fault.StoreFault.TheVariants.{Failed}
 
--- a call fails as what it called did
-pub fails_as : {R : Type 0} (result : Result R StoreFault) (Why : Type 0) (fault : StoreFault)
-    → IsErrAnd result (λ e. e ≡ fault)
-    → (fault ≡ Failed → Why) → IfErr result (λ e. e ≡ Failed → Why)
-fails_as (Ok x) Why fault is why = tt
-fails_as (Err e) Why fault is why = λ failed. why (sym is ∙ failed)
-
--- and where nothing was found
+-- where nothing was found, a call fails as what it called did
 pub fails_on : {R : Type 0} (found : Option R) (result : Result R StoreFault) (P Why : Type 0)
     → result ≡ ok_or found Failed
     → IfNone found P → (P → Why) → IfErr result (λ e. e ≡ Failed → Why)

@@ -66,121 +66,45 @@ record IsMakeable (schema : Schema) (text : List ℕ) (shape : Table) : Type 0 w
   fit : is_fit (Text (codes "table")) (Text shape.name) (Text shape.name) (Text text) ≡ true
   unsequenced : lacks_sequence (created schema shape) ≡ false
 
+all_so : {schema : Schema} {text : List ℕ} {shape : Table} → is_utf8 text ≡ true
+    → is_utf8 shape.name ≡ true
+    → nat_lt (2 * length shape.name + length text + 200) (10 ^ 9) ≡ true
+    → is_used schema shape.name ≡ false
+    → (list_all (λ (index : Index). not (is_used schema index.name)) (automatics shape 0 0 shape.uniques) ≡ true)
+    → nat_lt (next_tree schema + length shape.uniques) 65536 ≡ true
+    → nat_lt (table_reals shape) (2 ^ 64) ≡ true
+    → (list_all (λ key. nat_lt (index_reals (table_reals shape) key) (2 ^ 64)) shape.uniques ≡ true)
+    → is_reserved shape.name ≡ false
+    → is_formed shape ≡ true
+    → is_fit (Text (codes "table")) (Text shape.name) (Text shape.name) (Text text) ≡ true
+    → lacks_sequence (created schema shape) ≡ false
+    → IsMakeable schema text shape
+all_so plain named short free autos few narrow keys unreserved formed fit unsequenced =
+    record {
+      plain = plain;
+      named = named;
+      short = short;
+      free = free;
+      autos = autos;
+      few = few;
+      narrow = narrow;
+      keys = keys;
+      unreserved = unreserved;
+      formed = formed;
+      fit = fit;
+      unsequenced = unsequenced;
+    }
+
 makeable : (table : HallTable) → IsMakeable (schema_before table) (table_text table) (shape_of table)
 unfolding is_utf8 chars encode_utf8 digits same_name value_cmp lib.Ieee.is_nan lib.Ieee.lt sound.fits_kind sound.begins
     sound.same_name sound.is_free_name
-makeable People =
-    record {
-      plain = refl;
-      named = refl;
-      short = refl;
-      free = refl;
-      autos = refl;
-      few = refl;
-      narrow = refl;
-      keys =
-          refl;
-      unreserved = refl;
-      formed = refl;
-      fit = refl;
-      unsequenced = refl;
-    }
-makeable Puzzles =
-    record {
-      plain = refl;
-      named = refl;
-      short = refl;
-      free = refl;
-      autos = refl;
-      few = refl;
-      narrow = refl;
-      keys =
-          refl;
-      unreserved = refl;
-      formed = refl;
-      fit = refl;
-      unsequenced = refl;
-    }
-makeable Rounds =
-    record {
-      plain = refl;
-      named = refl;
-      short = refl;
-      free = refl;
-      autos = refl;
-      few = refl;
-      narrow = refl;
-      keys =
-          refl;
-      unreserved = refl;
-      formed = refl;
-      fit = refl;
-      unsequenced = refl;
-    }
-makeable Places =
-    record {
-      plain = refl;
-      named = refl;
-      short = refl;
-      free = refl;
-      autos = refl;
-      few = refl;
-      narrow = refl;
-      keys =
-          refl;
-      unreserved = refl;
-      formed = refl;
-      fit = refl;
-      unsequenced = refl;
-    }
-makeable Answers =
-    record {
-      plain = refl;
-      named = refl;
-      short = refl;
-      free = refl;
-      autos = refl;
-      few = refl;
-      narrow = refl;
-      keys =
-          refl;
-      unreserved = refl;
-      formed = refl;
-      fit = refl;
-      unsequenced = refl;
-    }
-makeable Protests =
-    record {
-      plain = refl;
-      named = refl;
-      short = refl;
-      free = refl;
-      autos = refl;
-      few = refl;
-      narrow = refl;
-      keys =
-          refl;
-      unreserved = refl;
-      formed = refl;
-      fit = refl;
-      unsequenced = refl;
-    }
-makeable Testers =
-    record {
-      plain = refl;
-      named = refl;
-      short = refl;
-      free = refl;
-      autos = refl;
-      few = refl;
-      narrow = refl;
-      keys =
-          refl;
-      unreserved = refl;
-      formed = refl;
-      fit = refl;
-      unsequenced = refl;
-    }
+makeable People = all_so refl refl refl refl refl refl refl refl refl refl refl refl
+makeable Puzzles = all_so refl refl refl refl refl refl refl refl refl refl refl refl
+makeable Rounds = all_so refl refl refl refl refl refl refl refl refl refl refl refl
+makeable Places = all_so refl refl refl refl refl refl refl refl refl refl refl refl
+makeable Answers = all_so refl refl refl refl refl refl refl refl refl refl refl refl
+makeable Protests = all_so refl refl refl refl refl refl refl refl refl refl refl refl
+makeable Testers = all_so refl refl refl refl refl refl refl refl refl refl refl refl
 
 making_whole : (table : HallTable) → is_whole (table_text table) 0 (understood (schema_before table) (table_text table))
     ≡ true

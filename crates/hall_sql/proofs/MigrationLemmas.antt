@@ -14,6 +14,7 @@ use Rattle.hall_store.specs.Store.{Fails, IsSettled, Leads, LeavesNoOther, Serve
 use Rattle.hall_store.specs.declared.fault.StoreFault.{StoreFault}
 use Rattle.hall_store.specs.declared.fault.StoreFault.TheVariants.{Failed}
 use Rattle.hall_store.proofs.Knowing.{leads_then}
+use Rattle.hall_sql.specs.declared.tables.HallTable.TheVariants.{Testers}
 use Rattle.hall_sql.specs.declared.migration.Migrated.{Migrated}
 use Rattle.hall_sql.specs.declared.migration.Migrated.TheVariants.{Done, Occupied}
 use Rattle.hall_sql.specs.declared.whole.Whole.{Whole}
@@ -33,7 +34,7 @@ use Rattle.hall_sql.specs.Versions.{IsAnyHall}
 use Rattle.hall_sql.specs.Whole.{AreRecords}
 use Rattle.hall_sql.specs.WholeRows.{AreRowsOf, AreSameRows, IsEmptyIn, count_of, without_testers}
 use Rattle.hall_sql.proofs.AdoptLemmas.{bare_world as bare_empty}
-use Rattle.hall_sql.proofs.AllRead.{all_bare, bare_read, read_before, testers_fails, testers_read}
+use Rattle.hall_sql.proofs.AllRead.{all_bare, bare_read, read_all, read_before, read_fails}
 use Rattle.hall_sql.proofs.FillLemmas.{FillsWorlds, fills_read, fills_worlds}
 use Rattle.hall_sql.proofs.FilledWorlds.{filled_whole}
 use Rattle.hall_sql.proofs.CanonicalTexts.{fills_texts}
@@ -134,7 +135,7 @@ compared old mid new hall rested serves six after testers clean =
     let over : IsAnyHall old = over_hall hall (λ schema ours. inr ours) in
     all_seven old.now.trees (six was)
     (read_before 14 old mid over rested was (serves was)
-    (testers_read mid new was (over_hall (rested_hall {old = old} {new = mid} hall rested).tabled (λ schema ours. ours))
+    (read_all Testers mid new was (over_hall (rested_hall {old = old} {new = mid} hall rested).tabled (λ schema ours. ours))
     (testers clean)))
 
 -- where not each row of the older version's tables is a record, not each of all is
@@ -150,7 +151,7 @@ pub testers_fail : (old mid new : State) → IsHall old → KeptAnyTables old mi
 testers_fail old mid new hall rested serves after clean why =
     let first = rested_hall {old = old} {new = mid} hall rested in
     let was : HasCleanDisk mid = omega (arith, after.follows.lasts.clean, clean) in
-    elim (testers_fails mid new was (over_hall first.tabled (λ schema ours. ours)) why) [
+    elim (read_fails Testers mid new was (over_hall first.tabled (λ schema ours. ours)) why) [
       | inl cause ↦ inl (cause_over old mid new first.follows.lasts was after.follows.lasts cause)
       | inr unread ↦ inr (λ all. unread (subst (λ (d : Database). IsRead d.trees 14) (sym (first.same was (serves was)))
           all.1.1.1.1.1.1.0))

@@ -1,6 +1,6 @@
 -- A query of the rows of one table as a value, and what follows of what is computed of its text.
 use Rattle.std.proofs.Common.{◌≡◌, ℕ, suc, List, [], ◌∷◌, map, length, is_some, Option, IsTrue, Bool, true}
-use Rattle.std.proofs.Common.{false, ◌++◌, refl, ap, subst}
+use Rattle.std.proofs.Common.{false, ◌++◌, ◌∙◌, refl, ap, subst, sym}
 use Rattle.std.specs.List.{AllByRecursion, list_all}
 use Rattle.std.specs.declared.cmp.Ordering.{Ordering}
 use Rattle.sqlite.specs.declared.types.Value.TheVariants.{Null}
@@ -10,10 +10,12 @@ use Rattle.sqlite.specs.Program.{overlay}
 use Rattle.sqlite.specs.Query.{Query, output, output_cmp}
 use Rattle.sqlite.specs.Schema.{Schema}
 use Rattle.sqlite.specs.State.{State, Begins, Shown}
+use Rattle.sqlite.specs.Table.{Table}
 use Rattle.sqlite.specs.Term.{Term, col, eval_all, holds}
 use Rattle.sqlite.specs.Tree.{Trees}
 use Rattle.sqlite.proofs.Callers.{IsPlain, command_of, begins_as}
 use Rattle.sqlite_schema.specs.declared.schema.Column.{Column}
+use Rattle.sqlite_trees.proofs.ListLemmas.{all_weaker}
 use Rattle.sqlite_typing.specs.Types.{accepts_program}
 use Rattle.sqlite_value.specs.Order.{column}
 use Rattle.sqlite_value.specs.declared.keys.Key.{Key}
@@ -25,13 +27,13 @@ use Rattle.hall_policy.specs.declared.record.ProtestRow.{ProtestRow}
 use Rattle.hall_policy.specs.declared.record.PuzzleRow.{PuzzleRow}
 use Rattle.hall_policy.specs.declared.record.Round.{Round}
 use Rattle.hall_policy.specs.declared.record.TesterKey.{TesterKey}
-use Rattle.hall_sql.specs.AllRead.{AreAllRead}
+use Rattle.hall_sql.specs.AllRead.{AreAllRead, IsRead, is_record}
 use Rattle.hall_sql.specs.Asked.{IsAsked, IsAskedIn, is_whole}
 use Rattle.hall_sql.specs.Laws.{Is, IsCommand, select, terms_from}
 use Rattle.hall_sql.specs.Rows.{answer_in, columns_from, person_in, place_in, protest_in, puzzle_row_in, round_in}
 use Rattle.hall_sql.specs.Rows.{tester_in}
 use Rattle.hall_sql.specs.Scan.{tree_of}
-use Rattle.hall_sql.specs.Standing.{AreAllKeyed, AreKeyed, IsSelection}
+use Rattle.hall_sql.specs.Standing.{IsSelection}
 use Rattle.hall_sql.specs.Statements.{names_of, plain_query, rising}
 use Rattle.hall_sql.specs.Tables.{hall_schema, table_at}
 use Rattle.hall_sql.specs.declared.tables.HallTable.{HallTable}
@@ -86,6 +88,17 @@ apart Answers db = refl
 apart Protests db = refl
 apart Testers db = refl
 
+-- what holds of each tree of the hall's tables holds of this table's
+pub in_table : (P : ℕ → Type 0) (table : HallTable) → AllByRecursion (λ (t : Table). P t.tree) hall_schema.tables
+    → P (tree_of table)
+in_table P People all = all.0
+in_table P Puzzles all = all.1.0
+in_table P Rounds all = all.1.1.0
+in_table P Places all = all.1.1.1.0
+in_table P Answers all = all.1.1.1.1.0
+in_table P Protests all = all.1.1.1.1.1.0
+in_table P Testers all = all.1.1.1.1.1.1.0
+
 shown_from : (place : ℕ) (columns : List Column) (params row : Row)
     → eval_all (terms_from 1 place columns) (params ∷ row ∷ []) ≡ columns_from place (length columns) row
 shown_from place [] params row = refl
@@ -97,25 +110,22 @@ pub shows : (table : HallTable) (params row : Row)
     → eval_all (columns_of table) (params ∷ row ∷ []) ≡ columns_from 1 (width_of table) row
 shows table = shown_from 1 (table_at table).columns
 
+-- a row of the table is a record where it is read as one
+pub is_read : (table : HallTable) (r : Row) → is_record (tree_of table) r ≡ is_some (record_of table r)
+is_read People r = refl
+is_read Puzzles r = refl
+is_read Rounds r = refl
+is_read Places r = refl
+is_read Answers r = refl
+is_read Protests r = refl
+is_read Testers r = refl
+
 -- where all of the hall's rows are records, those of the table are
 pub are_read : (table : HallTable) (trees : Trees) → AreAllRead hall_schema trees
     → AllByRecursion (λ row. IsTrue (is_some (record_of table row))) (trees (tree_of table))
-are_read People trees all = all.0
-are_read Puzzles trees all = all.1.0
-are_read Rounds trees all = all.1.1.0
-are_read Places trees all = all.1.1.1.0
-are_read Answers trees all = all.1.1.1.1.0
-are_read Protests trees all = all.1.1.1.1.1.0
-are_read Testers trees all = all.1.1.1.1.1.1.0
-
-pub are_keyed : (table : HallTable) (trees : Trees) → AreAllKeyed trees → AreKeyed (trees (tree_of table))
-are_keyed People trees all = all.0
-are_keyed Puzzles trees all = all.1.0
-are_keyed Rounds trees all = all.1.1.0
-are_keyed Places trees all = all.1.1.1.0
-are_keyed Answers trees all = all.1.1.1.1.0
-are_keyed Protests trees all = all.1.1.1.1.1.0
-are_keyed Testers trees all = all.1.1.1.1.1.1.0
+are_read table trees all =
+    all_weaker (λ r. IsTrue (is_record (tree_of table) r)) (λ r. IsTrue (is_some (record_of table r)))
+    (λ r is. sym (is_read table r) ∙ is) (trees (tree_of table)) (in_table (IsRead trees) table all)
 
 -- ---- queries
 

@@ -18,7 +18,7 @@ use Rattle.hall_sql.specs.Standing.{AreAllKeyed, AreKeyedIn, IsHall, KeptAnyTabl
 use Rattle.hall_sql.specs.Tables.{IsHallSchema}
 use Rattle.hall_sql.specs.Versions.{IsAnyHall, IsVersion}
 use Rattle.hall_sql.specs.Whole.{AreRecords}
-use Rattle.hall_sql.proofs.CauseLemmas.{fails_as}
+use Rattle.hall_store.proofs.Knowing.{fails_as}
 use Rattle.hall_sql.proofs.FailLemmas.{read_fault}
 use Rattle.hall_sql.proofs.StoreLemmas.{read_whole, rested_hall, rested_kept, told, told_so}
 use Rattle.hall_sql.proofs.UnreadRows.{TellsUnread}

@@ -45,7 +45,8 @@ use Rattle.hall_sql.proofs.Versions.{asked_all}
 use Rattle.hall_sql.proofs.CallLemmas.{answers_selection}
 use Rattle.hall_sql.proofs.KeyedLemmas.{keyed_permuted}
 use Rattle.hall_sql.proofs.RisingLemmas.{AtMost, ascending}
-use Rattle.hall_sql.proofs.ScanLemmas.{by_rowid, rowids_are, apart, all_pass}
+use Rattle.hall_sql.proofs.Queries.{apart}
+use Rattle.hall_sql.proofs.ScanLemmas.{by_rowid, rowids_are, all_pass}
 use Rattle.hall_sql.proofs.WriteCauseLemmas.{cause_over}
 use Rattle.sqlite.specs.Query.{output, output_cmp}
 
@@ -158,7 +159,7 @@ unkeyed g table h next last shown has so same moves unfit keyed =
     subst (λ (k : Command). EndsIn k db (timed [] c.formats it.now)) (sym (known ∙ is.is)) tt) in
     let rows = s.now.trees (tree_of table) in
     let sel = answers_selection sql [] s s (tree_of table) [] (col 1 0 ∷ []) by_rowid _ is.is is.unlisted is.plain
-    (apart s.now.trees table) refl _ whole.1 in
+    (apart table s.now.trees) refl _ whole.1 in
     let found = sel.found in
     let all : AreKeyed rows = subst (λ (d : Database). AreKeyed (d.trees (tree_of table))) (sym same.0.now_is) keyed in
     let ours : AreKeyed found = keyed_permuted rows found (subst (λ l. IsPermutation l found) (all_pass rows) sel.same)

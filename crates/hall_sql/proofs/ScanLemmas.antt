@@ -39,8 +39,6 @@ use Rattle.hall_sql.specs.declared.tables.HallTable.{HallTable}
 use Rattle.hall_sql.specs.declared.tables.HallTable.TheVariants.{People, Puzzles, Rounds, Places, Answers, Protests}
 use Rattle.hall_sql.specs.declared.tables.HallTable.TheVariants.{Testers}
 use Rattle.hall_sql.specs.Standing.{Apart, AreKeyed, KeptOrRolledBack}
-use Rattle.sqlite.specs.Program.{overlay}
-use Rattle.sqlite.specs.Tree.{Trees}
 use Rattle.sqlite.specs.Effect.{Database}
 use Rattle.sqlite_value.specs.Order.{value_cmp}
 use Rattle.sqlite_value.proofs.OrderLemmas.{value_cmp-Int}
@@ -49,6 +47,7 @@ use Rattle.std.specs.Ordering.{is_eq}
 use Rattle.std.proofs.lemmas.List.Sorted.{IsPermutation-sym}
 use Rattle.hall_sql.proofs.CallLemmas.{answers_selection}
 use Rattle.hall_sql.proofs.KeyedLemmas.{keyed_permuted}
+use Rattle.hall_sql.proofs.Queries.{apart}
 use Rattle.hall_sql.specs.Scan.{tree_of, Rises, IsAbove, Scanned, IsLastOf, HasScanned, IsLeft, Serves, IsTableKeyed}
 use Rattle.hall_sql.specs.Scan.{AreScanned}
 
@@ -108,74 +107,33 @@ Rowids table schema = AsksAll (rowids_text table) (tree_of table) (col 1 0 ∷ [
 
 pub rowids_are : (schema : Schema) (table : HallTable) → HasTable schema table → Rowids table schema
 unfolding understood everything
-rowids_are schema People = by_version (Rowids People) (λ u. record {
-  is = refl;
-  unlisted = refl;
-  plain = (refl, refl);
-  whole = refl;
-  typed = refl;
-}) (λ u. record {
-  is = refl;
-  unlisted = refl;
-  plain = (refl, refl);
-  whole = refl;
-  typed =
-      refl;
-}) schema
-rowids_are schema Puzzles = by_version (Rowids Puzzles) (λ u.
-    record { is = refl; unlisted = refl; plain = (refl, refl); whole = refl; typed = refl })
+rowids_are schema People =
+    by_version (Rowids People)
+    (λ u. record { is = refl; unlisted = refl; plain = (refl, refl); whole = refl; typed = refl })
     (λ u. record { is = refl; unlisted = refl; plain = (refl, refl); whole = refl; typed = refl }) schema
-rowids_are schema Rounds = by_version (Rowids Rounds) (λ u. record {
-  is = refl;
-  unlisted = refl;
-  plain = (refl, refl);
-  whole = refl;
-  typed = refl;
-}) (λ u. record {
-  is = refl;
-  unlisted = refl;
-  plain = (refl, refl);
-  whole = refl;
-  typed =
-      refl;
-}) schema
-rowids_are schema Places = by_version (Rowids Places) (λ u. record {
-  is = refl;
-  unlisted = refl;
-  plain = (refl, refl);
-  whole = refl;
-  typed = refl;
-}) (λ u. record {
-  is = refl;
-  unlisted = refl;
-  plain = (refl, refl);
-  whole = refl;
-  typed =
-      refl;
-}) schema
-rowids_are schema Answers = by_version (Rowids Answers) (λ u.
-    record { is = refl; unlisted = refl; plain = (refl, refl); whole = refl; typed = refl })
+rowids_are schema Puzzles =
+    by_version (Rowids Puzzles)
+    (λ u. record { is = refl; unlisted = refl; plain = (refl, refl); whole = refl; typed = refl })
     (λ u. record { is = refl; unlisted = refl; plain = (refl, refl); whole = refl; typed = refl }) schema
-rowids_are schema Protests = by_version (Rowids Protests) (λ u.
-    record { is = refl; unlisted = refl; plain = (refl, refl); whole = refl; typed = refl })
+rowids_are schema Rounds =
+    by_version (Rowids Rounds)
+    (λ u. record { is = refl; unlisted = refl; plain = (refl, refl); whole = refl; typed = refl })
     (λ u. record { is = refl; unlisted = refl; plain = (refl, refl); whole = refl; typed = refl }) schema
-rowids_are schema Testers = by_hall (Rowids Testers) (λ u. record {
-  is = refl;
-  unlisted = refl;
-  plain = (refl, refl);
-  whole = refl;
-  typed = refl;
-}) schema
-
--- the statement sees the table's own rows
-pub apart : (db : Trees) (table : HallTable) → overlay db [] (tree_of table) ≡ db (tree_of table)
-apart db People = refl
-apart db Puzzles = refl
-apart db Rounds = refl
-apart db Places = refl
-apart db Answers = refl
-apart db Protests = refl
-apart db Testers = refl
+rowids_are schema Places =
+    by_version (Rowids Places)
+    (λ u. record { is = refl; unlisted = refl; plain = (refl, refl); whole = refl; typed = refl })
+    (λ u. record { is = refl; unlisted = refl; plain = (refl, refl); whole = refl; typed = refl }) schema
+rowids_are schema Answers =
+    by_version (Rowids Answers)
+    (λ u. record { is = refl; unlisted = refl; plain = (refl, refl); whole = refl; typed = refl })
+    (λ u. record { is = refl; unlisted = refl; plain = (refl, refl); whole = refl; typed = refl }) schema
+rowids_are schema Protests =
+    by_version (Rowids Protests)
+    (λ u. record { is = refl; unlisted = refl; plain = (refl, refl); whole = refl; typed = refl })
+    (λ u. record { is = refl; unlisted = refl; plain = (refl, refl); whole = refl; typed = refl }) schema
+rowids_are schema Testers =
+    by_hall (Rowids Testers)
+    (λ u. record { is = refl; unlisted = refl; plain = (refl, refl); whole = refl; typed = refl }) schema
 
 pub all_pass : (rows : List Row) → filter (λ r. true) rows ≡ rows
 all_pass [] = refl
@@ -225,7 +183,7 @@ scanned_end g table h last_held last has so ends =
     let is = rowids_are h.schema table has in
     let shown : Shown sql [] (state g h) (state g last_held) so.given = ends sql [] so.given so.has in
     let sel = answers_selection sql [] (state g h) (state g last_held) (tree_of table) [] (col 1 0 ∷ []) by_rowid _
-    is.is is.unlisted is.plain (apart (state g h).now.trees table) refl so.given shown in
+    is.is is.unlisted is.plain (apart table (state g h).now.trees) refl so.given shown in
     let same : IsPermutation rows sel.found = subst (λ l. IsPermutation l sel.found) (all_pass rows) sel.same in
     let ids : map rowid sel.found ≡ map Int so.ids = sym (ap (map (λ r. column r 0)) sel.shown
     ∙ map-map (λ r. column r 0) (λ r. eval_all (col 1 0 ∷ []) ([] ∷ r ∷ [])) sel.found) ∙ so.read in

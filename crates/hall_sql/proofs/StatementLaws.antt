@@ -1,9 +1,12 @@
 -- What each statement asks, as it is computed of its text.
-use Rattle.std.proofs.Common.{List, ℕ, [], None}
+use Rattle.std.proofs.Common.{◌≡◌, List, ℕ, [], None, true}
+use Rattle.sqlite.specs.Listing.{understood}
 use Rattle.sqlite.specs.Schema.{Schema}
+use Rattle.sqlite.proofs.Callers.{IsPlain, command_of}
 use Rattle.sqlite_value.specs.declared.keys.Key.{Key}
 use Rattle.sqlite.specs.Term.{Term}
 use Rattle.sqlite.specs.Command.TheVariants.{Select}
+use Rattle.hall_sql.specs.Asked.{is_whole}
 use Rattle.hall_sql.specs.Statements.{plain_query}
 use Rattle.hall_sql.specs.Laws.{AskOfPeople, AskOfPuzzles, AskOfRounds, AskOfPlaces, AskOfTesters, AskOfAnswers}
 use Rattle.hall_sql.specs.Laws.{AskOfProtests, AskForRowids, Is, IsCommand}
@@ -41,6 +44,12 @@ over_halls : {sql : List ℕ} {parameters : ℕ} {command : Command}
     → ((u : Wording) → IsCommand (hall_in u) sql parameters command) → Is sql parameters command
 over_halls {sql} {parameters} {command} = by_hall (λ schema. IsCommand schema sql parameters command)
 
+-- what was computed of a text that writes
+of_write : {sql : List ℕ} {parameters : ℕ} {command : Command}
+    → ((u : Wording) → (command_of (understood (hall_in u) sql) ≡ command) × IsPlain (understood (hall_in u) sql))
+    → ((u : Wording) → is_whole sql parameters (understood (hall_in u) sql) ≡ true) → Is sql parameters command
+of_write is whole = over_halls (λ u. record { is = (is u).0; plain = (is u).1; whole = whole u })
+
 pub asks_of_people : AskOfPeople
 asks_of_people = record {
   person = law (person_is []);
@@ -51,12 +60,7 @@ asks_of_people = record {
     whole = (people_after_is u).3;
   });
   all_people = λ schema has. command_in (all_people_are schema has);
-  add_person = over_halls (λ u. record {
-    is = (add_person_is u).0;
-    plain = (add_person_is u).1;
-    whole = add_person_whole
-        u;
-  });
+  add_person = of_write add_person_is add_person_whole;
 }
 
 pub asks_of_puzzles : AskOfPuzzles
@@ -70,18 +74,8 @@ asks_of_puzzles = record {
     whole =
         look_puzzle_whole u;
   });
-  add_puzzle = over_halls (λ u. record {
-    is = (add_puzzle_is u).0;
-    plain = (add_puzzle_is u).1;
-    whole = add_puzzle_whole
-        u;
-  });
-  replace_puzzle = over_halls (λ u. record {
-    is = (replace_puzzle_is u).0;
-    plain = (replace_puzzle_is u).1;
-    whole =
-        replace_puzzle_whole u;
-  });
+  add_puzzle = of_write add_puzzle_is add_puzzle_whole;
+  replace_puzzle = of_write replace_puzzle_is replace_puzzle_whole;
 }
 
 pub asks_of_rounds : AskOfRounds
@@ -94,13 +88,8 @@ asks_of_rounds = record {
     whole = look_head_whole
         u;
   });
-  add_head = over_halls (λ u. record { is = (add_head_is u).0; plain = (add_head_is u).1; whole = add_head_whole u });
-  replace_head = over_halls (λ u. record {
-    is = (replace_head_is u).0;
-    plain = (replace_head_is u).1;
-    whole =
-        replace_head_whole u;
-  });
+  add_head = of_write add_head_is add_head_whole;
+  replace_head = of_write replace_head_is replace_head_whole;
 }
 
 pub asks_of_places : AskOfPlaces
@@ -108,36 +97,16 @@ asks_of_places = record {
   places_of = law (places_of_is []);
   places_with = law (places_with_is (record { author = []; label = [] }));
   all_places = λ schema has. command_in (all_places_are schema has);
-  add_place = over_halls (λ u. record {
-    is = (add_place_is u).0;
-    plain = (add_place_is u).1;
-    whole = add_place_whole
-        u;
-  });
-  drop_places = over_halls (λ u. record {
-    is = (drop_places_is u).0;
-    plain = (drop_places_is u).1;
-    whole =
-        drop_places_whole u;
-  });
+  add_place = of_write add_place_is add_place_whole;
+  drop_places = of_write drop_places_is drop_places_whole;
 }
 
 pub asks_of_testers : AskOfTesters
 asks_of_testers = record {
   testers_of = law (testers_of_is []);
   all_testers = λ schema has. command_in (all_testers_are schema has);
-  add_tester = over_halls (λ u. record {
-    is = (add_tester_is u).0;
-    plain = (add_tester_is u).1;
-    whole = add_tester_whole
-        u;
-  });
-  drop_testers = over_halls (λ u. record {
-    is = (drop_testers_is u).0;
-    plain = (drop_testers_is u).1;
-    whole =
-        drop_testers_whole u;
-  });
+  add_tester = of_write add_tester_is add_tester_whole;
+  drop_testers = of_write drop_testers_is drop_testers_whole;
 }
 
 pub asks_of_answers : AskOfAnswers
@@ -149,12 +118,7 @@ asks_of_answers = record {
   answers_given = law (answers_given_is [] [] 0);
   number_taken = law (number_taken_is [] [] 0 0);
   all_answers = λ schema has. command_in (all_answers_are schema has);
-  add_answer = over_halls (λ u. record {
-    is = (add_answer_is u).0;
-    plain = (add_answer_is u).1;
-    whole = add_answer_whole
-        u;
-  });
+  add_answer = of_write add_answer_is add_answer_whole;
 }
 
 pub asks_of_protests : AskOfProtests
@@ -163,18 +127,8 @@ asks_of_protests = record {
   protests_of = law (protests_of_is [] []);
   protests_in = law (protests_in_is []);
   all_protests = λ schema has. command_in (all_protests_are schema has);
-  add_protest = over_halls (λ u. record {
-    is = (add_protest_is u).0;
-    plain = (add_protest_is u).1;
-    whole =
-        add_protest_whole u;
-  });
-  rule_protest = over_halls (λ u. record {
-    is = (rule_protest_is u).0;
-    plain = (rule_protest_is u).1;
-    whole =
-        rule_protest_whole u;
-  });
+  add_protest = of_write add_protest_is add_protest_whole;
+  rule_protest = of_write rule_protest_is rule_protest_whole;
 }
 
 pub asks_for_rowids : AskForRowids

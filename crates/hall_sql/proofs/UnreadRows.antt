@@ -26,7 +26,7 @@ use Rattle.hall_sql.specs.Cause.{IsAnyUnread}
 use Rattle.hall_sql.specs.Inside.{IsHallData}
 use Rattle.hall_sql.specs.Rows.{columns_from, person_in}
 use Rattle.hall_sql.specs.Scan.{tree_of}
-use Rattle.hall_sql.specs.Standing.{IsSelection}
+use Rattle.hall_sql.specs.Standing.{AreKeyed, IsSelection}
 use Rattle.hall_sql.specs.Statements.{above}
 use Rattle.hall_sql.specs.Tables.{IsHallSchema, hall_schema}
 use Rattle.hall_sql.specs.declared.answers.TheConstants.{ANSWER}
@@ -44,7 +44,7 @@ use Rattle.hall_sql.proofs.FirstRows.{all_first, first_shown}
 use Rattle.hall_store.specs.Store.{people_at_once}
 use Rattle.hall_sql.proofs.ProtestTexts.{protest, protest_is}
 use Rattle.hall_sql.proofs.PuzzleTexts.{puzzle, puzzle_is}
-use Rattle.hall_sql.proofs.Queries.{Computes, TableQuery, are_keyed, are_read, begun, body_of, passes, record_in}
+use Rattle.hall_sql.proofs.Queries.{Computes, TableQuery, are_read, begun, body_of, in_table, passes, record_in}
 use Rattle.hall_sql.proofs.Queries.{record_of, selection, shows, width_of}
 use Rattle.hall_sql.proofs.Versions.{own_keys, unique_in}
 use Rattle.hall_sql.proofs.Wordings.{Wording, hall_in, hall_like, worded}
@@ -131,7 +131,7 @@ module _ {q : TableQuery} (computes : (u : Wording) → Computes q (hall_in u)) 
       let same : length rows ≡ length sel.found = ap length sel.shown ∙ length-map sel.found _ in
       let passed = length_permutation (filter (passes q) table) sel.found sel.same in
       let few = one_passes places asked q.params (passes q) agrees table
-      (are_keyed q.table old.now.trees hall.keyed) (unique old.now hall.schema sound) in
+      (in_table (λ tree. AreKeyed (old.now.trees tree)) q.table hall.keyed) (unique old.now hall.schema sound) in
       omega (arith, few, same, passed)
 
 -- one that lists a table of either version

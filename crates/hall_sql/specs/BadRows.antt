@@ -1,16 +1,21 @@
 -- The rows of the tables that are no record, by their rowids, and the tables that take no more rows.
 use Rattle.std.specs.Prelude.{◌≡◌, ◌≢◌, ◌↔◌, Bool, false, ℕ, ℤ, pos, List, [], map, not, is_some, Option, IsTrue}
+use Rattle.std.specs.Prelude.{Result, IfOk}
 use Rattle.std.specs.List.{AllByRecursion, AllZip, filter}
 use Rattle.std.specs.List.Sorted.{IsPermutation}
 use Rattle.sqlite.specs.declared.types.Value.TheVariants.{Int}
 use Rattle.sqlite.specs.Order.{Row}
 use Rattle.sqlite.specs.Schema.{Schema}
-use Rattle.sqlite.specs.State.{State, Shown}
+use Rattle.sqlite.specs.State.{HasCleanDisk, State, Shown}
 use Rattle.sqlite.specs.Tree.{Trees}
 use Rattle.sqlite_trees.specs.Tree.{rowid}
 use Rattle.sqlite_value.specs.Order.{column}
+use Rattle.hall_store.specs.Store.{Fails}
+use Rattle.hall_store.specs.declared.fault.StoreFault.{StoreFault}
 use Rattle.hall_sql.specs.AllRead.{is_record}
+use Rattle.hall_sql.specs.Cause.{IsStoreCause}
 use Rattle.hall_sql.specs.Scan.{Serves, tree_of}
+use Rattle.hall_sql.specs.Standing.{KeptAnyTables}
 use Rattle.hall_sql.specs.Values.{int_in}
 use Rattle.hall_sql.specs.Versions.{HasTable}
 use Rattle.hall_sql.specs.declared.bad_rows.BadRows.{BadRows}
@@ -63,6 +68,12 @@ pub record AreBadRows (trees : Trees) (tree : ℕ) (bad : BadRows) : Type 0 wher
 abbrev pub AreFoundBad : HallTable → State → State → BadRows → Type 0
 AreFoundBad table old new bad =
     IsTrue new.is_open × (bad.table ≡ table) × AreBadRows old.now.trees (tree_of table) bad
+
+-- a look at the table leaves all tables as they were, tells so, and fails for no cause but the store's
+pub record FindsBad (table : HallTable) (old new : State) (result : Result BadRows StoreFault) : Type 0 where
+  pub rested : KeptAnyTables old new
+  pub bad : HasCleanDisk new → IfOk result (AreFoundBad table old new)
+  pub cause : HasCleanDisk new → Fails (IsStoreCause old new) result
 
 -- the schema has each of the tables
 abbrev pub HasTables : List HallTable → Schema → Type 0

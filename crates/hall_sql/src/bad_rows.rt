@@ -7,7 +7,7 @@ ghost use Rattle.sqlite.specs.State.{HasCleanDisk};
 ghost use Rattle.sqlite_value.specs.Order.{column};
 ghost use Rattle.hall_store.specs.Store.{Fails};
 ghost use Rattle.hall_sql.specs.Asked.{IsAskedIn};
-ghost use Rattle.hall_sql.specs.BadRows.{AreBadIn, AreFoundBad, AreNone, AreToldBad, HasTables, last_rowid};
+ghost use Rattle.hall_sql.specs.BadRows.{AreBadIn, AreNone, AreToldBad, FindsBad, HasTables, last_rowid};
 ghost use Rattle.hall_sql.specs.BadRows.{rowid_in};
 ghost use Rattle.hall_sql.specs.Cause.{IsAnyUnread, IsStoreCause, ReadFails};
 ghost use Rattle.hall_sql.specs.Standing.{IsOver, KeptAnyTables};
@@ -158,11 +158,7 @@ fn bad_in<S: Alter, T: Record + Drop, const AT: usize>(
 /// What is told of the table of people.
 fn bad_people<S: Alter>(conn: &mut Connection<S>, alloc: Global) -> Result<BadRows, StoreFault>
     requires has { IsOver (λ schema. HasTable schema People) (state S.Store conn.old) }
-    ensures rested { KeptAnyTables (state S.Store conn.old) (state S.Store conn.new) }
-    ensures bad { HasCleanDisk (state S.Store conn.new) → IfOk result (λ bad.
-        AreFoundBad People (state S.Store conn.old) (state S.Store conn.new) bad) }
-    ensures cause { HasCleanDisk (state S.Store conn.new)
-        → Fails (IsStoreCause (state S.Store conn.old) (state S.Store conn.new)) result }
+    ensures { FindsBad People (state S.Store conn.old) (state S.Store conn.new) result }
 {
     bad_in::<S, Person, 3>(conn, alloc, HallTable::People, PEOPLE_ROWS)
 }
@@ -170,11 +166,7 @@ fn bad_people<S: Alter>(conn: &mut Connection<S>, alloc: Global) -> Result<BadRo
 /// What is told of the table of puzzles.
 fn bad_puzzles<S: Alter>(conn: &mut Connection<S>, alloc: Global) -> Result<BadRows, StoreFault>
     requires has { IsOver (λ schema. HasTable schema Puzzles) (state S.Store conn.old) }
-    ensures rested { KeptAnyTables (state S.Store conn.old) (state S.Store conn.new) }
-    ensures bad { HasCleanDisk (state S.Store conn.new) → IfOk result (λ bad.
-        AreFoundBad Puzzles (state S.Store conn.old) (state S.Store conn.new) bad) }
-    ensures cause { HasCleanDisk (state S.Store conn.new)
-        → Fails (IsStoreCause (state S.Store conn.old) (state S.Store conn.new)) result }
+    ensures { FindsBad Puzzles (state S.Store conn.old) (state S.Store conn.new) result }
 {
     bad_in::<S, PuzzleRow, 5>(conn, alloc, HallTable::Puzzles, PUZZLES_ROWS)
 }
@@ -182,11 +174,7 @@ fn bad_puzzles<S: Alter>(conn: &mut Connection<S>, alloc: Global) -> Result<BadR
 /// What is told of the table of rounds.
 fn bad_rounds<S: Alter>(conn: &mut Connection<S>, alloc: Global) -> Result<BadRows, StoreFault>
     requires has { IsOver (λ schema. HasTable schema Rounds) (state S.Store conn.old) }
-    ensures rested { KeptAnyTables (state S.Store conn.old) (state S.Store conn.new) }
-    ensures bad { HasCleanDisk (state S.Store conn.new) → IfOk result (λ bad.
-        AreFoundBad Rounds (state S.Store conn.old) (state S.Store conn.new) bad) }
-    ensures cause { HasCleanDisk (state S.Store conn.new)
-        → Fails (IsStoreCause (state S.Store conn.old) (state S.Store conn.new)) result }
+    ensures { FindsBad Rounds (state S.Store conn.old) (state S.Store conn.new) result }
 {
     bad_in::<S, Round, 10>(conn, alloc, HallTable::Rounds, ROUNDS_ROWS)
 }
@@ -194,11 +182,7 @@ fn bad_rounds<S: Alter>(conn: &mut Connection<S>, alloc: Global) -> Result<BadRo
 /// What is told of the table of places of rounds.
 fn bad_places<S: Alter>(conn: &mut Connection<S>, alloc: Global) -> Result<BadRows, StoreFault>
     requires has { IsOver (λ schema. HasTable schema Places) (state S.Store conn.old) }
-    ensures rested { KeptAnyTables (state S.Store conn.old) (state S.Store conn.new) }
-    ensures bad { HasCleanDisk (state S.Store conn.new) → IfOk result (λ bad.
-        AreFoundBad Places (state S.Store conn.old) (state S.Store conn.new) bad) }
-    ensures cause { HasCleanDisk (state S.Store conn.new)
-        → Fails (IsStoreCause (state S.Store conn.old) (state S.Store conn.new)) result }
+    ensures { FindsBad Places (state S.Store conn.old) (state S.Store conn.new) result }
 {
     bad_in::<S, Place, 5>(conn, alloc, HallTable::Places, PLACES_ROWS)
 }
@@ -206,11 +190,7 @@ fn bad_places<S: Alter>(conn: &mut Connection<S>, alloc: Global) -> Result<BadRo
 /// What is told of the table of answers.
 fn bad_answers<S: Alter>(conn: &mut Connection<S>, alloc: Global) -> Result<BadRows, StoreFault>
     requires has { IsOver (λ schema. HasTable schema Answers) (state S.Store conn.old) }
-    ensures rested { KeptAnyTables (state S.Store conn.old) (state S.Store conn.new) }
-    ensures bad { HasCleanDisk (state S.Store conn.new) → IfOk result (λ bad.
-        AreFoundBad Answers (state S.Store conn.old) (state S.Store conn.new) bad) }
-    ensures cause { HasCleanDisk (state S.Store conn.new)
-        → Fails (IsStoreCause (state S.Store conn.old) (state S.Store conn.new)) result }
+    ensures { FindsBad Answers (state S.Store conn.old) (state S.Store conn.new) result }
 {
     bad_in::<S, AnswerRow, 8>(conn, alloc, HallTable::Answers, ANSWERS_ROWS)
 }
@@ -218,11 +198,7 @@ fn bad_answers<S: Alter>(conn: &mut Connection<S>, alloc: Global) -> Result<BadR
 /// What is told of the table of protests.
 fn bad_protests<S: Alter>(conn: &mut Connection<S>, alloc: Global) -> Result<BadRows, StoreFault>
     requires has { IsOver (λ schema. HasTable schema Protests) (state S.Store conn.old) }
-    ensures rested { KeptAnyTables (state S.Store conn.old) (state S.Store conn.new) }
-    ensures bad { HasCleanDisk (state S.Store conn.new) → IfOk result (λ bad.
-        AreFoundBad Protests (state S.Store conn.old) (state S.Store conn.new) bad) }
-    ensures cause { HasCleanDisk (state S.Store conn.new)
-        → Fails (IsStoreCause (state S.Store conn.old) (state S.Store conn.new)) result }
+    ensures { FindsBad Protests (state S.Store conn.old) (state S.Store conn.new) result }
 {
     bad_in::<S, ProtestRow, 7>(conn, alloc, HallTable::Protests, PROTESTS_ROWS)
 }
@@ -230,11 +206,7 @@ fn bad_protests<S: Alter>(conn: &mut Connection<S>, alloc: Global) -> Result<Bad
 /// What is told of the table of testers.
 fn bad_testers<S: Alter>(conn: &mut Connection<S>, alloc: Global) -> Result<BadRows, StoreFault>
     requires has { IsOver (λ schema. HasTable schema Testers) (state S.Store conn.old) }
-    ensures rested { KeptAnyTables (state S.Store conn.old) (state S.Store conn.new) }
-    ensures bad { HasCleanDisk (state S.Store conn.new) → IfOk result (λ bad.
-        AreFoundBad Testers (state S.Store conn.old) (state S.Store conn.new) bad) }
-    ensures cause { HasCleanDisk (state S.Store conn.new)
-        → Fails (IsStoreCause (state S.Store conn.old) (state S.Store conn.new)) result }
+    ensures { FindsBad Testers (state S.Store conn.old) (state S.Store conn.new) result }
 {
     bad_in::<S, Tester, 2>(conn, alloc, HallTable::Testers, TESTERS_ROWS)
 }
@@ -246,11 +218,7 @@ fn bad_rows_of<S: Alter>(
     table: HallTable,
 ) -> Result<BadRows, StoreFault>
     requires has { IsOver (λ schema. HasTable schema table) (state S.Store conn.old) }
-    ensures rested { KeptAnyTables (state S.Store conn.old) (state S.Store conn.new) }
-    ensures bad { HasCleanDisk (state S.Store conn.new) → IfOk result (λ bad.
-        AreFoundBad table (state S.Store conn.old) (state S.Store conn.new) bad) }
-    ensures cause { HasCleanDisk (state S.Store conn.new)
-        → Fails (IsStoreCause (state S.Store conn.old) (state S.Store conn.new)) result }
+    ensures { FindsBad table (state S.Store conn.old) (state S.Store conn.new) result }
 {
     match table {
         HallTable::People => bad_people(conn, alloc),

@@ -1,15 +1,9 @@
 //! All that a hall keeps but its testers, as lists of rows.
-ghost use Rattle.std.specs.Prelude.{◌≡◌, ◌↔◌, ◌<◌, IsTrue, IfSome, IfNone, IfOk};
+ghost use Rattle.std.specs.Prelude.{◌≡◌, ◌↔◌, ◌<◌, IsTrue, IfSome, IfNone};
 ghost use Rattle.sqlite.specs.Held.{state};
-ghost use Rattle.sqlite.specs.State.{HasCleanDisk};
-ghost use Rattle.hall_store.specs.Store.{Fails, Served};
-ghost use Rattle.hall_sql.specs.AllRead.{AreAllRead};
-ghost use Rattle.hall_sql.specs.FillCause.{TablesFail};
-ghost use Rattle.hall_sql.specs.Standing.{KeptAnyTables};
-ghost use Rattle.hall_sql.specs.Content.{content_of};
-ghost use Rattle.hall_sql.specs.Tables.{old_schema};
+ghost use Rattle.hall_sql.specs.Reads.{ReadsWhole};
 ghost use Rattle.hall_sql.specs.Versions.{IsAnyHall};
-ghost use Rattle.hall_sql.specs.WholeRows.{AreRowsOf, AreSameRows, count_of};
+ghost use Rattle.hall_sql.specs.WholeRows.{AreSameRows, count_of};
 
 use crate::answers::all_answers;
 use crate::people::all_people;
@@ -79,12 +73,7 @@ pub(crate) fn read_rows<S: Alter>(
     alloc: Global,
 ) -> Result<Whole, StoreFault>
     requires hall { IsAnyHall (state S.Store conn.old) }
-    ensures rested { KeptAnyTables (state S.Store conn.old) (state S.Store conn.new) }
-    ensures served { Served (content_of (state S.Store conn.new)) result (λ world rows. AreRowsOf world rows) }
-    ensures whole { HasCleanDisk (state S.Store conn.new) → IfOk result (λ _.
-        AreAllRead old_schema (state S.Store conn.old).now.trees) }
-    ensures cause { HasCleanDisk (state S.Store conn.new)
-        → Fails (TablesFail old_schema (state S.Store conn.old) (state S.Store conn.new)) result }
+    ensures { ReadsWhole (state S.Store conn.old) (state S.Store conn.new) result }
 {
     let people = all_people(conn, alloc)?;
     let puzzles = all_puzzles(conn, alloc)?;

@@ -1,7 +1,10 @@
 -- What was found stays true over calls that leave the world.
-use Rattle.std.proofs.Common.{◌≡◌, ◌⊎◌, ℕ, ◌≤◌, arith, inl, inr, subst, sym, ◌∙◌, refl, Result, Ok, Err, IfOk}
+use Rattle.std.proofs.Common.{◌≡◌, ◌⊎◌, ℕ, ◌≤◌, arith, inl, inr, subst, sym, ◌∙◌, refl, Result, Ok, Err, IfErr, IfOk}
+use Rattle.std.specs.Prelude.{IsErrAnd}
 use Rattle.hall_policy.specs.World.{World}
 use Rattle.hall_store.specs.Store.{CanFailIn, Content, Leads, LeavesNoOther, Kept, MoreFaults, Told, Served, Over}
+use Rattle.hall_store.specs.declared.fault.StoreFault.{StoreFault}
+use Rattle.hall_store.specs.declared.fault.StoreFault.TheVariants.{Failed}
 
 -- more faults over one of two calls are more over both
 pub more_before : (a b c : ℕ) → MoreFaults a b → b ≤ c → MoreFaults a c
@@ -73,6 +76,12 @@ kept_then a b c first second =
 pub carried : (P : World → Type 0) (a b : Content) → Kept a b → (a.honest → a.serves → P a.world) → b.honest → b.serves
     → P b.world
 carried P a b kept before h s = subst P (sym (kept.world h s)) (before (kept.honest h) (kept.serves h s))
+
+-- a call fails as what it called did
+pub fails_as : {R : Type 0} (result : Result R StoreFault) (Why : Type 0) (fault : StoreFault)
+    → IsErrAnd result (λ e. e ≡ fault) → (fault ≡ Failed → Why) → IfErr result (λ e. e ≡ Failed → Why)
+fails_as (Ok x) Why fault is why = tt
+fails_as (Err e) Why fault is why = λ failed. why (sym is ∙ failed)
 
 -- what can fail in a later call can fail in both
 pub fails_after : (a b c : Content) → a.faults ≤ b.faults → CanFailIn b c → CanFailIn a c

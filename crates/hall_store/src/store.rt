@@ -16,9 +16,9 @@ pub const PEOPLE_AT_ONCE: usize = 200;
 /// A read may change what keeps the world, as a connection is, and leaves the world. What a call says of its answer and
 /// of what it leaves holds where the device was honest, and, where the call is refused, while the store still serves: a
 /// store that a fault of its device has shut answers nothing more.
-/// A call is refused as out of memory, or as failed: where its device failed in it, or by a store whose content then says
-/// that it can fail; where a round is read, as neither nothing nor a round with its lists is kept under the id; or, where
-/// rows are fed, by the sink.
+/// A call is refused as out of memory, or as failed: where its device failed in it, or by a store whose content then
+/// says that it can fail; where a round is read, as neither nothing nor a round with its lists is kept under the id;
+/// or, where rows are fed, by the sink.
 pub trait ReadStore: Drop {
     ghost use Rattle.std.specs.Prelude.{◌≡◌, ◌↔◌, ◌⊎◌, IsTrue, IfErr};
     ghost use Rattle.std.specs.FinMap.{get, values};
@@ -163,7 +163,8 @@ pub trait ReadStore: Drop {
     /// The answers of the round, by entrant, number, then n.
     fn answers_in(&mut self, alloc: Global, round: &RoundId) -> Result<Vec<AnswerRow>, StoreFault>
         ensures kept { Kept (content self.old) (content self.new) }
-        ensures served { Served (content self.new) result (λ world rows. IsListing world (is_in round.now) rows.items) }
+        ensures served { Served (content self.new) result
+            (λ world rows. IsListing world (is_in round.now) rows.items) }
         ensures fault { Fails (CanFailIn (content self.old) (content self.new)) result };
 
     /// Gives the sink the answers of the round by entrants after the one name and up to the other, where these are

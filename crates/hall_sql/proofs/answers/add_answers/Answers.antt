@@ -7,7 +7,7 @@ use Rattle.hall_store.specs.declared.fault.StoreFault.{StoreFault}
 use Rattle.hall_sql.specs.Content.{MakesInTables}
 use Rattle.hall_sql.specs.Fill.{AddsAnswer}
 use Rattle.hall_sql.specs.FillCause.{AddAnswersFails}
-use Rattle.hall_sql.proofs.CauseLemmas.{fails_as}
+use Rattle.hall_store.proofs.Knowing.{fails_as}
 use Rattle.hall_sql.proofs.JointLemmas.{joint_changes}
 use Rattle.hall_sql.proofs.LastLemmas.{survived}
 use Rattle.hall_sql.proofs.TransactionLemmas.{did_committed, did_refused}

@@ -6,7 +6,7 @@ use Rattle.sqlite.specs.State.{HasCleanDisk}
 use Rattle.hall_sql.specs.Versions.{HasTable}
 use Rattle.hall_sql.specs.declared.tables.HallTable.TheVariants.{People}
 use Rattle.hall_sql.proofs.BadRowLemmas.{told_next}
-use Rattle.hall_sql.proofs.CauseLemmas.{fails_as}
+use Rattle.hall_store.proofs.Knowing.{fails_as}
 use Rattle.hall_sql.proofs.RowReads.{rests_twice}
 use Rattle.hall_sql.proofs.WriteCauseLemmas.{cause_over}
 use Rattle.hall_sql.proofs.bad_rows.bad_rows.Goals as goal

@@ -1,6 +1,6 @@
 use Rattle.sqlite.specs.Values.{bound}
 use Rattle.sqlite.specs.Held.{state}
-use Rattle.hall_sql.proofs.CauseLemmas.{fails_as}
+use Rattle.hall_store.proofs.Knowing.{fails_as}
 use Rattle.hall_sql.proofs.SoundLemmas.{ran_sound}
 use Rattle.hall_sql.proofs.WriteCauseLemmas.{inside_cause}
 use Rattle.hall_sql.proofs.calls.write_in.Goals as goal

@@ -3,7 +3,7 @@ use Rattle.sqlite.specs.Values.{bound}
 use Rattle.sqlite.specs.Held.{state}
 use Rattle.sqlite.specs.State.{HasCleanDisk}
 use Rattle.hall_sql.proofs.AskedLemmas.{asked_cause}
-use Rattle.hall_sql.proofs.CauseLemmas.{fails_as}
+use Rattle.hall_store.proofs.Knowing.{fails_as}
 use Rattle.hall_sql.proofs.FoundLemmas.{length_read}
 use Rattle.hall_sql.proofs.ShowsNothing.{asked_quiet}
 use Rattle.hall_sql.proofs.StoreLemmas.{rested_hall}

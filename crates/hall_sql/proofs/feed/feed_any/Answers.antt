@@ -6,7 +6,7 @@ use Rattle.hall_policy.specs.Sink.{HasTaken}
 use Rattle.hall_sql.specs.Cause.{FeedFails}
 use Rattle.hall_sql.specs.Feed.{Steps, AreAll}
 use Rattle.hall_sql.proofs.AskedLemmas.{asked_cause}
-use Rattle.hall_sql.proofs.CauseLemmas.{fails_as}
+use Rattle.hall_store.proofs.Knowing.{fails_as}
 use Rattle.hall_sql.proofs.LastLemmas.{survived, last_then, quiet_query, quiet_then}
 use Rattle.hall_sql.proofs.ShowsNothing.{asked_quiet}
 use Rattle.hall_sql.proofs.CallLemmas.{rested, query_refused}

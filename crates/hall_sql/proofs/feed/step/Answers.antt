@@ -1,6 +1,6 @@
 use Rattle.std.proofs.Common.{inr, sym, subst}
 use Rattle.sqlite.specs.Given.{Advances}
-use Rattle.hall_sql.proofs.CauseLemmas.{fails_as}
+use Rattle.hall_store.proofs.Knowing.{fails_as}
 use Rattle.hall_sql.proofs.feed.step.Goals as goal
 
 pub returns-in_err-give-clause-cause : goal.returns-in_err-give-clause-cause

@@ -4,7 +4,7 @@ use Rattle.hall_sql.specs.Standing.{AddsOutcomes}
 use Rattle.sqlite.specs.Held.{state}
 use Rattle.hall_sql.specs.Fill.{AreFilled, Fills}
 use Rattle.hall_sql.specs.FillCause.{FillFails}
-use Rattle.hall_sql.proofs.CauseLemmas.{fails_as}
+use Rattle.hall_store.proofs.Knowing.{fails_as}
 use Rattle.hall_sql.proofs.WriteCauseLemmas.{commit_fails, whole_cause}
 use Rattle.hall_sql.proofs.LastLemmas.{survived}
 use Rattle.hall_sql.proofs.TransactionLemmas.{HasCommitted, commit_outcomes, committed, rolled_outcomes}

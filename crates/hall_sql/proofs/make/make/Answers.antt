@@ -5,7 +5,7 @@ use Rattle.hall_sql.specs.Cause.{IsStoreCause}
 use Rattle.hall_sql.specs.Standing.{MakesAtMost}
 use Rattle.hall_sql.proofs.LastLemmas.{survived}
 use Rattle.hall_sql.proofs.AdoptLemmas.{awaits_all, base, committed_adopted, grown_stops, rolled_stops}
-use Rattle.hall_sql.proofs.CauseLemmas.{fails_as}
+use Rattle.hall_store.proofs.Knowing.{fails_as}
 use Rattle.hall_sql.proofs.WriteCauseLemmas.{cause_later, cause_over, commit_cause}
 use Rattle.hall_sql.proofs.make.make.Goals as goal
 

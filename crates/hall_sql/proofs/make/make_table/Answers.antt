@@ -1,5 +1,5 @@
 use Rattle.sqlite.specs.Held.{state}
-use Rattle.hall_sql.proofs.CauseLemmas.{fails_as}
+use Rattle.hall_store.proofs.Knowing.{fails_as}
 use Rattle.hall_sql.proofs.MakeLemmas.{made_next, made_sound}
 use Rattle.hall_sql.proofs.MakeCauseLemmas.{making_cause}
 use Rattle.hall_sql.proofs.make.make_table.Goals as goal

@@ -2,7 +2,7 @@ use Rattle.std.proofs.Common.{rules, ◌≡◌}
 use Rattle.sqlite.specs.Held.{state}
 use Rattle.hall_sql.specs.WholeRows.{AreSameRows, count_of}
 use Rattle.hall_sql.proofs.MigrationLemmas.{compared, finds_nothing, finds_others, finds_these, six_fail, testers_fail}
-use Rattle.hall_sql.proofs.CauseLemmas.{fails_as}
+use Rattle.hall_store.proofs.Knowing.{fails_as}
 use Rattle.hall_sql.proofs.StoreLemmas.{rested_hall, rests_on}
 use Rattle.hall_sql.proofs.migration.compare.Goals as goal
 

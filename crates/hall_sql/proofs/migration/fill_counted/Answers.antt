@@ -1,6 +1,6 @@
 use Rattle.sqlite.specs.Held.{state}
 use Rattle.hall_sql.proofs.MigrationLemmas.{filled_stops, filled_takes}
-use Rattle.hall_sql.proofs.CauseLemmas.{fails_as}
+use Rattle.hall_store.proofs.Knowing.{fails_as}
 use Rattle.hall_sql.proofs.FillCauseLemmas.{by_first}
 use Rattle.hall_sql.proofs.migration.fill_counted.Goals as goal
 

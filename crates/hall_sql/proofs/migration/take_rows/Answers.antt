@@ -6,7 +6,7 @@ use Rattle.hall_sql.specs.Migrate.{IsFoundBeside}
 use Rattle.hall_sql.specs.Rows.{world_of}
 use Rattle.hall_sql.proofs.MigrationLemmas.{found_bare, had_taken, is_left, leaves_after, leaves_leads, rested_stops}
 use Rattle.hall_sql.proofs.MigrationLemmas.{stops_after, take_fails}
-use Rattle.hall_sql.proofs.CauseLemmas.{fails_as}
+use Rattle.hall_store.proofs.Knowing.{fails_as}
 use Rattle.hall_sql.proofs.migration.take_rows.Goals as goal
 
 pub returns-in-These-clause-takes : goal.returns-in-These-clause-takes

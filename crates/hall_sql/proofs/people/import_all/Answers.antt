@@ -2,7 +2,7 @@ use Rattle.std.proofs.Common.{◌∙◌}
 use Rattle.sqlite.specs.Held.{state}
 use Rattle.hall_sql.proofs.InsideLemmas.{did_both, more_calls}
 use Rattle.hall_sql.proofs.EachLemmas.{HasImported, more_imported}
-use Rattle.hall_sql.proofs.CauseLemmas.{fails_as}
+use Rattle.hall_store.proofs.Knowing.{fails_as}
 use Rattle.hall_sql.proofs.WriteCauseLemmas.{then_cause, next_is}
 use Rattle.hall_sql.proofs.people.import_all.Goals as goal
 

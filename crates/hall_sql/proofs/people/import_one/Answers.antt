@@ -4,7 +4,7 @@ use Rattle.hall_sql.specs.Cause.{IsStoreCause}
 use Rattle.hall_sql.specs.WriteCause.{PersonIsRefused}
 use Rattle.sqlite.specs.Held.{state}
 use Rattle.sqlite.specs.State.{HasCleanDisk}
-use Rattle.hall_sql.proofs.CauseLemmas.{fails_as}
+use Rattle.hall_store.proofs.Knowing.{fails_as}
 use Rattle.std.proofs.lemmas.Result.{IfErr-weaker}
 use Rattle.hall_sql.specs.declared.people.TheConstants.{ADD_PERSON}
 use Rattle.hall_sql.specs.Columns.{person_params}

@@ -6,7 +6,7 @@ use Rattle.hall_sql.proofs.PeopleLemmas.{person_found}
 use Rattle.hall_sql.proofs.InsideLemmas.{shown_did}
 use Rattle.sqlite.specs.declared.types.Value.TheVariants.{Text}
 use Rattle.hall_sql.specs.declared.people.TheConstants.{PERSON}
-use Rattle.hall_sql.proofs.CauseLemmas.{fails_as}
+use Rattle.hall_store.proofs.Knowing.{fails_as}
 use Rattle.hall_sql.proofs.FoundLemmas.{length_read}
 use Rattle.hall_sql.specs.Rows.{person_in}
 use Rattle.hall_sql.proofs.UnreadRows.{person_one}

@@ -8,7 +8,7 @@ use Rattle.hall_sql.specs.Columns.{stands_under}
 use Rattle.hall_sql.proofs.PuzzleWrites.{puzzle_looked}
 use Rattle.sqlite.specs.declared.types.Value.TheVariants.{Text}
 use Rattle.hall_sql.specs.declared.puzzles.TheConstants.{LOOK_PUZZLE}
-use Rattle.hall_sql.proofs.CauseLemmas.{fails_as}
+use Rattle.hall_store.proofs.Knowing.{fails_as}
 use Rattle.hall_sql.proofs.ShowsNothing.{asked_quiet}
 use Rattle.hall_sql.proofs.StoreLemmas.{over_hall, rested_hall}
 use Rattle.hall_sql.proofs.AskedLemmas.{asked_cause}

@@ -3,7 +3,7 @@ use Rattle.std.proofs.lemmas.Result.{IfOk-weaker, IfErr-weaker}
 use Rattle.sqlite.specs.Held.{state}
 use Rattle.sqlite.specs.State.{HasCleanDisk}
 use Rattle.hall_sql.proofs.CallLemmas.{shown_was_open}
-use Rattle.hall_sql.proofs.CauseLemmas.{fails_as}
+use Rattle.hall_store.proofs.Knowing.{fails_as}
 use Rattle.hall_sql.proofs.FoundLemmas.{length_read}
 use Rattle.hall_sql.proofs.reads.find.Goals as goal
 

@@ -1,5 +1,6 @@
 use Rattle.std.proofs.Common.{arith}
-use Rattle.hall_sql.proofs.CauseLemmas.{fails_as, none_is}
+use Rattle.hall_store.proofs.Knowing.{fails_as}
+use Rattle.hall_sql.proofs.CauseLemmas.{none_is}
 use Rattle.hall_sql.proofs.UnreadLemmas.{word_ascii}
 use Rattle.hall_sql.proofs.record.answer_key_at.Goals as goal
 

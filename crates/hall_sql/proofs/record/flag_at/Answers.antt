@@ -1,6 +1,6 @@
 use Rattle.std.proofs.Common.{arith}
 use Rattle.sqlite_value.specs.Order.{column}
-use Rattle.hall_sql.proofs.CauseLemmas.{fails_as}
+use Rattle.hall_store.proofs.Knowing.{fails_as}
 use Rattle.hall_sql.proofs.UnreadLemmas.{unread_flag}
 use Rattle.hall_sql.proofs.record.flag_at.Goals as goal
 

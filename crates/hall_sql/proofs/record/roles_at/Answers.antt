@@ -1,6 +1,7 @@
 use Rattle.std.proofs.Common.{arith}
 use Rattle.sqlite_value.specs.Order.{column}
-use Rattle.hall_sql.proofs.CauseLemmas.{fails_as, fails_on}
+use Rattle.hall_store.proofs.Knowing.{fails_as}
+use Rattle.hall_sql.proofs.CauseLemmas.{fails_on}
 use Rattle.hall_sql.proofs.UnreadLemmas.{none_decided, unread_roles, sum_holds}
 use Rattle.hall_sql.proofs.record.roles_at.Goals as goal
 

@@ -1,6 +1,7 @@
 use Rattle.std.proofs.Common.{◌≢◌, ◌∙◌, rules}
 use Rattle.sqlite_value.specs.Order.{column}
-use Rattle.hall_sql.proofs.CauseLemmas.{fails_as, fails_on, none_told}
+use Rattle.hall_store.proofs.Knowing.{fails_as}
+use Rattle.hall_sql.proofs.CauseLemmas.{fails_on, none_told}
 use Rattle.hall_sql.proofs.UnreadLemmas.{unread_ruling_code, unread_ruling_points, ruling_is, other_ruling}
 use Rattle.hall_sql.proofs.record.ruling_at.Goals as goal
 

@@ -1,6 +1,7 @@
 use Rattle.std.proofs.Common.{◌≢◌, ◌∙◌, rules}
 use Rattle.sqlite_value.specs.Order.{column}
-use Rattle.hall_sql.proofs.CauseLemmas.{fails_as, fails_on, none_told}
+use Rattle.hall_store.proofs.Knowing.{fails_as}
+use Rattle.hall_sql.proofs.CauseLemmas.{fails_on, none_told}
 use Rattle.hall_sql.proofs.UnreadLemmas.{unread_state_code, unread_solution, state_is, other_state, printable_ascii}
 use Rattle.hall_sql.proofs.record.state_at.Goals as goal
 

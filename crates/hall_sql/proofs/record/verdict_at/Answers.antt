@@ -1,5 +1,5 @@
 use Rattle.std.proofs.Common.{arith}
-use Rattle.hall_sql.proofs.CauseLemmas.{fails_as}
+use Rattle.hall_store.proofs.Knowing.{fails_as}
 use Rattle.hall_sql.proofs.record.verdict_at.Goals as goal
 
 pub returns-in_err-number_at-clause-unread : goal.returns-in_err-number_at-clause-unread

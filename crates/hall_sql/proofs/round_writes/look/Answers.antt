@@ -5,7 +5,7 @@ use Rattle.hall_sql.specs.RoundPuts.{CountsHeads}
 use Rattle.hall_sql.proofs.RoundWrites.{head_counted}
 use Rattle.sqlite.specs.declared.types.Value.TheVariants.{Text}
 use Rattle.hall_sql.specs.declared.round_writes.TheConstants.{LOOK_HEAD}
-use Rattle.hall_sql.proofs.CauseLemmas.{fails_as}
+use Rattle.hall_store.proofs.Knowing.{fails_as}
 use Rattle.hall_sql.proofs.Written.{look_head_asked}
 use Rattle.hall_sql.proofs.WriteCauseLemmas.{asked_inside}
 use Rattle.hall_sql.proofs.round_writes.look.Goals as goal

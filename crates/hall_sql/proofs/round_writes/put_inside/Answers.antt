@@ -3,7 +3,7 @@ use Rattle.sqlite.specs.Held.{state}
 use Rattle.hall_store.specs.declared.change.Change.TheVariants.{PutRound}
 use Rattle.hall_sql.specs.Inside.{Changes}
 use Rattle.hall_sql.specs.RoundPuts.{PutsHead, PutsList, PutsTesterList, PutsRows}
-use Rattle.hall_sql.proofs.CauseLemmas.{fails_as}
+use Rattle.hall_store.proofs.Knowing.{fails_as}
 use Rattle.hall_sql.proofs.InsideLemmas.{three_did}
 use Rattle.hall_sql.proofs.LastLemmas.{last_then}
 use Rattle.hall_sql.proofs.RoundPutLemmas.{round_put, rows_put}

@@ -6,7 +6,7 @@ use Rattle.hall_store.specs.declared.fault.StoreFault.{StoreFault}
 use Rattle.hall_sql.specs.RoundPuts.{PutsRows}
 use Rattle.hall_sql.specs.Content.{MakesInTables}
 use Rattle.hall_sql.specs.WriteCause.{PutRoundFails}
-use Rattle.hall_sql.proofs.CauseLemmas.{fails_as}
+use Rattle.hall_store.proofs.Knowing.{fails_as}
 use Rattle.hall_sql.proofs.WriteCauseLemmas.{whole_cause}
 use Rattle.hall_sql.proofs.LastLemmas.{survived}
 use Rattle.hall_sql.proofs.TransactionLemmas.{committed_did, committed_wrote, refused_wrote}

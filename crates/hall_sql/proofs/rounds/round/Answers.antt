@@ -11,7 +11,7 @@ use Rattle.hall_store.specs.Store.{Fails, HasNoRound}
 use Rattle.hall_sql.specs.Cause.{RoundFails}
 use Rattle.hall_sql.specs.declared.rounds.TheConstants.{HEAD, PLACES_OF}
 use Rattle.hall_sql.specs.declared.testers.TheConstants.{TESTERS_OF}
-use Rattle.hall_sql.proofs.CauseLemmas.{fails_as}
+use Rattle.hall_store.proofs.Knowing.{fails_as}
 use Rattle.hall_sql.proofs.FailLemmas.{round_fault}
 use Rattle.hall_sql.proofs.ReadCauseLemmas.{after_shown}
 use Rattle.hall_sql.proofs.ReadLemmas.{refused}

@@ -3,7 +3,7 @@ use Rattle.std.proofs.lemmas.Result.{IfOk-weaker, IfErr-weaker}
 use Rattle.hall_policy.specs.Lists.{AreEntries}
 use Rattle.hall_store.specs.Store.{IsRoundKept}
 use Rattle.hall_sql.specs.Cause.{AreNoRound}
-use Rattle.hall_sql.proofs.CauseLemmas.{fails_as}
+use Rattle.hall_store.proofs.Knowing.{fails_as}
 use Rattle.hall_sql.proofs.RoundRows.{round_assembled, round_absent}
 use Rattle.hall_sql.proofs.rounds.row_of.Goals as goal
 

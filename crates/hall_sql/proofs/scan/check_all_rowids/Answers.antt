@@ -1,7 +1,7 @@
 use Rattle.std.proofs.Common.{arith}
 use Rattle.sqlite.specs.Held.{state}
 use Rattle.sqlite.specs.State.{HasCleanDisk}
-use Rattle.hall_sql.proofs.CauseLemmas.{fails_as}
+use Rattle.hall_store.proofs.Knowing.{fails_as}
 use Rattle.hall_sql.proofs.LastLemmas.{last_then, quiet_then}
 use Rattle.hall_sql.specs.declared.tables.HallTable.TheVariants.{People}
 use Rattle.hall_sql.proofs.ScanLemmas.{scanned_next}

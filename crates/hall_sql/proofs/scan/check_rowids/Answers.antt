@@ -11,7 +11,7 @@ use Rattle.hall_sql.proofs.LastLemmas.{last_none, survived, last_then, quiet_que
 use Rattle.hall_sql.proofs.CallLemmas.{query_refused}
 use Rattle.hall_sql.proofs.ScanLemmas.{rowids_quiet, scan_begun, scanned_end, scanned_more, ints_chain}
 use Rattle.hall_sql.specs.AdoptCause.{ScanFails}
-use Rattle.hall_sql.proofs.CauseLemmas.{fails_as}
+use Rattle.hall_store.proofs.Knowing.{fails_as}
 use Rattle.hall_sql.proofs.ScanCauseLemmas.{asks_cause, next_cause}
 use Rattle.hall_sql.proofs.scan.check_rowids.Goals as goal
 

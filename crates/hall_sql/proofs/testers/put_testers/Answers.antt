@@ -3,7 +3,7 @@ use Rattle.sqlite.specs.Held.{state}
 use Rattle.hall_sql.specs.RoundPuts.{PutsTesters}
 use Rattle.hall_sql.proofs.InsideLemmas.{more_calls}
 use Rattle.hall_sql.proofs.TesterWrites.{more_did}
-use Rattle.hall_sql.proofs.CauseLemmas.{fails_as}
+use Rattle.hall_store.proofs.Knowing.{fails_as}
 use Rattle.hall_sql.proofs.WriteCauseLemmas.{then_cause, next_is}
 use Rattle.hall_sql.proofs.testers.put_testers.Goals as goal
 

@@ -6,3 +6,6 @@ invariant_of-self g c = (c.read_rows.ensures.rested old_schema c.self.invariant)
 
 pub returns-clause-rested : goal.returns-clause-rested
 returns-clause-rested g c = rw (← c.self.view_is) (c.read_rows.ensures.rested old_schema c.self.invariant)
+
+pub returns-clause-cause : goal.returns-clause-cause
+returns-clause-cause g c = rw (← c.self.view_is) c.read_rows.ensures.cause

@@ -1,5 +1,6 @@
 use Rattle.hall_sql.specs.Rows.{person_in}
-use Rattle.hall_sql.proofs.CauseLemmas.{fails_as, none_of, none_is}
+use Rattle.hall_store.proofs.Knowing.{fails_as}
+use Rattle.hall_sql.proofs.CauseLemmas.{none_of, none_is}
 use Rattle.hall_sql.proofs.UnreadLemmas.{key_ascii, word_ascii}
 use Rattle.hall_sql.proofs.RecordParts.{person_parts}
 use Rattle.hall_sql.proofs.record.PersonRecord.from_row.Goals as goal

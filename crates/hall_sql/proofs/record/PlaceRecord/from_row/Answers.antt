@@ -1,6 +1,7 @@
 use Rattle.std.proofs.Common.{arith}
 use Rattle.hall_sql.specs.Rows.{place_in}
-use Rattle.hall_sql.proofs.CauseLemmas.{fails_as, none_of, none_is}
+use Rattle.hall_store.proofs.Knowing.{fails_as}
+use Rattle.hall_sql.proofs.CauseLemmas.{none_of, none_is}
 use Rattle.hall_sql.proofs.UnreadLemmas.{word_ascii}
 use Rattle.hall_sql.proofs.RecordParts.{place_parts}
 use Rattle.hall_sql.proofs.record.PlaceRecord.from_row.Goals as goal

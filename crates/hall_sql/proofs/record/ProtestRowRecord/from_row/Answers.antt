@@ -1,6 +1,7 @@
 use Rattle.std.proofs.Common.{arith}
 use Rattle.hall_sql.specs.Rows.{protest_in}
-use Rattle.hall_sql.proofs.CauseLemmas.{fails_as, none_of, none_is}
+use Rattle.hall_store.proofs.Knowing.{fails_as}
+use Rattle.hall_sql.proofs.CauseLemmas.{none_of, none_is}
 use Rattle.hall_sql.proofs.UnreadLemmas.{printable_ascii, word_ascii}
 use Rattle.hall_sql.proofs.RecordParts.{protest_parts}
 use Rattle.hall_sql.proofs.record.ProtestRowRecord.from_row.Goals as goal

@@ -1,5 +1,6 @@
 use Rattle.hall_sql.specs.Rows.{puzzle_row_in}
-use Rattle.hall_sql.proofs.CauseLemmas.{fails_as, none_of, none_is}
+use Rattle.hall_store.proofs.Knowing.{fails_as}
+use Rattle.hall_sql.proofs.CauseLemmas.{none_of, none_is}
 use Rattle.hall_sql.proofs.UnreadLemmas.{word_ascii}
 use Rattle.hall_sql.proofs.RecordParts.{puzzle_parts}
 use Rattle.hall_sql.proofs.record.PuzzleRowRecord.from_row.Goals as goal

@@ -1,5 +1,6 @@
 use Rattle.hall_sql.specs.Rows.{tester_in}
-use Rattle.hall_sql.proofs.CauseLemmas.{fails_as, none_of, none_is}
+use Rattle.hall_store.proofs.Knowing.{fails_as}
+use Rattle.hall_sql.proofs.CauseLemmas.{none_of, none_is}
 use Rattle.hall_sql.proofs.UnreadLemmas.{word_ascii}
 use Rattle.hall_sql.proofs.RecordParts.{tester_parts}
 use Rattle.hall_sql.proofs.record.TesterRecord.from_row.Goals as goal
