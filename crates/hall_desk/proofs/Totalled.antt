@@ -400,12 +400,6 @@ module _ (world : World) (id : List ℕ) (row : RoundRow) (answers : List Answer
 pub same_rows : (a b : RoundRow) → (a.round ≡ b.round) × ((a.puzzles ≡ b.puzzles) × (a.testers ≡ b.testers)) → a ≡ b
 same_rows a b (round, (puzzles, testers)) = λ i. record { round = round i; puzzles = puzzles i; testers = testers i }
 
--- a call fails as what it called did
-pub fails_as : {R : Type 0} (result : Result R StoreFault) (Why : Type 0) (fault : StoreFault)
-    → IsErrAnd result (λ e. e ≡ fault) → (fault ≡ Failed → Why) → IfErr result (λ e. e ≡ Failed → Why)
-fails_as (Ok x) Why fault is why = tt
-fails_as (Err e) Why fault is why = λ failed. why (sym is ∙ failed)
-
 module _ (cause : Type 0) (id : List ℕ) (round : RoundRow) (fresh : Tally) (held : IsTallyOf round [] [] fresh) where
   -- feeding protests fails for such a cause alone, or in a world that isn't sane
   pub protests_fail : (old new : Content) (after : Tally) → Kept old new → cause

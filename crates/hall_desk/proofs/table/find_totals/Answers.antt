@@ -4,7 +4,8 @@ use Rattle.hall_score.specs.Tally.{IsTallyOf, TakesProtest, TakesAnswer}
 use Rattle.hall_store.specs.Store.{CanFailIn, IsListing, is_between, protests_in}
 use Rattle.hall_store.proofs.Feeds.{fed_now}
 use Rattle.hall_desk.proofs.Failing.{later_cause, plan_cause}
-use Rattle.hall_desk.proofs.Totalled.{same_rows, fails_as, protests_fail, answers_fail, totals_served}
+use Rattle.hall_store.proofs.Knowing.{fails_as}
+use Rattle.hall_desk.proofs.Totalled.{same_rows, protests_fail, answers_fail, totals_served}
 use Rattle.hall_desk.proofs.table.find_totals.Goals as goal
 
 pub returns-in_err-feed_protests-clause-fault : goal.returns-in_err-feed_protests-clause-fault
