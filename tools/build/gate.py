@@ -28,6 +28,11 @@ ROOT = os.path.realpath(f"{__file__}/../../..")
 EVERY = 0.5
 # What one check takes at the most, in bytes (the last column of the table), with room to spare.
 MOST_OF_ONE = 5_000_000_000
+# The budget in processor minutes, and what the proofs of crates that seldom change took of the machine by which it is
+# set (docs/PROVING.md). Another machine, or the same beside busy neighbours, takes up to two and a half times as long.
+BUDGET = 220
+REFERENCE = {"hall_grid": 2.0, "hall_nurikabe": 3.6, "hall_policy": 2.1, "hall_score": 1.3, "hall_sheet": 2.2,
+             "hall_slither": 3.3, "hall_solve": 1.7}
 TICK, PAGE = os.sysconf("SC_CLK_TCK"), os.sysconf("SC_PAGE_SIZE")
 TASKS = ("proof", "tests", "edits")
 COUNTS = re.compile(r"^(\d+) passed, (\d+) failed$")
@@ -80,6 +85,11 @@ class Times:
         for name, row in rows:
             numbers = *row.values(), sum(row.values()), self.most[name] / 1e9
             yield f"{name:24}" + "".join(f"{it:8.1f}" for it in numbers)
+        here = [minutes[name]["proof"] for name in REFERENCE]
+        if all(here):
+            slowness = sum(here) / sum(REFERENCE.values())
+            yield (f"proofs take {slowness:.2f} times as long here as where the budget was set: all took "
+                   f"{sum(sums.values()) / slowness:.1f} minutes of that machine, of {BUDGET}")
 
 
 def lanes():

@@ -1,7 +1,9 @@
 """What ./check runs, in which order, and what it counts and says, with stand-ins for all that it runs."""
+import importlib
 import os
 import shutil
 import subprocess
+import sys
 
 import pytest
 from harness.checks import check, must_be
@@ -71,6 +73,12 @@ def test_the_whole_gate(run):
         check("whether something was left out", [it for it in lines if it in LEFT_OUT.values()], [])
 
 
+def test_the_gates_table_is_told_again_at_the_end(run):
+    table = ["processor minutes   proof", "all   1.0", "1.0 minutes on 4 processors"]
+    lines, _, _ = run("--prove", gate=("\n".join([*table, "5 passed, 0 failed"]), 0))
+    check("the last lines", lines[-4:], [*table, "15 passed, 0 failed, 2 skipped"])
+
+
 @pytest.mark.parametrize("other, counts", [
     ({"ready": ("1 found", 1)}, "9 passed, 1 failed, 2 skipped"),
     ({"run": ("6 passed, 1 failed", 1)}, "9 passed, 1 failed"),
@@ -86,6 +94,19 @@ def test_what_fails(run, other, counts):
 def test_without_pytest_the_tests_are_skipped(run):
     lines, status, _ = run(run=("0 passed, 0 failed, 30 skipped", 77))
     must_be("the last line and the status", (lines[-1], status), ("3 passed, 0 failed, 30 skipped", 0))
+
+
+def test_the_table_is_told_in_minutes_of_the_machine_of_the_budget(monkeypatch):
+    monkeypatch.setattr(sys, "path", [f"{ROOT}/tools/build", *sys.path])
+    gate = importlib.import_module("gate")
+    times = gate.Times("/nowhere")
+    times.used = {name: (name, "proof", 120 * minutes) for name, minutes in gate.REFERENCE.items()}
+    times.used["edits"] = "hall_http", "edits", 6000
+    taken = sum(gate.REFERENCE.values()) + 50
+    check("the last line", list(times.table())[-1], "proofs take 2.00 times as long here as where the budget was set: "
+          f"all took {taken:.1f} minutes of that machine, of 220")
+    del times.used["hall_grid"]
+    check("where some were kept", [it for it in times.table() if it.startswith("proofs take")], [])
 
 
 def test_words(run):
