@@ -39,14 +39,3 @@ pub mod Certifying
 pub mod Memo
 pub mod Wanted
 pub mod Searches
-pub mod Halves
-pub mod Whole
-pub mod Sentences
-pub mod Spots
-pub mod Finds
-pub mod Tally
-pub mod Groups
-pub mod Asking
-pub mod Checks
-pub mod States
-pub mod Checked

@@ -116,7 +116,7 @@ fn searched(key: PuzzleKey, found: FoundState) -> Plan
 }
 
 /// Whether the puzzle was never searched, or the search came to no end.
-pub(crate) fn is_open(state: &PuzzleState) -> bool
+pub fn is_open(state: &PuzzleState) -> bool
     ensures { result ≡ is_open state.now }
 {
     match state {
@@ -130,9 +130,9 @@ pub(crate) fn is_open(state: &PuzzleState) -> bool
 
 /// What a search found, as a state, and the visits that it made.
 #[derive(Drop)]
-pub(crate) struct FoundState {
-    pub(crate) state: PuzzleState,
-    pub(crate) visits: Visits,
+pub struct FoundState {
+    pub state: PuzzleState,
+    pub visits: Visits,
 }
 
 /// What was found of the puzzle before, or else what a search of it finds now.
@@ -154,11 +154,7 @@ fn found_or_searched(
 }
 
 /// What the search of the puzzle finds in at most `budget` visits.
-pub(crate) fn find_state(
-    alloc: Global,
-    puzzle: &Puzzle,
-    budget: u64,
-) -> Result<FoundState, AllocError>
+pub fn find_state(alloc: Global, puzzle: &Puzzle, budget: u64) -> Result<FoundState, AllocError>
     ensures state { IfOk result (λ found. IsFound puzzle.now budget found.state) }
     ensures spent { IfOk result (λ found. HasSpent budget (Reply.Certify (state_name found.state)) found.visits) }
 {

@@ -2,22 +2,11 @@
 #![tactic(auto)]
 
 mod answers;
-mod ask_answers;
-mod ask_people;
-mod ask_places;
-mod ask_protests;
-mod ask_puzzles;
-mod ask_rounds;
-mod ask_rows;
-mod ask_testers;
 mod census;
 mod certify_puzzle;
 mod copies;
-mod counting_keys;
-mod counts;
 mod desk;
 mod find_round;
-mod halves;
 mod handler;
 mod import;
 pub mod laws;
@@ -36,9 +25,6 @@ mod publish;
 mod put_puzzle;
 mod put_round;
 mod puzzle_search;
-mod puzzle_states;
-mod ranges;
-mod ranked_answers;
 mod read_puzzle;
 mod read_round;
 mod release;
@@ -46,15 +32,11 @@ mod release_faults;
 mod released_rounds;
 mod reply;
 mod round_copy;
-mod row_counts;
 mod rows;
 mod rule_protest;
-mod sanity;
 mod search;
 mod search_outcome;
 mod seed;
-mod sentence;
-mod sentences;
 mod serving;
 mod slices;
 mod solutions;
@@ -68,21 +50,19 @@ mod together;
 mod under_way;
 mod verdict;
 mod wanted_search;
-mod whole;
 
 pub use census::Census;
+pub use certify_puzzle::{FoundState, find_state, is_open};
 pub use desk::Desk;
 pub use plan::Plan;
 pub use preparing::Prepared;
-pub use puzzle_states::States;
+pub use release_faults::is_one;
 pub use reply::{
     AnswerLine, AnswersText, ProtestLine, PuzzleLine, Reply, RoundLine, ShownPuzzle, ShownRound,
     StateName, TableText,
 };
 pub use rows::Rows;
-pub use sanity::{Checked, check};
 pub use search::certify;
-pub use sentence::{Breaches, Sentence, Spot};
 pub use telling::Telling;
 pub use together::take;
 pub use verdict::judge;

@@ -124,7 +124,7 @@ fn is_uncertified<S: ReadStore>(
 }
 
 /// Whether the state is that of a puzzle with exactly one solution.
-pub(crate) fn is_one(state: &PuzzleState) -> bool
+pub fn is_one(state: &PuzzleState) -> bool
     ensures { IsTrue result ↔ ((text : List ℕ) × (state.now ≡ PuzzleState.One text)) }
 {
     match state {

@@ -6,11 +6,11 @@ use Rattle.std.specs.List.{list_any}
 use Rattle.std.proofs.lemmas.Grind.{flat_map-append}
 use Rattle.std.proofs.lemmas.List.{append_assoc, append-nil, take_more}
 use Rattle.std.proofs.lemmas.List.Folds.{list_any_at}
-use Rattle.hall_desk.specs.Checked.{AreStatesTrue, IsNothingFound}
-use Rattle.hall_desk.specs.Finds.{EveryRow}
-use Rattle.hall_desk.specs.declared.sanity.Checked.{Checked}
-use Rattle.hall_desk.specs.declared.sentence.Breaches.{Breaches}
-use Rattle.hall_desk.specs.declared.puzzle_states.States.{States}
+use Rattle.hall_check.specs.Checked.{AreStatesTrue, IsNothingFound}
+use Rattle.hall_check.specs.Finds.{EveryRow}
+use Rattle.hall_check.specs.declared.sanity.Checked.{Checked}
+use Rattle.hall_check.specs.declared.sentence.Breaches.{Breaches}
+use Rattle.hall_check.specs.declared.puzzle_states.States.{States}
 use Rattle.hall_tool.specs.WorldText.{is_broken, is_decided, is_found, is_none, is_state_broken, sane_line}
 
 module _ {X : Type 0} (f : X → List ℕ) (xs : List X) (i : ℕ) (d : X) (few : i < length xs) where

@@ -34,8 +34,8 @@ use Rattle.hall_sql.proofs.StoreLemmas.{rested_kept}
 use Rattle.hall_sql.proofs.UnreadMarks.{still_read}
 use Rattle.hall_sql.proofs.Wordings.{like_itself}
 use Rattle.hall_sql.proofs.WriteCauseLemmas.{cause_over}
-use Rattle.hall_desk.specs.Checked.{IsChecked}
-use Rattle.hall_desk.specs.declared.sanity.Checked.{Checked}
+use Rattle.hall_check.specs.Checked.{IsChecked}
+use Rattle.hall_check.specs.declared.sanity.Checked.{Checked}
 use Rattle.hall_tool.specs.CheckRun.{CopyFails, CopyText, IsFoundWritten, OldFails, OldFound, PresentText}
 use Rattle.hall_tool.specs.Shown.{IsShownBy}
 use Rattle.hall_tool.specs.WorldText.{WorldText}

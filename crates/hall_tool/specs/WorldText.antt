@@ -4,14 +4,14 @@ use Rattle.std.specs.Prelude.{Option, Some, None, codes, decimal, if◌then◌el
 use Rattle.std.specs.List.{flat_map, list_any}
 use Rattle.hall_policy.specs.World.{World}
 use Rattle.hall_policy.specs.declared.record.PuzzleKey.{PuzzleKey}
-use Rattle.hall_desk.specs.Checked.{IsChecked}
-use Rattle.hall_desk.specs.declared.sanity.Checked.{Checked}
-use Rattle.hall_desk.specs.declared.sentence.Breaches.{Breaches}
-use Rattle.hall_desk.specs.declared.sentence.Sentence.{Sentence}
-use Rattle.hall_desk.specs.declared.sentence.Sentence.TheVariants as sentence
-use Rattle.hall_desk.specs.declared.sentence.Spot.{Spot}
-use Rattle.hall_desk.specs.declared.sentence.Spot.TheVariants as spot
-use Rattle.hall_desk.specs.declared.puzzle_states.States.{States}
+use Rattle.hall_check.specs.Checked.{IsChecked}
+use Rattle.hall_check.specs.declared.sanity.Checked.{Checked}
+use Rattle.hall_check.specs.declared.sentence.Breaches.{Breaches}
+use Rattle.hall_check.specs.declared.sentence.Sentence.{Sentence}
+use Rattle.hall_check.specs.declared.sentence.Sentence.TheVariants as sentence
+use Rattle.hall_check.specs.declared.sentence.Spot.{Spot}
+use Rattle.hall_check.specs.declared.sentence.Spot.TheVariants as spot
+use Rattle.hall_check.specs.declared.puzzle_states.States.{States}
 use Rattle.hall_tool.specs.JudgeText.{on_own_line}
 
 -- what is wrong where the sentence is false, in the words of the field

@@ -19,7 +19,7 @@ use crate::fault::{CommandFault, ToolFault, told};
 use crate::show::show;
 use crate::task::command_end;
 use crate::world_text::{BROKEN, world_text};
-use hall_desk::check;
+use hall_check::check;
 use hall_grid::Counted;
 use hall_sql::{
     FoundHall, Migrated, OldStore, PathFiles, SqlStore, give_back, is_whole, migrate,

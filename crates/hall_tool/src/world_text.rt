@@ -8,7 +8,7 @@ ghost use Rattle.hall_tool.specs.WorldText.{states_text, undecided_line, undecid
 
 use crate::bad_text::MOST_TOLD;
 use crate::ending::Ending;
-use hall_desk::{Breaches, Checked, Sentence, Spot, States};
+use hall_check::{Breaches, Checked, Sentence, Spot, States};
 use hall_policy::PuzzleKey;
 use std::alloc::{AllocError, Global};
 

@@ -1,0 +1,16 @@
+pub mod Scans
+pub mod Halving
+pub mod Dividing
+pub mod Asking
+pub mod Counting
+pub mod Ranked
+pub mod Judging
+pub mod Standing
+pub mod RoundLists
+pub mod Tellings
+pub mod StateTelling
+pub mod EachRow
+pub mod OwnRows
+pub mod WholeLists
+pub mod SaneTold
+pub mod WholeWorlds

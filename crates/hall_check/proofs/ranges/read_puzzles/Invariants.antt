@@ -1,0 +1,8 @@
+use Rattle.std.proofs.Common.{◌≡◌, ℕ, ◌<◌, slice_get, Some}
+use Rattle.hall_policy.specs.Ranges.{IsPuzzleRow}
+use Rattle.hall_policy.specs.declared.record.PuzzleRow.{PuzzleRow}
+use Rattle.hall_check.proofs.ranges.read_puzzles.Given as goal
+
+-- so far each lies in its range
+abbrev pub invariant-loop-row : goal.invariant-loop-row
+invariant-loop-row l = (i : ℕ) (row : PuzzleRow) → i < l.row-index → slice_get l.rows i ≡ Some row → IsPuzzleRow row

@@ -1,0 +1,16 @@
+use Rattle.std.proofs.Common.{rules, tests}
+use Rattle.std.specs.Ordering.{is_lt}
+use Rattle.std.proofs.lemmas.Fn.{always_returns_same}
+use Rattle.hall_policy.specs.World.{place_cmp}
+use Rattle.hall_policy.specs.declared.record.Entry.{Entry}
+use Rattle.hall_policy.specs.declared.record.PlaceKey.{PlaceKey}
+use Rattle.hall_policy.proofs.Orders.{place_total}
+use Rattle.hall_check.proofs.Dividing.{in_order, told_in_order}
+use Rattle.hall_check.proofs.whole.are_places_in_order.Goals as goal
+
+pub returns : goal.returns
+returns c = λ told.
+    in_order place_total (λ (row : PlaceKey × Entry). row.0) c.args.places.now
+    (told_in_order _ _ c.is_sorted_by.result told
+    (c.is_sorted_by.ensures.cases (λ (a b : PlaceKey × Entry). is_lt (place_cmp a.0 b.0))
+    (always_returns_same _ _ _ (λ a r f' k. search (rules, tests)))))
