@@ -71,7 +71,7 @@ PLACES = {
         "match rows.next() { Some(Ok(row)) => Ok(Some(row)), Some(Err(_)) => Err(SheetFault::Memory),",
     ],
     # The kit's fault of a file becomes one of its databases.
-    "hall_sql/src/copied_files.rt": [
+    "hall_sql/src/copied_database.rt": [
         "ErrorKind::OutOfMemory => ErrorCode::OutOfMemory,",
     ],
     "hall_http/src/request.rt": [

@@ -6,7 +6,7 @@ use Rattle.hall_solve.specs.declared.searched.Visits.{Visits}
 use Rattle.hall_desk.specs.Step.{IsFound}
 use Rattle.hall_desk.specs.Plans.{HasSpent}
 use Rattle.hall_desk.specs.Shown.{state_name}
-use Rattle.hall_desk.specs.declared.certify_puzzle.FoundState.{FoundState}
+use Rattle.hall_desk.specs.declared.found_state.FoundState.{FoundState}
 use Rattle.hall_desk.specs.declared.reply.Reply.TheVariants as reply
 
 -- a puzzle, a budget, a state, and the visits of the search that found it

@@ -4,8 +4,12 @@ ghost use Rattle.std.specs.Prelude.{◌≡◌, None, false};
 use crate::listing::Listings;
 use crate::round_copy::RoundCopy;
 use crate::rows::Rows;
+use crate::slices::Slices;
 use crate::table_copy::TableCopy;
-use crate::tabling::Tabling;
+use hall_score::Tally;
+
+/// The tally of a round's table, which has taken the round's protests, and its answers by entrants up to the name.
+pub(crate) type Tabling = Slices<Tally>;
 
 /// Of the tables that were made last, and of the round that was read last, until what they tell of is changed; the
 /// tally of a table that is being made, until its round is changed; and the listings of answers.

@@ -12,7 +12,7 @@ ghost use Rattle.hall_desk.specs.Promises.{HasUniqueSolutions, RightAnswersAreSo
 ghost use Rattle.hall_desk.specs.Plan.{planned_reply, planned_change};
 ghost use Rattle.hall_desk.specs.Plans.{Planned, IsStepOver, Seeds, Runs, FailsIn, IsNobodys, AreNobodys, IsAvailable};
 ghost use Rattle.hall_desk.specs.Wanted.{MayWait};
-ghost use Rattle.hall_desk.specs.declared.preparing.Prepared.TheVariants as Prepared;
+ghost use Rattle.hall_desk.specs.declared.prepared.Prepared.TheVariants as Prepared;
 ghost use Rattle.hall_desk.specs.Plans.{IsQuietPlan, IsSeedReply, AreStepped, NobodysAreAnswered, WritesIfAny};
 ghost use Rattle.hall_desk.specs.Plans.{StopsWithin, StopsInSeed, LeavesRun, SeedCanFail};
 ghost use Rattle.hall_desk.specs.Together.{IsPlanBeside};
@@ -22,7 +22,8 @@ use crate::copies::Copies;
 use crate::memos::{self, Memos};
 use crate::plan::Plan;
 use crate::planning::make_plan;
-use crate::preparing::{Prepared, prepare};
+use crate::prepared::Prepared;
+use crate::preparing::prepare;
 use crate::reply::Reply;
 use crate::seed::seed;
 use crate::serving::still_serves;

@@ -7,6 +7,7 @@ mod certify_puzzle;
 mod copies;
 mod desk;
 mod find_round;
+mod found_state;
 mod handler;
 mod import;
 pub mod laws;
@@ -18,6 +19,7 @@ mod memo;
 mod memos;
 mod plan;
 mod planning;
+mod prepared;
 mod preparing;
 mod protest;
 mod protests;
@@ -31,6 +33,7 @@ mod release;
 mod release_faults;
 mod released_rounds;
 mod reply;
+mod request_at;
 mod round_copy;
 mod rows;
 mod rule_protest;
@@ -52,10 +55,10 @@ mod verdict;
 mod wanted_search;
 
 pub use census::Census;
-pub use certify_puzzle::{FoundState, find_state, is_open};
 pub use desk::Desk;
+pub use found_state::{FoundState, find_state, is_open};
 pub use plan::Plan;
-pub use preparing::Prepared;
+pub use prepared::Prepared;
 pub use release_faults::is_one;
 pub use reply::{
     AnswerLine, AnswersText, ProtestLine, PuzzleLine, Reply, RoundLine, ShownPuzzle, ShownRound,

@@ -12,13 +12,13 @@ ghost use Rattle.hall_desk.specs.Plans.{IsNobodys};
 ghost use Rattle.hall_desk.specs.Slices.{AreAllTaken, AreUnderWay, kept_where};
 ghost use Rattle.hall_desk.specs.Wanted.{AsksListing};
 ghost use Rattle.hall_desk.specs.declared.listing.Listed.{Listed};
-ghost use Rattle.hall_desk.specs.declared.preparing.Prepared.TheVariants as Prepared;
+ghost use Rattle.hall_desk.specs.declared.prepared.Prepared.TheVariants as Prepared;
 
 use crate::find_round::find_round;
 use crate::lines::{Lines, ROOM};
-use crate::planning::no_facts;
-use crate::preparing::Prepared;
+use crate::prepared::Prepared;
 use crate::reply::AnswersText;
+use crate::request_at::no_facts;
 use crate::slices::{Sliced, Slices};
 use crate::table_copy::leaves_listing;
 use hall_policy::{Decision, Facts, Key, Moment, Person, Request, RoundId, decide};

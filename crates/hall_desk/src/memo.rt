@@ -2,7 +2,7 @@
 ghost use Rattle.std.specs.Prelude.{◌≡◌, ◌↔◌, IfOk, IsTrue};
 ghost use Rattle.hall_desk.specs.Memo.{HasFound, Remembers};
 
-use crate::certify_puzzle::{FoundState, state_of};
+use crate::found_state::{FoundState, state_of};
 use crate::search_outcome::Finding;
 use hall_grid::Puzzle;
 use hall_policy::PuzzleState;

@@ -1,10 +1,9 @@
 //! From a request to its plan: the caller, what the rules read, the decision, and what an allowed action answers and
 //! changes.
-ghost use Rattle.std.specs.Prelude.{◌≡◌, ◌≢◌, ℕ, List, IfSome, IfNone, None};
+ghost use Rattle.std.specs.Prelude.{◌≡◌, ◌≢◌, ℕ, List, None};
 ghost use Rattle.hall_policy.specs.World.{World};
-ghost use Rattle.hall_policy.specs.Decided.{IsDecidedUpTo, PassesUpTo};
+ghost use Rattle.hall_policy.specs.Decided.{PassesUpTo};
 ghost use Rattle.hall_policy.specs.declared.request.Action.TheVariants.{Answers, ReadRound, Table};
-ghost use Rattle.hall_policy.specs.declared.rule.Decision.TheVariants.{Deny};
 ghost use Rattle.hall_store.specs.Store.{Asks, Kept, Told};
 ghost use Rattle.hall_store.specs.declared.change.Change.{Change};
 ghost use Rattle.hall_desk.specs.Copies.{AreCopied};
@@ -30,24 +29,16 @@ use crate::read_puzzle::ReadPuzzle;
 use crate::read_round::plan_round;
 use crate::release::Release;
 use crate::reply::Reply;
+use crate::request_at::{RequestAt, caller_rule, no_facts};
 use crate::rows::Rows;
 use crate::rule_protest::RuleProtest;
 use crate::solutions::Solutions;
 use crate::submit::Submit;
 use crate::table::plan_table;
 use crate::table_copy::TableCopy;
-use hall_policy::{Action, Decision, Facts, Moment, Request, RoundId, Rule, decide_up_to};
+use hall_policy::{Action, Decision, Facts, Moment, Request, RoundId};
 use hall_store::{ReadStore, StoreFault};
 use std::alloc::Global;
-
-/// A request that is being answered: at which moment, by which allocator, and with what a search found before.
-#[derive(Clone, Copy)]
-pub(crate) struct RequestAt<'a> {
-    pub(crate) alloc: Global,
-    pub(crate) t: Moment,
-    pub(crate) request: &'a Request,
-    pub(crate) memo: &'a Option<Memo>,
-}
 
 /// What the request will be answered, and what it will change. Reads only, and for a denial nothing that a later rule
 /// asks. A table, a round that is read, or a listing of all answers is the one that is kept, where the round has one;
@@ -83,27 +74,6 @@ pub(crate) fn make_plan<S: ReadStore>(
     };
     drop(facts);
     plan
-}
-
-/// Facts that tell of nothing.
-pub(crate) fn no_facts() -> Facts
-    ensures { result.caller ≡ None }
-{
-    Facts {
-        caller: None,
-        author_is_there: false,
-        puzzle: None,
-        sheet_lacks: false,
-        round: None,
-        answer: None,
-        protest: None,
-        in_released: false,
-        uncertified: false,
-        open_protest: false,
-        involved: false,
-        count: 0,
-        conflict: false,
-    }
 }
 
 /// The plan for a table, which anyone may ask for, with a key or without.
@@ -166,18 +136,6 @@ fn deny_without_key(asked: &RequestAt, facts: &Facts) -> Plan
     match caller_rule(facts, &asked.request.action, asked.t) {
         Some(rule) => Plan::of(Reply::Denied(rule)),
         None => unreachable!(),
-    }
-}
-
-/// The number of the rule on the caller that forbids the action, if one does.
-pub(crate) fn caller_rule(facts: &Facts, action: &Action, t: Moment) -> Option<u8>
-    ensures some { IfSome result (λ rule. IsDecidedUpTo 3 facts.now action.now t (Deny rule)) }
-    ensures none { IfNone result (PassesUpTo 3 facts.now action.now t) }
-{
-    match decide_up_to(facts, action, t, Rule::OtherAuthor) {
-        Some(Decision::Deny(rule)) => Some(rule),
-        Some(Decision::Repeat) | Some(Decision::Allow) => unreachable!(),
-        None => None,
     }
 }
 

@@ -7,30 +7,19 @@ ghost use Rattle.hall_desk.specs.Plans.{IsNobodys};
 ghost use Rattle.hall_desk.specs.Searches.{WaitsAmong};
 ghost use Rattle.hall_desk.specs.Tabling.{WaitsForTable};
 ghost use Rattle.hall_desk.specs.Wanted.{IsPrepared, IsSearchFor};
-ghost use Rattle.hall_desk.specs.declared.preparing.Prepared.TheVariants as Prepared;
+ghost use Rattle.hall_desk.specs.declared.prepared.Prepared.TheVariants as Prepared;
 ghost use Rattle.hall_desk.specs.declared.wanted_search.Wanted.{Wanted};
 
 use crate::copies::Copies;
 use crate::listing::prepare_listing;
 use crate::memo::Memo;
+use crate::prepared::Prepared;
 use crate::tabling::prepare_table;
 use crate::under_way::{Searches, search_on};
 use crate::wanted_search::search_for;
 use hall_policy::{Action, Request};
 use hall_store::{ReadStore, StoreFault};
 use std::alloc::Global;
-
-/// What came of working on what a request needs.
-#[derive(Clone, Copy, Debug, PartialEq, Eq)]
-pub enum Prepared {
-    /// Nothing is left to do for it.
-    Ready,
-    /// Its search is under way, or waits for its place; or a table, or a listing of answers, is being made, its own or
-    /// one before it.
-    Waits,
-    /// Memory or the store failed.
-    Refused,
-}
 
 /// Works for a while on what a plan of the request needs. Reads only.
 pub(crate) fn prepare<S: ReadStore>(

@@ -13,9 +13,9 @@ ghost use Rattle.hall_desk.specs.Plans.{FailsIn, AreKept, IsPlanFor};
 
 use crate::find_round::find_round;
 use crate::plan::Plan;
-use crate::planning::RequestAt;
 use crate::put_puzzle::text_of;
 use crate::reply::{Reply, ShownPuzzle, ShownRound};
+use crate::request_at::RequestAt;
 use crate::round_copy::{RoundCopy, copy_of, shown_of};
 use crate::rows::{Rows, push};
 use hall_policy::{Decision, Entry, Facts, PuzzleNumber, RoundId, RoundRow, decide};

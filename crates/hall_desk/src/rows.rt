@@ -54,3 +54,11 @@ impl<T> Rows<T> {
         self.list.as_slice()
     }
 }
+
+/// Puts the item at the end, in a function of its own, so that its callers let go of no value but their own.
+pub(crate) fn push<T: Drop>(items: &mut Vec<T>, item: T) -> Result<(), AllocError>
+    ensures { OnOk result (items.new.items ≡ items.old.items ++ item ∷ []) }
+{
+    items.push(item)?;
+    Ok(())
+}

@@ -10,8 +10,8 @@ ghost use Rattle.hall_desk.specs.Plans.{IsPlanFor, FailsIn};
 
 use crate::find_round::find_round;
 use crate::plan::Plan;
-use crate::planning::RequestAt;
 use crate::reply::{Reply, TableText};
+use crate::request_at::RequestAt;
 use crate::rows::Rows;
 use crate::table_copy::{TableCopy, keep, text_of};
 use hall_policy::{Decision, Facts, Name, RoundId, RoundRow, decide};

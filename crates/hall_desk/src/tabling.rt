@@ -10,22 +10,19 @@ ghost use Rattle.hall_desk.specs.TableCopy.{leaves_table};
 ghost use Rattle.hall_desk.specs.Tabling.{BeginsTally, IsTalliedIn, TablesOn, WaitsForTable};
 ghost use Rattle.hall_desk.specs.Totals.{IsTableAt};
 ghost use Rattle.hall_desk.specs.Wanted.{AsksTable};
-ghost use Rattle.hall_desk.specs.declared.preparing.Prepared.TheVariants as Prepared;
+ghost use Rattle.hall_desk.specs.declared.prepared.Prepared.TheVariants as Prepared;
 
-use crate::copies::Copies;
+use crate::copies::{Copies, Tabling};
 use crate::find_round::find_round;
-use crate::planning::no_facts;
-use crate::preparing::Prepared;
+use crate::prepared::Prepared;
 use crate::reply::TableText;
+use crate::request_at::no_facts;
 use crate::slices::{Sliced, Slices};
 use crate::table_copy::{TableCopy, is_copied, keep_copy, leaves};
 use hall_policy::{Decision, Moment, Request, RoundId, RoundRow, decide};
 use hall_score::{Tally, table_text};
 use hall_store::{Change, ReadStore, StoreFault};
 use std::alloc::{AllocError, Global};
-
-/// The tally of a round's table, which has taken the round's protests, and its answers by entrants up to the name.
-pub(crate) type Tabling = Slices<Tally>;
 
 /// Works for a while on the round's table, where one is to be told and no copy is kept: by a slice of the table that is
 /// under way, of whichever round, so that nobody's begins anew. Where no memory is left for a copy, nothing is to be

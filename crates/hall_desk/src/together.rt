@@ -7,7 +7,8 @@ ghost use Rattle.hall_desk.specs.Together.{IsPlanBeside, IsSubmission, TakesPlan
 
 use crate::copies::Copies;
 use crate::plan::Plan;
-use crate::planning::{RequestAt, no_facts, plan_for_caller};
+use crate::planning::plan_for_caller;
+use crate::request_at::{RequestAt, no_facts};
 use hall_policy::{Action, AnswerRow, Facts, Key, Moment, Name, Person, Request};
 use hall_store::{Change, JointAnswers, ReadStore, StoreFault};
 use std::alloc::{AllocError, Global};

@@ -6,11 +6,11 @@ ghost use Rattle.hall_desk.specs.Memo.{Remembers};
 ghost use Rattle.hall_desk.specs.Searches.{Begins, GivesWay, HasNoPlace, HasWorked, IsAsked, IsAt, IsFreeFor};
 ghost use Rattle.hall_desk.specs.Searches.{IsOpenFor, IsPutAt, WaitsAmong, asked_once};
 ghost use Rattle.hall_desk.specs.Searches.{IsUnasked, IsWanted, IsWorkOfTurn, IsWorked, StaysAt};
-ghost use Rattle.hall_desk.specs.declared.preparing.Prepared.TheVariants as Prepared;
+ghost use Rattle.hall_desk.specs.declared.prepared.Prepared.TheVariants as Prepared;
 ghost use Rattle.hall_desk.specs.declared.under_way.Underway.{Underway};
 
 use crate::memo::Memo;
-use crate::preparing::Prepared;
+use crate::prepared::Prepared;
 use crate::puzzle_search::{Certifying, PuzzleSearch};
 use crate::search_outcome::Finding;
 use crate::wanted_search::Wanted;

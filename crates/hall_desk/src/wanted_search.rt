@@ -7,10 +7,11 @@ ghost use Rattle.hall_desk.specs.Memo.{Remembers};
 ghost use Rattle.hall_desk.specs.Plans.{FailsIn, IsNobodys};
 ghost use Rattle.hall_desk.specs.Wanted.{IsFoundFor, IsFoundOf};
 
-use crate::certify_puzzle::{Certify, is_open};
+use crate::certify_puzzle::Certify;
+use crate::found_state::is_open;
 use crate::handler::Handler;
 use crate::memo::{Memo, is_remembered};
-use crate::planning::{RequestAt, caller_rule, no_facts};
+use crate::request_at::{RequestAt, caller_rule, no_facts};
 use hall_grid::Puzzle;
 use hall_policy::{Action, Decision, Facts, Key, Moment, PuzzleKey, Request};
 use hall_store::{ReadStore, StoreFault};

@@ -22,8 +22,8 @@ use Rattle.hall_http.specs.declared.connection.Joined.{Joined}
 use Rattle.hall_http.specs.declared.connection.State.TheVariants as state
 use Rattle.hall_http.specs.declared.group.Group.{Group}
 use Rattle.hall_http.specs.declared.group.Member.{Member}
-use Rattle.hall_http.specs.declared.responder.GroupEnd.{GroupEnd}
-use Rattle.hall_http.specs.declared.responder.GroupEnd.TheVariants as group
+use Rattle.hall_http.specs.declared.group_end.GroupEnd.{GroupEnd}
+use Rattle.hall_http.specs.declared.group_end.GroupEnd.TheVariants as group
 use Rattle.hall_http.proofs.Became.{of_each}
 use Rattle.hall_http.proofs.Crowds.{serves_none}
 use Rattle.hall_http.proofs.Grouped.{grouped_joined, grouped_last}

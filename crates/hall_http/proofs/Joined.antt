@@ -28,8 +28,8 @@ use Rattle.hall_http.specs.Serving.{AnswersAt, GoesOn}
 use Rattle.hall_http.specs.Steps.{gated_group}
 use Rattle.hall_http.specs.declared.answer.Answer.{Answer}
 use Rattle.hall_http.specs.declared.answer.Answer.TheVariants.{Unavailable}
-use Rattle.hall_http.specs.declared.responder.GroupEnd.{GroupEnd}
-use Rattle.hall_http.specs.declared.responder.GroupEnd.TheVariants.{Stored, Refused, Shut}
+use Rattle.hall_http.specs.declared.group_end.GroupEnd.{GroupEnd}
+use Rattle.hall_http.specs.declared.group_end.GroupEnd.TheVariants.{Stored, Refused, Shut}
 use Rattle.hall_http.proofs.Refusals.{unavailable_reply}
 use Rattle.hall_http.proofs.Requests.{nobodys}
 

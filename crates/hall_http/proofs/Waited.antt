@@ -26,8 +26,8 @@ use Rattle.hall_http.specs.Waited.{WaitsSince, turns_by}
 use Rattle.hall_http.specs.declared.socket.Socket.{Socket}
 use Rattle.hall_http.specs.declared.client.Step.{Step}
 use Rattle.hall_http.specs.declared.client.Step.TheVariants as step
-use Rattle.hall_http.specs.declared.client.Wish.{Wish}
-use Rattle.hall_http.specs.declared.client.Wish.TheVariants as wish
+use Rattle.hall_http.specs.declared.connection.Wish.{Wish}
+use Rattle.hall_http.specs.declared.connection.Wish.TheVariants as wish
 use Rattle.hall_http.specs.declared.server.Next.{Next}
 use Rattle.hall_http.specs.declared.server.Next.TheVariants as next
 use Rattle.hall_http.specs.declared.places.Visit.{Visit}

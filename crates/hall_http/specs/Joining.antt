@@ -19,8 +19,8 @@ use Rattle.hall_http.specs.Reply.{BytesOf}
 use Rattle.hall_http.specs.Request.{ReachesStore}
 use Rattle.hall_http.specs.declared.answer.Answer.{Answer}
 use Rattle.hall_http.specs.declared.answer.Answer.TheVariants.{Unavailable}
-use Rattle.hall_http.specs.declared.responder.GroupEnd.{GroupEnd}
-use Rattle.hall_http.specs.declared.responder.GroupEnd.TheVariants.{Stored, Refused}
+use Rattle.hall_http.specs.declared.group_end.GroupEnd.{GroupEnd}
+use Rattle.hall_http.specs.declared.group_end.GroupEnd.TheVariants.{Stored, Refused}
 
 -- the request at this moment, and what is planned for it
 abbrev pub planned : Option ℕ → List ℕ → Answer → Exchange

@@ -1,8 +1,8 @@
 -- How many places are taken, and what is known of those who are there.
 use Rattle.std.specs.Prelude.{◌≡◌, ◌≤◌, ◌+◌, ◌-◌, ◌^◌, ◌⊎◌, ℕ, min, true, List, Option, Some, None, sum_by}
 use Rattle.hall_http.specs.Limits.{least_stay}
-use Rattle.hall_http.specs.declared.client.Wish.{Wish}
-use Rattle.hall_http.specs.declared.client.Wish.TheVariants as wish
+use Rattle.hall_http.specs.declared.connection.Wish.{Wish}
+use Rattle.hall_http.specs.declared.connection.Wish.TheVariants as wish
 use Rattle.hall_http.specs.declared.places.LetGo.{LetGo}
 use Rattle.hall_http.specs.declared.places.Visit.{Visit}
 use Rattle.hall_http.specs.declared.places.Visit.TheVariants.{Ready, Waiting, Searching}

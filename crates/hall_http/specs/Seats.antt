@@ -9,8 +9,8 @@ use Rattle.hall_http.specs.Queue.{ComeBehind, GoesAhead, called, waits_in}
 use Rattle.hall_http.specs.Places.{HasExpired, MayMakeRoom, counted_for, goes_at, taken, wait_in}
 use Rattle.hall_http.specs.declared.client.Step.{Step}
 use Rattle.hall_http.specs.declared.client.Step.TheVariants as step
-use Rattle.hall_http.specs.declared.client.Wish.{Wish}
-use Rattle.hall_http.specs.declared.client.Wish.TheVariants as wish
+use Rattle.hall_http.specs.declared.connection.Wish.{Wish}
+use Rattle.hall_http.specs.declared.connection.Wish.TheVariants as wish
 use Rattle.hall_http.specs.declared.places.LetGo.{LetGo}
 use Rattle.hall_http.specs.declared.places.Places.{Places}
 use Rattle.hall_http.specs.declared.places.Visit.{Visit}

@@ -13,12 +13,12 @@ use Rattle.hall_policy.specs.declared.record.AnswerRow.{AnswerRow}
 use Rattle.hall_http.specs.declared.answer.Answer.TheVariants.{Unavailable, Shut}
 use Rattle.hall_http.specs.declared.connection.Joined.{Joined}
 use Rattle.hall_http.specs.declared.outgoing.Outgoing.TheVariants.{Nothing, Refusal}
-use Rattle.hall_http.specs.declared.responder.GroupEnd.{GroupEnd}
-use Rattle.hall_http.specs.declared.responder.GroupEnd.TheVariants as group
+use Rattle.hall_http.specs.declared.group_end.GroupEnd.{GroupEnd}
+use Rattle.hall_http.specs.declared.group_end.GroupEnd.TheVariants as group
 use Rattle.hall_http.specs.declared.client.Step.{Step}
 use Rattle.hall_http.specs.declared.client.Step.TheVariants as step
-use Rattle.hall_http.specs.declared.client.Wish.{Wish}
-use Rattle.hall_http.specs.declared.client.Wish.TheVariants as wish
+use Rattle.hall_http.specs.declared.connection.Wish.{Wish}
+use Rattle.hall_http.specs.declared.connection.Wish.TheVariants as wish
 use Rattle.hall_http.specs.declared.connection.Connection.{Connection}
 use Rattle.hall_http.specs.declared.connection.ServeEnd.{ServeEnd}
 use Rattle.hall_http.specs.declared.connection.ServeEnd.TheVariants as end

@@ -7,7 +7,7 @@ use Rattle.hall_http.specs.Looks.{AreMore, IsHeardOut, Looks, time_by}
 use Rattle.hall_http.specs.Places.{HasExpired, HasLeft, MayMakeRoom, counted_for, wait_in}
 use Rattle.hall_http.specs.declared.client.Step.{Step}
 use Rattle.hall_http.specs.declared.client.Step.TheVariants as step
-use Rattle.hall_http.specs.declared.client.Wish.TheVariants as wish
+use Rattle.hall_http.specs.declared.connection.Wish.TheVariants as wish
 use Rattle.hall_http.specs.declared.event_loop.Look.{Look}
 use Rattle.hall_http.specs.declared.places.Visit.{Visit}
 use Rattle.hall_http.specs.declared.places.Visit.TheVariants.{Ready, Waiting, Searching}

@@ -7,7 +7,7 @@ ghost use Rattle.hall_desk.specs.Plans.{IsNobodys, StepCanFail, WritesIfAny};
 ghost use Rattle.hall_desk.specs.Promises.{HasUniqueSolutions, RightAnswersAreSolutions};
 ghost use Rattle.hall_desk.specs.Run.{IsTimed};
 ghost use Rattle.hall_desk.specs.Sane.{Sane};
-ghost use Rattle.hall_desk.specs.declared.preparing.Prepared.TheVariants as Prepared;
+ghost use Rattle.hall_desk.specs.declared.prepared.Prepared.TheVariants as Prepared;
 ghost use Rattle.hall_http.specs.Answered.{answer_text, AnswersFault, AnswersOver, AnswersRequestOver, IsStepReply};
 ghost use Rattle.hall_http.specs.Answered.{IsStepReplyOver};
 ghost use Rattle.hall_http.specs.Answered.{IsUnavailable};

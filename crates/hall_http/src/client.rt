@@ -12,7 +12,7 @@ ghost use Rattle.hall_http.specs.declared.client.Step.TheVariants as Step;
 ghost use Rattle.hall_http.specs.declared.connection.State.TheVariants as State;
 ghost use Rattle.hall_http.specs.declared.connection.ServeEnd.{ServeEnd};
 
-use crate::connection::{Connection, Joined, ServeEnd, State};
+use crate::connection::{Connection, Joined, ServeEnd, State, Wish};
 use crate::inbox::Inbox;
 use crate::peer::{Moved, Peer};
 use crate::responder::Responder;
@@ -24,21 +24,6 @@ use std::alloc::Global;
 
 /// The most steps of a turn: enough for a reply to be sent and a request to be read.
 const STEPS: usize = 5;
-
-/// What a connection waits for.
-#[derive(Clone, Copy, Debug, PartialEq, Eq)]
-pub enum Wish {
-    /// For a request.
-    Idle,
-    /// For the rest of a request.
-    Asking,
-    /// To have its reply taken.
-    Taking,
-    /// For the end of what is no longer answered.
-    Leaving,
-    /// For the work that its request needs.
-    Searching,
-}
 
 /// How a connection stands after its turn.
 #[derive(Clone, Copy, Debug, PartialEq, Eq)]

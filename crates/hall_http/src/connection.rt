@@ -1,7 +1,7 @@
 //! One connection as steps over bytes, with no read and no write of its own: what is heard is handed in, and what is to
 //! be told is handed out.
 ghost use Rattle.std.specs.Prelude.{◌≡◌, ◌≤◌, ◌<◌, ◌+◌, ◌++◌, ℕ, List, Option, length, true, false};
-ghost use Rattle.hall_desk.specs.declared.preparing.Prepared.TheVariants as Prepared;
+ghost use Rattle.hall_desk.specs.declared.prepared.Prepared.TheVariants as Prepared;
 ghost use Rattle.hall_http.specs.Connection.{Exchange};
 ghost use Rattle.hall_http.specs.Head.{IsUnfinishedBelow};
 ghost use Rattle.hall_http.specs.Limits.{most_reads, most_requests, most_waiting};
@@ -12,16 +12,31 @@ ghost use Rattle.hall_http.specs.Steps.{Accepts, AnswersAt, Finds, JoinsFront, K
 ghost use Rattle.hall_http.specs.Steps.{joined_told, wish_of};
 
 use crate::answer::Answer;
-use crate::client::Wish;
+use crate::group_end::GroupEnd;
 use crate::head::{Cut, cut_from, cut_request};
 use crate::inbox::Inbox;
 use crate::outgoing::Outgoing;
-use crate::responder::{GroupEnd, Responder};
+use crate::responder::Responder;
 use crate::routes::Routes;
 use hall_desk::Prepared;
 use hall_policy::Moment;
 use hall_store::JointAnswers;
 use std::alloc::Global;
+
+/// What a connection waits for.
+#[derive(Clone, Copy, Debug, PartialEq, Eq)]
+pub enum Wish {
+    /// For a request.
+    Idle,
+    /// For the rest of a request.
+    Asking,
+    /// To have its reply taken.
+    Taking,
+    /// For the end of what is no longer answered.
+    Leaving,
+    /// For the work that its request needs.
+    Searching,
+}
 
 /// The most requests of a connection.
 const REQUEST_LIMIT: usize = 1000;

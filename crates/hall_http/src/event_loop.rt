@@ -19,8 +19,9 @@ ghost use Rattle.hall_http.specs.Fair.{Owes};
 ghost use Rattle.hall_http.specs.Limits.{most_connections};
 ghost use Rattle.hall_http.specs.Waited.{AreSaidRightly, AreSeatedBy, ComeAsSeated, GoesRightly, MayGoRightly};
 
-use crate::client::{Step, Wish};
+use crate::client::Step;
 use crate::clients::MOST_CLIENTS;
+use crate::connection::Wish;
 use crate::device::write_all;
 use crate::looks::{MOST_EVENTS, passed_since, place_of, read_after, tells_all};
 use crate::places::{LONGEST_ROUND, Places, Visit};

@@ -6,13 +6,13 @@ ghost use Rattle.hall_desk.specs.Desk.{kept_by};
 ghost use Rattle.hall_http.specs.Connection.{Exchange};
 ghost use Rattle.hall_http.specs.Head.{IsLentBy};
 ghost use Rattle.hall_http.specs.Joining.{HaveJoined, JoinsOne, JoinsRequest, StoresJoint, TakesReply};
-ghost use Rattle.hall_http.specs.declared.responder.GroupEnd.TheVariants as GroupEnd;
+ghost use Rattle.hall_http.specs.declared.group_end.GroupEnd.TheVariants as GroupEnd;
 
 use crate::answer::{Answer, is_nobodys, is_unavailable, serves_on};
+use crate::group_end::GroupEnd;
 use crate::head::RawRequest;
 use crate::reply::reply_bytes;
 use crate::request::request_of;
-use crate::responder::GroupEnd;
 use crate::routes::Routes;
 use hall_desk::{Desk, Plan, take};
 use hall_policy::{Moment, Request};

@@ -8,8 +8,9 @@ ghost use Rattle.hall_http.specs.Waited.{WaitAsHeard};
 ghost use Rattle.hall_http.specs.declared.client.Step.TheVariants as Step;
 ghost use Rattle.hall_http.specs.declared.places.Visit.TheVariants.{Ready};
 
-use crate::client::{Step, Wish};
+use crate::client::Step;
 use crate::clients::MOST_CLIENTS;
+use crate::connection::Wish;
 use hall_policy::Moment;
 use http_server::Log;
 use mio::net::TcpStream;

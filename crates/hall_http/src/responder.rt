@@ -11,11 +11,12 @@ ghost use Rattle.hall_http.specs.Request.{ReachesStore};
 ghost use Rattle.hall_http.specs.Serving.{GoesOn, IsAnsweredOver, WaitsForWork};
 ghost use Rattle.hall_http.specs.Steps.{gated_group};
 ghost use Rattle.hall_http.specs.declared.answer.Answer.TheVariants as Answer;
-ghost use Rattle.hall_http.specs.declared.responder.GroupEnd.TheVariants as GroupEnd;
-ghost use Rattle.hall_desk.specs.declared.preparing.Prepared.TheVariants as Prepared;
+ghost use Rattle.hall_http.specs.declared.group_end.GroupEnd.TheVariants as GroupEnd;
+ghost use Rattle.hall_desk.specs.declared.prepared.Prepared.TheVariants as Prepared;
 ghost use Rattle.hall_policy.specs.declared.record.AnswerRow.{AnswerRow};
 
 use crate::answer::{Answer, answer_raw_request, prepare_raw_request};
+use crate::group_end::GroupEnd;
 use crate::head::RawRequest;
 use crate::joining::{join_raw_request, store_joint};
 use crate::routes::Routes;
@@ -23,30 +24,6 @@ use hall_desk::{Desk, Prepared};
 use hall_policy::Moment;
 use hall_store::{JointAnswers, Store};
 use std::alloc::Global;
-
-/// How the one write for a group of requests ended.
-#[derive(Clone, Copy, Debug, PartialEq, Eq)]
-pub(crate) enum GroupEnd {
-    /// All that they change is stored, and each is told what was planned for it.
-    Stored,
-    /// Nothing of it is, and each is told 503.
-    Refused,
-    /// So it is, by a store that serves no more.
-    Shut,
-}
-
-impl GroupEnd {
-    /// Whether the store serves on, as far as this tells.
-    pub(crate) fn goes_on(self) -> bool
-        ensures opened { result ≡ true → self ≢ GroupEnd.Shut }
-        ensures shut { result ≡ false → self ≡ GroupEnd.Shut }
-    {
-        match self {
-            GroupEnd::Stored | GroupEnd::Refused => true,
-            GroupEnd::Shut => false,
-        }
-    }
-}
 
 /// What answers requests, one after another, or some of them together.
 pub(crate) trait Responder {

@@ -19,9 +19,9 @@ ghost use Rattle.hall_sql.specs.Reads.{ReadsTable};
 ghost use Rattle.hall_sql.specs.Versions.{IsAnyHall};
 ghost use Rattle.hall_sql.specs.WriteCause.{InsideFails, RunFails};
 
+use crate::added::add_each;
 use crate::calls::{fault_of, live, run, write_in};
 use crate::counts::count;
-use crate::fill::add_each;
 use crate::reads::read_any;
 use hall_policy::AnswerRow;
 use hall_store::{JointAnswers, StoreFault};

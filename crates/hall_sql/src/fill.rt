@@ -1,21 +1,19 @@
 //! Empty tables, filled with the records of others.
-ghost use Rattle.std.specs.Prelude.{◌≡◌, ◌⊎◌, IsTrue, OnOk, OnErr};
-ghost use Rattle.sqlite.specs.Effect.{Database};
+ghost use Rattle.std.specs.Prelude.{◌≡◌, IsTrue, OnOk, OnErr};
 ghost use Rattle.sqlite.specs.Held.{state};
 ghost use Rattle.sqlite.specs.State.{HasCleanDisk};
-ghost use Rattle.hall_policy.specs.Sink.{HasTaken};
 ghost use Rattle.hall_store.specs.Store.{Fails, Leads};
 ghost use Rattle.hall_sql.specs.Fill.{AreFilled, AddsAnswer, AddsHead, AddsPlace, AddsProtest, AddsPuzzle, Fills};
 ghost use Rattle.hall_sql.specs.Fill.{PutsPerson};
-ghost use Rattle.hall_sql.specs.FillCause.{FillFails, IsNextRefused, RefusesToAddAnswer, RefusesToAddHead};
+ghost use Rattle.hall_sql.specs.FillCause.{FillFails, RefusesToAddAnswer, RefusesToAddHead};
 ghost use Rattle.hall_sql.specs.FillCause.{RefusesToAddPerson, RefusesToAddPlace, RefusesToAddProtest};
 ghost use Rattle.hall_sql.specs.FillCause.{RefusesToAddPuzzle};
 ghost use Rattle.hall_sql.specs.WriteCause.{InsideFails};
-ghost use Rattle.hall_sql.specs.Cause.{IsStoreCause};
 ghost use Rattle.hall_sql.specs.Inside.{LeadsUncommitted, DoesInside};
 ghost use Rattle.hall_sql.specs.Standing.{AddsOutcomes, IsHall, KeptRows};
 ghost use Rattle.hall_sql.specs.Content.{content_of};
 
+use crate::added::{Added, add_each};
 use crate::calls::{fault_of, live};
 use crate::people::add_person;
 use crate::record::Place;
@@ -26,25 +24,6 @@ use hall_policy::{AnswerRow, Person, ProtestRow, PuzzleRow, Round};
 use hall_store::StoreFault;
 use sqlite::{Alter, Connection, Transaction};
 use std::alloc::Global;
-
-/// A record that is added to its table.
-pub(crate) trait Added: Sized {
-    // The tables before, the record, the tables after.
-    ghost adds: { Database → Self → Database → Type 0 };
-
-    // The statement that adds the record is refused over the tables.
-    ghost refuses: { Self → Database → Type 0 };
-
-    /// Adds it under a new key, inside a transaction.
-    fn add<S: Alter>(&self, tx: &mut Transaction<'_, S>, alloc: Global) -> Result<(), StoreFault>
-        ensures same_reference { tx.new.conn.ghost_name ≡ tx.old.conn.ghost_name }
-        ensures carries { LeadsUncommitted (state S.Store tx.old.conn.now) (state S.Store tx.new.conn.now) }
-        ensures done { DoesInside (state S.Store tx.old.conn.now) (state S.Store tx.new.conn.now)
-            (λ a b. adds a self.now b) result }
-        ensures cause { InsideFails (state S.Store tx.old.conn.now) (state S.Store tx.new.conn.now)
-            (IsStoreCause (state S.Store tx.old.conn.now) (state S.Store tx.new.conn.now)
-            ⊎ refuses self.now (state S.Store tx.old.conn.now).now) result };
-}
 
 impl Added for Person {
     ghost adds = { PutsPerson };
@@ -104,26 +83,6 @@ impl Added for ProtestRow {
     fn add<S: Alter>(&self, tx: &mut Transaction<'_, S>, alloc: Global) -> Result<(), StoreFault> {
         protests::add_inside(tx, self)
     }
-}
-
-/// Adds them, one after another.
-pub(crate) fn add_each<S: Alter, T: Added>(
-    tx: &mut Transaction<'_, S>,
-    alloc: Global,
-    records: &[T],
-) -> Result<(), StoreFault>
-    ensures same_reference { tx.new.conn.ghost_name ≡ tx.old.conn.ghost_name }
-    ensures carries { LeadsUncommitted (state S.Store tx.old.conn.now) (state S.Store tx.new.conn.now) }
-    ensures done { DoesInside (state S.Store tx.old.conn.now) (state S.Store tx.new.conn.now)
-        (λ a b. HasTaken T.adds a records.now b) result }
-    ensures cause { InsideFails (state S.Store tx.old.conn.now) (state S.Store tx.new.conn.now)
-        (IsStoreCause (state S.Store tx.old.conn.now) (state S.Store tx.new.conn.now)
-        ⊎ IsNextRefused T.adds T.refuses records.now (state S.Store tx.old.conn.now).now) result }
-{
-    for record in records {
-        record.add(tx, alloc)?;
-    }
-    Ok(())
 }
 
 /// Adds all records, each after those to which it refers.

@@ -7,15 +7,13 @@ ghost use Rattle.hall_policy.specs.World.{World};
 ghost use Rattle.hall_store.specs.Store.{Fails, Served};
 ghost use Rattle.hall_sql.specs.AllRead.{AreAllRead};
 ghost use Rattle.hall_sql.specs.FillCause.{FillCountedFails, TablesFail, TakeFails};
-ghost use Rattle.hall_sql.specs.Migrate.{IsFoundBeside, Leaves, Migrates, StopsAtWorld, TargetTakes};
+ghost use Rattle.hall_sql.specs.Migrate.{IsFoundBeside, Leaves, StopsAtWorld, TargetTakes};
 ghost use Rattle.hall_sql.specs.Standing.{IsHall, KeptTables};
 ghost use Rattle.hall_sql.specs.Content.{content_of};
 ghost use Rattle.hall_sql.specs.Tables.{hall_schema};
 ghost use Rattle.hall_sql.specs.WholeRows.{AreRowsOf, IsEmptyIn};
 
 use crate::fill::fill;
-use crate::old_store::OldStore;
-use crate::sql_store::SqlStore;
 use crate::testers::has_testers;
 use crate::whole::{Whole, read_rows};
 use hall_store::StoreFault;
@@ -114,21 +112,4 @@ pub(crate) fn take_rows<T: Alter>(
         Found::These => Ok(Migrated::Done(0)),
         Found::Others => Ok(Migrated::Occupied),
     }
-}
-
-/// Takes the whole world of a hall of the version before into one that holds nothing, or that already.
-///
-/// The source is only read. Where the target holds another world it is left, and so it is after a fault. A row of
-/// either that is no record is a fault.
-pub fn migrate<S: Alter + Drop, T: Alter + Drop>(
-    alloc: Global,
-    old: &mut OldStore<S>,
-    new: &mut SqlStore<T>,
-) -> Result<Migrated, StoreFault>
-    ensures { Migrates (state S.Store old.old) (state S.Store old.new)
-        (state T.Store new.old) (state T.Store new.new) result }
-{
-    new.in_hall();
-    let rows = old.read_rows(alloc)?;
-    new.take_rows(alloc, &rows)
 }

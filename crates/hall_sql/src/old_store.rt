@@ -10,7 +10,7 @@ ghost use Rattle.hall_sql.specs.BadRows.{AreNone, AreToldBad};
 ghost use Rattle.hall_sql.specs.Cause.{IsStoreCause};
 ghost use Rattle.hall_sql.specs.FillCause.{TablesFail};
 ghost use Rattle.hall_sql.specs.Made.{old_tables};
-ghost use Rattle.hall_sql.specs.Migrate.{old_content_of};
+ghost use Rattle.hall_sql.specs.Migrate.{Migrates, old_content_of};
 ghost use Rattle.hall_sql.specs.OldStore.{IsStoreTaken};
 ghost use Rattle.hall_sql.specs.Standing.{AddsNoOutcome, HasDeclined, IsTabled, KeptTablesIn};
 ghost use Rattle.hall_sql.specs.Tables.{old_schema};
@@ -19,7 +19,9 @@ ghost use Rattle.hall_sql.specs.WholeRows.{AreRowsOf};
 use crate::adoption::adopt_old;
 use crate::bad_rows::{BadRows, bad_rows};
 use crate::calls::live;
-use crate::sql_store::Declined;
+use crate::declined::Declined;
+use crate::migration::Migrated;
+use crate::sql_store::SqlStore;
 use crate::tables::OLD;
 use crate::whole::{Whole, read_rows};
 use hall_store::StoreFault;
@@ -120,4 +122,21 @@ impl<S: Alter + Drop> OldStore<S> {
     {
         read_rows(&mut self.conn, alloc)
     }
+}
+
+/// Takes the whole world of a hall of the version before into one that holds nothing, or that already.
+///
+/// The source is only read. Where the target holds another world it is left, and so it is after a fault. A row of
+/// either that is no record is a fault.
+pub fn migrate<S: Alter + Drop, T: Alter + Drop>(
+    alloc: Global,
+    old: &mut OldStore<S>,
+    new: &mut SqlStore<T>,
+) -> Result<Migrated, StoreFault>
+    ensures { Migrates (state S.Store old.old) (state S.Store old.new)
+        (state T.Store new.old) (state T.Store new.new) result }
+{
+    new.in_hall();
+    let rows = old.read_rows(alloc)?;
+    new.take_rows(alloc, &rows)
 }

@@ -17,11 +17,12 @@ ghost use Rattle.hall_sql.specs.Opened.{IsCauseAt, IsCauseThere, IsOldAsked, Ope
 ghost use Rattle.hall_sql.specs.Opened.{MemoryServes, OneWorldIsFound};
 ghost use Rattle.hall_sql.specs.declared.open.OpenFault.TheVariants.{Unopened};
 
+use crate::declined::Declined;
 use crate::given_back::GivenBack;
 use crate::old_store::{OldStore, Taken};
 use crate::schema::{is_analyzed, is_old_schema};
 use crate::sight::Sight;
-use crate::sql_store::{Declined, SqlStore};
+use crate::sql_store::SqlStore;
 use hall_store::StoreFault;
 use sqlite::{Alter, Connection, Error, FileStore, MemStore};
 use sqlite_disk::Disk;

@@ -8,10 +8,11 @@ ghost use Rattle.hall_sql.specs.Standing.{AddsNoOutcome, HasDeclined};
 ghost use Rattle.hall_sql.specs.Tables.{IsOldSchema};
 
 use crate::adoption::has_nothing;
+use crate::declined::Declined;
 use crate::old_store::{OldStore, Taken};
 use crate::open::{OpenFault, PathFiles, give_back, unopened};
 use crate::schema::{is_analyzed, is_old_schema};
-use crate::sql_store::{Declined, SqlStore};
+use crate::sql_store::SqlStore;
 use hall_store::StoreFault;
 use sqlite::{Alter, Connection};
 

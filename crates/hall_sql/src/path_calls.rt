@@ -7,7 +7,7 @@ ghost use Rattle.hall_sql.specs.Opened.{IsImageFound};
 ghost use Rattle.hall_sql.specs.PathCalls.{IsRefusedFor, WasCalled, WasOpened, named};
 ghost use Rattle.hall_sql.specs.ServedFiles.{AreServed};
 
-use crate::copied_files::{CopiedConnection, read_database};
+use crate::copied_database::{CopiedConnection, read_database};
 use crate::file_calls::{Noted, note};
 use crate::given_back::GivenBack;
 use crate::served_files::{ServedConnection, open_served};

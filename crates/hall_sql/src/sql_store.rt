@@ -27,6 +27,7 @@ use crate::bad_rows::{BadRows, bad_rows};
 use crate::bounds::{text_before, text_up_to};
 use crate::calls::live;
 use crate::counts::count;
+use crate::declined::Declined;
 use crate::feed::feed;
 use crate::migration::{Migrated, take_rows};
 use crate::people::{PEOPLE_AFTER, PERSON, PERSON_BY_KEY, all_people, import};
@@ -55,13 +56,6 @@ use std::marker::Model;
 #[derive(Drop)]
 pub struct SqlStore<S: Alter> {
     conn: Connection<S>,
-}
-
-/// A connection that no store takes over, and why.
-#[derive(Drop)]
-pub struct Declined<S: Alter> {
-    pub conn: Connection<S>,
-    pub fault: StoreFault,
 }
 
 impl<S: Alter> Model for SqlStore<S> {

@@ -10,7 +10,7 @@ ghost use Rattle.hall_store.specs.Keyed.{HasAny, first_name, is_inside};
 ghost use Rattle.hall_store.specs.declared.slot.Part.TheVariants.{Entrant as ToEntrant, Puzzle as ToPuzzle};
 ghost use Rattle.hall_store.specs.declared.slot.Part.TheVariants.{Round as ToRound};
 
-use crate::slot::{AnswerSlot, Part};
+use crate::slot::{AnswerSlot, Part, slot_at};
 use crate::writes::push;
 use hall_policy::{AnswerNumber, AnswerRow, Name, PuzzleNumber, RoundId, Sink, SinkFault, Token};
 use std::alloc::{AllocError, Global};
@@ -25,24 +25,6 @@ pub(crate) fn own_slot(row: &AnswerRow) -> Result<AnswerSlot, AllocError>
     let _number = row.key.number.get();
     let _n = row.n.get();
     slot_at(&row.key.entrant, &row.key.round, row.key.number, row.n)
-}
-
-/// The slot of the entrant's n-th answer to the round's puzzle of that number.
-pub(crate) fn slot_at(
-    entrant: &Name,
-    round: &RoundId,
-    number: PuzzleNumber,
-    n: AnswerNumber,
-) -> Result<AnswerSlot, AllocError>
-    ensures { IfOk result
-        (λ slot. slot ≡ record { round = round.now; entrant = entrant.now; number = number; n = n }) }
-{
-    Ok(AnswerSlot {
-        round: round.clone()?,
-        entrant: entrant.clone()?,
-        number,
-        n,
-    })
 }
 
 /// The least slot that an answer in the round can have.

@@ -4,7 +4,7 @@ ghost use Rattle.hall_store.specs.Change.{flagged};
 
 use crate::answer_reads::{
     answer_rows, answer_with, count_answers, feed_answers, first_from, first_in, first_of,
-    first_to, has_answer, is_taken, slot_at,
+    first_to, has_answer, is_taken,
 };
 use crate::change::RoundFlag;
 use crate::fault::StoreFault;
@@ -21,7 +21,7 @@ use crate::protest_reads::{
     count_protests, feed_protests, first_protest, has_open, own_protest_key, protest_at,
     protest_rows, protest_rows_in,
 };
-use crate::slot::Part;
+use crate::slot::{Part, slot_at};
 use crate::store::{ReadStore, Store};
 use crate::writes::put;
 use hall_policy::{

@@ -1,5 +1,6 @@
 //! The keys of the maps of answers and of uses, whose orders put side by side what is asked for together.
-use crate::answer_reads::slot_at;
+ghost use Rattle.std.specs.Prelude.{◌≡◌, IfOk};
+
 use hall_policy::{AnswerNumber, Label, Name, PuzzleNumber, RoundId};
 use std::alloc::AllocError;
 
@@ -40,4 +41,22 @@ pub(crate) struct UseKey {
     pub(crate) author: Name,
     pub(crate) label: Label,
     pub(crate) round: RoundId,
+}
+
+/// The slot of the entrant's n-th answer to the round's puzzle of that number.
+pub(crate) fn slot_at(
+    entrant: &Name,
+    round: &RoundId,
+    number: PuzzleNumber,
+    n: AnswerNumber,
+) -> Result<AnswerSlot, AllocError>
+    ensures { IfOk result
+        (λ slot. slot ≡ record { round = round.now; entrant = entrant.now; number = number; n = n }) }
+{
+    Ok(AnswerSlot {
+        round: round.clone()?,
+        entrant: entrant.clone()?,
+        number,
+        n,
+    })
 }

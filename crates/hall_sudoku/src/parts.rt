@@ -4,7 +4,7 @@ ghost use Rattle.std.specs.Prelude.{◌≡◌, ◌<◌, ℕ, length, slice_index
 ghost use Rattle.hall_grid.specs.Board.{cells};
 ghost use Rattle.hall_sudoku.specs.Parts.{part_of, AreGathered, AreConfined, AreElsewhere};
 
-use crate::singles::seen_and_shared;
+use crate::seen_values::seen_and_shared;
 use crate::units::Units;
 use crate::values::Values;
 

@@ -6,13 +6,14 @@ ghost use Rattle.hall_solve.specs.Deduction.{HasAlways, IsDeduced};
 ghost use Rattle.hall_solve.specs.Trail.{Grows};
 ghost use Rattle.hall_sudoku.specs.Units.{units_question};
 ghost use Rattle.hall_sudoku.specs.Settled.{HaveNoClash, IsBoardSettled};
-ghost use Rattle.hall_sudoku.specs.Candidates.{AreCandidates, AreFilled, AreSeen, AreShared, AreAllShared, AreComplete};
+ghost use Rattle.hall_sudoku.specs.Candidates.{AreCandidates, AreFilled, AreShared, AreAllShared, AreComplete};
 ghost use Rattle.hall_sudoku.specs.Candidates.{AreAllComplete, IsMissing, Lacks, LacksNothing};
 ghost use Rattle.hall_sudoku.specs.Candidates.{IsSole, HasNoSole, HaveNoSole};
 
 use crate::candidates::candidates;
 use crate::narrow::narrow;
 use crate::pairs::leave_pairs;
+use crate::seen_values::seen_and_shared;
 use crate::units::{MOST_UNITS, Room, Units};
 use crate::values::Values;
 use hall_solve::{Deduce, Partial, Pass};
@@ -24,29 +25,6 @@ struct Shared {
     rows: [Values; MOST_UNITS],
     columns: [Values; MOST_UNITS],
     boxes: [Values; MOST_UNITS],
-}
-
-/// The values that some cell of each unit may have, and those that several may have.
-pub(crate) fn seen_and_shared(
-    units: &[u8],
-    candidates: &[Values],
-) -> ([Values; MOST_UNITS], [Values; MOST_UNITS])
-    requires cells { length units.now ≤ length candidates.now }
-    requires units { (cell : ℕ) → cell < length units.now → slice_index units.now cell < MOST_UNITS }
-    ensures seen_size { length result.0 ≡ MOST_UNITS }
-    ensures shared_size { length result.1 ≡ MOST_UNITS }
-    ensures seen { AreSeen (slice_index units.now) (length units.now) candidates.now result.0 }
-    ensures shared { AreShared (slice_index units.now) (length units.now) candidates.now result.1 }
-{
-    let mut seen = [Values::none(); MOST_UNITS];
-    let mut shared = [Values::none(); MOST_UNITS];
-    for (cell, unit) in units.iter().enumerate() {
-        let unit = *unit as usize;
-        let left = candidates[cell];
-        shared[unit] = shared[unit].or(seen[unit].and(left));
-        seen[unit] = seen[unit].or(left);
-    }
-    (seen, shared)
 }
 
 /// Whether the set of some unit lacks a value below the side.

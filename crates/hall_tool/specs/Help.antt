@@ -1,7 +1,7 @@
 -- The text of each page of help, and of the version.
 use Rattle.std.specs.Prelude.{ℕ, List}
 use Rattle.hall_tool.specs.declared.help.TheConstants.{HALL, JUDGE, SOLVE, INIT, SERVE, REPLAY, TABLE, MIGRATE, CHECK}
-use Rattle.hall_tool.specs.declared.help.TheConstants.{VERSION}
+use Rattle.hall_tool.specs.declared.pages.TheConstants.{VERSION}
 use Rattle.hall_tool.specs.declared.pages.Page.{Page}
 use Rattle.hall_tool.specs.declared.pages.Page.TheVariants.{Hall, Judge, Solve, Init, Serve, Replay, Table}
 use Rattle.hall_tool.specs.declared.pages.Page.TheVariants.{Migrate, Check}

@@ -4,9 +4,6 @@ ghost use Rattle.hall_tool.specs.Help.{help_text};
 
 use crate::pages::Page;
 
-/// The program's name and version, on a line.
-pub(crate) const VERSION: &str = "hall 0.2.0\n";
-
 const HALL: &str = "\
 A contest hall: judges answers to puzzles, searches for the solutions of a puzzle, and holds rounds over HTTP, whose
 records stand in an SQLite database.

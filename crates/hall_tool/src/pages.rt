@@ -3,9 +3,11 @@ ghost use Rattle.std.specs.Prelude.{◌≡◌, IfOk, false};
 ghost use Rattle.clap.specs.Words.{app_of, new_app, rule_of};
 ghost use Rattle.hall_tool.specs.Pages.{command_line_of, option_named, with_options};
 
-use crate::help::VERSION;
 use clap::{Arg, ArgAction, Command};
 use std::alloc::{AllocError, Global};
+
+/// The program's name and version, on a line.
+pub(crate) const VERSION: &str = "hall 0.2.0\n";
 
 /// An option of a command, which takes one value: its name, and the sign of the value.
 #[derive(Clone, Copy)]

@@ -6,9 +6,10 @@ ghost use Rattle.hall_tool.specs.Machine.{all_files, files_of, host_of, machine,
 use crate::check::check_at;
 use crate::commands::{init_at, replay_in_memory, task_at};
 use crate::fault::CommandFault;
-use crate::help::{VERSION, help_text};
+use crate::help::help_text;
 use crate::judge::judge_run;
 use crate::migrate::migrate_at;
+use crate::pages::VERSION;
 use crate::show::show_run;
 use crate::solve::solve_run;
 use crate::task::{Serve, Table, command_end};

@@ -1,6 +1,6 @@
 use Rattle.std.proofs.Common.{◌≡◌, length, get_or}
 use Rattle.hall_sudoku.specs.Candidates.{AreSeen, AreShared}
-use Rattle.hall_sudoku.proofs.singles.seen_and_shared.Given as goal
+use Rattle.hall_sudoku.proofs.seen_values.seen_and_shared.Given as goal
 
 abbrev pub invariant-loop-cell : goal.invariant-loop-cell
 invariant-loop-cell l = record {

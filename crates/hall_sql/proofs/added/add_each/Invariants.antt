@@ -3,7 +3,7 @@ use Rattle.sqlite.specs.Held.{state}
 use Rattle.sqlite.specs.State.{HasCleanDisk}
 use Rattle.hall_policy.specs.Sink.{HasTaken}
 use Rattle.hall_sql.specs.Inside.{LeadsUncommitted, MakesInside}
-use Rattle.hall_sql.proofs.fill.add_each.Given as goal
+use Rattle.hall_sql.proofs.added.add_each.Given as goal
 
 -- those up to here are added
 abbrev pub invariant-loop-record : goal.invariant-loop-record

@@ -1,7 +1,7 @@
 use Rattle.std.proofs.Common.{ℕ, ◌<◌, length, get_or, ◌∙◌, refl, arith}
 use Rattle.std.proofs.lemmas.List.{length-set}
 use Rattle.hall_sudoku.proofs.Tables.{none_in, or_read, and_read, or_and_read, seen_more, shared_more}
-use Rattle.hall_sudoku.proofs.singles.seen_and_shared.Goals as goal
+use Rattle.hall_sudoku.proofs.seen_values.seen_and_shared.Goals as goal
 
 pub loop-cell-init : goal.loop-cell-init
 loop-cell-init c = record {

@@ -1,7 +1,7 @@
 use Rattle.std.proofs.Common.{subst}
 use Rattle.hall_policy.specs.Decided.{IsDecidedUpTo}
 use Rattle.hall_policy.specs.declared.rule.Decision.{Decision}
-use Rattle.hall_desk.proofs.planning.caller_rule.Goals as goal
+use Rattle.hall_desk.proofs.request_at.caller_rule.Goals as goal
 
 pub returns-in-Some-Deny-clause-some : goal.returns-in-Some-Deny-clause-some
 returns-in-Some-Deny-clause-some c =

@@ -3,7 +3,7 @@ use Rattle.sqlite.specs.Recovery.{Image}
 use Rattle.sqlite.specs.Files.{file_state}
 use Rattle.sqlite.specs.Start.{FindsIn}
 use Rattle.hall_sql.proofs.CopyLemmas.{both_true, held_first}
-use Rattle.hall_sql.proofs.copied_files.open_copies.Goals as goal
+use Rattle.hall_sql.proofs.copied_database.open_copies.Goals as goal
 
 abbrev image : List ℕ → List ℕ → Image
 image log db = record { log = log; db = db }

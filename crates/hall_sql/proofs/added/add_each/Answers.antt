@@ -5,7 +5,7 @@ use Rattle.hall_sql.proofs.EachLemmas.{more_added}
 use Rattle.hall_sql.proofs.InsideLemmas.{more_calls}
 use Rattle.hall_store.proofs.Knowing.{fails_as}
 use Rattle.hall_sql.proofs.WriteCauseLemmas.{then_cause, next_is}
-use Rattle.hall_sql.proofs.fill.add_each.Goals as goal
+use Rattle.hall_sql.proofs.added.add_each.Goals as goal
 
 pub loop-record-preserved : goal.loop-record-preserved
 loop-record-preserved g c =

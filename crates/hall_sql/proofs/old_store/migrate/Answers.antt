@@ -1,6 +1,6 @@
 use Rattle.sqlite.specs.Held.{state}
 use Rattle.hall_sql.proofs.MigrationLemmas.{migrated, unmigrated}
-use Rattle.hall_sql.proofs.migration.migrate.Goals as goal
+use Rattle.hall_sql.proofs.old_store.migrate.Goals as goal
 
 pub returns-in_err-rows : goal.returns-in_err-rows
 returns-in_err-rows g c =

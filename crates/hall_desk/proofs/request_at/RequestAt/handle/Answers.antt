@@ -11,7 +11,7 @@ use Rattle.hall_desk.specs.Step.{Allowed}
 use Rattle.hall_desk.specs.Plans.{IsMadePlan, IsPlanFor, HasNothingToWrite, IsMadeBy}
 use Rattle.hall_store.proofs.Knowing.{carried, kept_then, told_through}
 use Rattle.hall_desk.proofs.PlanLemmas.{planned}
-use Rattle.hall_desk.proofs.planning.RequestAt.handle.Goals as goal
+use Rattle.hall_desk.proofs.request_at.RequestAt.handle.Goals as goal
 
 pub returns-in-Allow-clause-told : goal.returns-in-Allow-clause-told
 returns-in-Allow-clause-told g c =
