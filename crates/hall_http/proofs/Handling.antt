@@ -48,7 +48,7 @@ abbrev pub left_of : Connection → ℕ
 left_of k = 5 * ((1000 - k.requests) + (100001 - k.reads)) + rank k.state
 
 -- with this left to be read, so many reads made and failed, this written and so many writes failed
-abbrev line_at : Option (List ℕ) → ℕ → ℕ → Option (List ℕ) → ℕ → Line
+abbrev pub line_at : Option (List ℕ) → ℕ → ℕ → Option (List ℕ) → ℕ → Line
 line_at left reads failed written broken =
     record { left = left; reads = reads; failed = failed; written = written; broken = broken }
 

@@ -16,11 +16,13 @@ use Rattle.hall_http.specs.Device.{WritesPart, NoneFailed, ReadFailed, WriteFail
 use Rattle.hall_http.specs.Reading.{at_first, after_read, after_answer}
 use Rattle.hall_http.specs.Records.{Record, IsRecord, record_bytes, header_of, NeverHasRecord, IsCut}
 use Rattle.hall_http.specs.Records.{IsUnfinishedRecord, bytes_between}
+use Rattle.hall_http.specs.Served.{Line}
 use Rattle.hall_http.specs.Serving.{AreAnswered, IsAnsweredOver}
 use Rattle.hall_http.specs.Replay.{AnsweredRecord, exchange_of, exchanges_of_records, records_of, reply_bytes_of}
 use Rattle.hall_http.specs.Replay.{IsReplayed, ReplayEnded, HaveReadRecords}
 use Rattle.hall_http.proofs.Readings.{one_call_more, session_more}
 use Rattle.hall_http.specs.Inbox.{ReadsMore}
+use Rattle.hall_http.proofs.Handling.{line_at}
 use Rattle.hall_http.proofs.Histories.{not_nil}
 use Rattle.hall_http.proofs.Runs.{session_leads, session_runs, session_stops}
 
@@ -82,6 +84,9 @@ module _ {H : Type 0} (content : H → Content) where
 
   module _ (stream after wrote written : Option (List ℕ)) (old new : H) (inbox : List ℕ) (reads asked asks : ℕ)
       (kept : Kept content stream after wrote written old new inbox reads asked asks) where
+    abbrev was_at : ℕ → ℕ → Line
+    was_at failed broke = line_at stream asked failed wrote broke
+
     pub kept_read : (then : Option (List ℕ)) (piece : List ℕ) (later : ℕ) → IsUnfinishedRecord inbox → 0 < length piece
         → length piece ≤ 4096 → Consumes after then piece → Rises asks later
         → Kept content stream then wrote written old new (inbox ++ piece) (reads + 1) asked later
@@ -153,7 +158,8 @@ module _ {H : Type 0} (content : H → Content) where
       -- the text couldn't be written whole
       pub unsent : {U : Type 0} (then : Option (List ℕ)) (failed fails broke breaks : ℕ) → reads ≤ 1000000000
           → WritesPart written then text → WriteFailed failed fails broke breaks
-          → IsReplayed {U = U} content stream after wrote then old next failed fails broke breaks asked asks
+          → IsReplayed {U = U} content (was_at failed broke) old
+          (line_at after asks fails then breaks) next
           (Err fault.Device)
       unsent then failed fails broke breaks seldom part rose = record {
         records = all;
@@ -185,8 +191,9 @@ module _ {H : Type 0} (content : H → Content) where
       -- how it ends with no further record answered
       ends : (then : Option (List ℕ)) (total later : ℕ) (end : Result U ReplayFault) → Consumes after then []
           → MadeCalls total asked later → total ≤ 1000000000
-          → ReplayEnded end then wrote written kept.done inbox reads total failed fails broke breaks
-          → IsReplayed {U = U} content stream then wrote written old new failed fails broke breaks asked later end
+          → ReplayEnded end (was_at failed broke) (line_at then later fails written breaks) kept.done inbox reads
+          total
+          → IsReplayed {U = U} content (was_at failed broke) old (line_at then later fails written breaks) new end
       ends then total later end none made seldom ended = record {
         records = kept.done;
         unread = inbox;
@@ -208,7 +215,7 @@ module _ {H : Type 0} (content : H → Content) where
       }
 
       pub too_many : IsUnfinishedRecord inbox → reads ≡ 1000000000 → NoneFailed failed fails broke breaks
-          → IsReplayed {U = U} content stream after wrote written old new failed fails broke breaks asked asks
+          → IsReplayed {U = U} content (was_at failed broke) old (line_at after asks fails written breaks) new
           (Err fault.Record)
       too_many unfinished many steady =
           ends after reads asks (Err fault.Record) (Consumes-nil after) kept.made (omega arith)
@@ -216,7 +223,7 @@ module _ {H : Type 0} (content : H → Content) where
 
       -- no record begins so
       pub never_record : reads ≤ 1000000000 → NeverHasRecord inbox → NoneFailed failed fails broke breaks
-          → IsReplayed {U = U} content stream after wrote written old new failed fails broke breaks asked asks
+          → IsReplayed {U = U} content (was_at failed broke) old (line_at after asks fails written breaks) new
           (Err fault.Record)
       never_record seldom never steady =
           ends after reads asks (Err fault.Record) (Consumes-nil after) kept.made seldom
@@ -228,7 +235,7 @@ module _ {H : Type 0} (content : H → Content) where
           (rise : Rises asks later) where
         -- it was refused
         pub unread_device : Consumes after then [] → ReadFailed failed fails broke breaks
-            → IsReplayed {U = U} content stream then wrote written old new failed fails broke breaks asked later
+            → IsReplayed {U = U} content (was_at failed broke) old (line_at then later fails written breaks) new
             (Err fault.Device)
         unread_device none rose =
             ends then (reads + 1) later (Err fault.Device) none (one_read later rise) (omega arith)
@@ -238,7 +245,7 @@ module _ {H : Type 0} (content : H → Content) where
         pub at_end : (result : Result U ReplayFault) (now : List ℕ)
             → ReadsMore after then inbox now failed fails (Ok false) → breaks ≡ broke
             → MatchResult result (λ _. now ≡ []) (λ e. (e ≡ fault.Record) × (0 < length now))
-            → IsReplayed {U = U} content stream then wrote written old new failed fails broke breaks asked later result
+            → IsReplayed {U = U} content (was_at failed broke) old (line_at then later fails written breaks) new result
         at_end (Ok u) now (same, none, over, steady) whole empty =
             ends then (reads + 1) later (Ok u) none (one_read later rise) (omega arith)
             (kept.replied, (steady, whole), sym same ∙ empty, over, refl)
@@ -252,9 +259,9 @@ module _ {H : Type 0} (content : H → Content) where
 
   -- nothing was read for want of memory
   pub unbegun : {U : Type 0} (stream wrote : Option (List ℕ)) (store : H) (failed broke asked : ℕ)
-      → IsSettled (content store) → IsReplayed {U = U} content stream stream wrote wrote store store failed failed broke
-      broke asked asked
-      (Err fault.Memory)
+      → IsSettled (content store)
+      → IsReplayed {U = U} content (line_at stream asked failed wrote broke) store
+      (line_at stream asked failed wrote broke) store (Err fault.Memory)
   unbegun stream wrote store failed broke asked settled = record {
     records = [];
     unread = [];

@@ -7,9 +7,10 @@ use Rattle.hall_store.specs.Store.{Content, IsSettled, Leads}
 use Rattle.hall_http.specs.Limits.{most_waiting}
 use Rattle.hall_http.specs.declared.fault.ReplayFault.{ReplayFault}
 use Rattle.hall_http.specs.declared.fault.ReplayFault.TheVariants as fault
-use Rattle.hall_http.specs.Device.{WritesPart, NoneFailed, ReadFailed, WriteFailed}
+use Rattle.hall_http.specs.Device.{WritesPart}
 use Rattle.hall_http.specs.Connection.{Exchange}
 use Rattle.hall_http.specs.Serving.{AreAnswered, LeavesRunOver, RunsOver}
+use Rattle.hall_http.specs.Served.{Line, NoCallFailed, OneReadFailed, OneWriteFailed}
 use Rattle.hall_http.specs.Reading.{Reading, IsLastRead}
 use Rattle.hall_http.specs.Records.{Record, IsRecord, record_bytes, HasNoRecord, NeverHasRecord, IsUnfinishedRecord}
 
@@ -57,40 +58,40 @@ StopsAtLast wrote written xs unread pieces =
 -- end of the input, and nothing is left. `Record`: what is left is no record, or a thousand million reads gave bytes
 -- and what is left is unfinished. `Device`: a read or a write failed, once. `Memory`: before the first read. No other
 -- call failed: it ended at the first that did.
-abbrev pub ReplayEnded : {U : Type 0} → Result U ReplayFault → Option (List ℕ) → Option (List ℕ) → Option (List ℕ)
-    → List AnsweredRecord → List ℕ → ℕ → ℕ → ℕ → ℕ → ℕ → ℕ → Type 0
-ReplayEnded (Ok done) after wrote written xs unread pieces reads failed fails broke breaks =
-    Appends wrote written (reply_bytes_of xs) × NoneFailed failed fails broke breaks × (unread ≡ []) × IsAtEnd after
+abbrev pub ReplayEnded : {U : Type 0} → Result U ReplayFault → Line → Line → List AnsweredRecord → List ℕ → ℕ → ℕ
+    → Type 0
+ReplayEnded (Ok done) old new xs unread pieces reads =
+    Appends old.written new.written (reply_bytes_of xs) × NoCallFailed old new × (unread ≡ []) × IsAtEnd new.left
     × (reads ≡ pieces + 1)
-ReplayEnded (Err fault.Record) after wrote written xs unread pieces reads failed fails broke breaks =
-    Appends wrote written (reply_bytes_of xs) × NoneFailed failed fails broke breaks
-    × (LacksRecord after unread pieces reads
+ReplayEnded (Err fault.Record) old new xs unread pieces reads =
+    Appends old.written new.written (reply_bytes_of xs) × NoCallFailed old new
+    × (LacksRecord new.left unread pieces reads
     ⊎ (IsUnfinishedRecord unread × (reads ≡ 1000000000) × (reads ≡ pieces)))
-ReplayEnded (Err fault.Device) after wrote written xs unread pieces reads failed fails broke breaks =
-    (Appends wrote written (reply_bytes_of xs) × ReadFailed failed fails broke breaks × IsUnfinishedRecord unread
+ReplayEnded (Err fault.Device) old new xs unread pieces reads =
+    (Appends old.written new.written (reply_bytes_of xs) × OneReadFailed old new × IsUnfinishedRecord unread
     × (reads ≡ pieces + 1))
-    ⊎ (StopsAtLast wrote written xs unread pieces × WriteFailed failed fails broke breaks × (reads ≡ pieces))
-ReplayEnded (Err fault.Memory) after wrote written xs unread pieces reads failed fails broke breaks =
-    Appends wrote written [] × NoneFailed failed fails broke breaks × (xs ≡ []) × (unread ≡ []) × (reads ≡ 0)
+    ⊎ (StopsAtLast old.written new.written xs unread pieces × OneWriteFailed old new × (reads ≡ pieces))
+ReplayEnded (Err fault.Memory) old new xs unread pieces reads =
+    Appends old.written new.written [] × NoCallFailed old new × (xs ≡ []) × (unread ≡ []) × (reads ≡ 0)
 
 -- the stream was read, in at most a thousand million reads, as these records and then this rest, the records were
 -- answered over a store, each before a further read and over the store that the one before it left, by the replies of a
 -- run of the hall, and the replay ended so
-pub record IsReplayed {H U : Type 0} (content : H → Content) (stream after wrote written : Option (List ℕ))
-    (old new : H) (failed fails broke breaks asked asks : ℕ) (end : Result U ReplayFault) : Type 0 where
+pub record IsReplayed {H U : Type 0} (content : H → Content) (old : Line) (before : H) (new : Line) (after : H)
+    (end : Result U ReplayFault) : Type 0 where
   pub records : List AnsweredRecord
   pub unread : List ℕ
   pub pieces : ℕ
   pub reads : ℕ
-  pub settled : IsSettled (content old)
-  pub answered : AreAnswered content old (exchanges_of_records records) new
+  pub settled : IsSettled (content before)
+  pub answered : AreAnswered content before (exchanges_of_records records) after
   pub whole : All (λ x. IsRecord x.asked) records
-  pub leads : Leads (content old) (content new)
-  pub run : (content new).honest → RunsOver (content old) (exchanges_of_records records) (content new)
-  pub stops : LeavesRunOver (content old) (exchanges_of_records records) (content new)
+  pub leads : Leads (content before) (content after)
+  pub run : (content after).honest → RunsOver (content before) (exchanges_of_records records) (content after)
+  pub stops : LeavesRunOver (content before) (exchanges_of_records records) (content after)
   pub seldom : reads ≤ 1000000000
-  pub made : MadeCalls reads asked asks
+  pub made : MadeCalls reads old.reads new.reads
   pub reading : HaveReadRecords records pieces unread
-  pub consumed : Consumes stream after (records_of records ++ unread)
+  pub consumed : Consumes old.left new.left (records_of records ++ unread)
   pub bounded : length unread ≤ most_waiting
-  pub ended : ReplayEnded end after wrote written records unread pieces reads failed fails broke breaks
+  pub ended : ReplayEnded end old new records unread pieces reads

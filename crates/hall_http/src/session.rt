@@ -8,6 +8,7 @@ ghost use Rattle.hall_desk.specs.Promises.{HasUniqueSolutions, RightAnswersAreSo
 ghost use Rattle.hall_http.specs.Device.{WritesPart};
 ghost use Rattle.hall_http.specs.Answered.{answer_text};
 ghost use Rattle.hall_http.specs.Replay.{IsReplayed};
+ghost use Rattle.hall_http.specs.Served.{line};
 
 use crate::answer::{Answer, answer_bytes};
 use crate::device::write_parts;
@@ -56,10 +57,8 @@ pub fn replay<R: Read, W: Write, S: Store>(
     reader: &mut Counted<R>,
     writer: &mut Counted<W>,
 ) -> Result<(), ReplayFault>
-    ensures replayed { IsReplayed S.content (R.remaining reader.old.device) (R.remaining reader.new.device)
-        (W.contents writer.old.device) (W.contents writer.new.device) (kept_by desk.old) (kept_by desk.new)
-        reader.old.failures reader.new.failures writer.old.failures writer.new.failures
-        reader.old.calls reader.new.calls result }
+    ensures replayed { IsReplayed S.content (line R.remaining W.contents reader.old writer.old) (kept_by desk.old)
+        (line R.remaining W.contents reader.new writer.new) (kept_by desk.new) result }
     ensures sane { SaneThen Sane (S.content (kept_by desk.old)) (S.content (kept_by desk.new)) }
     ensures unique { SaneThen HasUniqueSolutions (S.content (kept_by desk.old)) (S.content (kept_by desk.new)) }
     ensures right { SaneThen RightAnswersAreSolutions (S.content (kept_by desk.old)) (S.content (kept_by desk.new)) }
@@ -79,10 +78,8 @@ fn answer_records<R: Read, W: Write, S: Store>(
     writer: &mut Counted<W>,
 ) -> Result<(), ReplayFault>
     requires { inbox ≡ [] }
-    ensures { IsReplayed S.content (R.remaining reader.old.device) (R.remaining reader.new.device)
-        (W.contents writer.old.device) (W.contents writer.new.device) (kept_by desk.old) (kept_by desk.new)
-        reader.old.failures reader.new.failures writer.old.failures writer.new.failures
-        reader.old.calls reader.new.calls result }
+    ensures { IsReplayed S.content (line R.remaining W.contents reader.old writer.old) (kept_by desk.old)
+        (line R.remaining W.contents reader.new writer.new) (kept_by desk.new) result }
 {
     desk.at_rest();
     let mut reads = 0;

@@ -5,6 +5,7 @@ use Rattle.hall_grid.specs.Device.{Rises, Tally}
 use Rattle.hall_store.specs.Store.{Content, IsSettled, KeptWorld, Leads, WritesOnce}
 use Rattle.hall_http.specs.Device.{WritesPart}
 use Rattle.hall_http.specs.Replay.{IsReplayed}
+use Rattle.hall_http.specs.Served.{line}
 use Rattle.hall_http.specs.declared.fault.ReplayFault.{ReplayFault}
 use Rattle.hall_http.specs.declared.fault.ReplayFault.TheVariants as replay
 use Rattle.hall_tool.specs.Machine.{Kinds, Stand}
@@ -47,8 +48,6 @@ IsReplayRun {S} {R} {W} k list before after result =
     × (result ≢ Ok 0) × (after.reader ≡ before.reader))
     ⊎ ((seeded : S) × (told : Tally W) × (end : Result (Unit {0}) ReplayFault)
     × IsSeedRun k list (k.content before.kept) (k.content seeded) before.writer told (Ok 0)
-    × IsReplayed k.content (k.streams.remaining before.reader.device) (k.streams.remaining after.reader.device)
-    (k.streams.contents told.device) (k.streams.contents after.writer.device) seeded after.kept
-    before.reader.failures after.reader.failures told.failures after.writer.failures
-    before.reader.calls after.reader.calls end
+    × IsReplayed k.content (line k.streams.remaining k.streams.contents before.reader told) seeded
+    (line k.streams.remaining k.streams.contents after.reader after.writer) after.kept end
     × (result ≡ replay_end end))
