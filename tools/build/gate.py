@@ -29,10 +29,10 @@ EVERY = 0.5
 # What one check takes at the most, in bytes (the last column of the table), with room to spare.
 MOST_OF_ONE = 5_000_000_000
 # The budget in processor minutes, and what the proofs of crates that seldom change took of the machine by which it is
-# set (docs/PROVING.md). Another machine, or the same beside busy neighbours, takes up to two and a half times as long.
+# set (docs/PROVING.md): they are as they were then. Another machine took two and a half times as long.
 BUDGET = 220
 REFERENCE = {"hall_grid": 2.0, "hall_nurikabe": 3.6, "hall_policy": 2.1, "hall_score": 1.3, "hall_sheet": 2.2,
-             "hall_slither": 3.3, "hall_solve": 1.7}
+             "hall_slither": 3.3}
 TICK, PAGE = os.sysconf("SC_CLK_TCK"), os.sysconf("SC_PAGE_SIZE")
 TASKS = ("proof", "tests", "edits")
 COUNTS = re.compile(r"^(\d+) passed, (\d+) failed$")

@@ -23,27 +23,19 @@ def test_a_day_by_pages_alone(name, program, pytestconfig, room):
     tell(f"a day by pages in {name}: {took:.0f} seconds")
 
 
-
-def played(exceptions, *failures):
-    """How often a day is played whose plays fail with these words, and whether it came to its end."""
-    from page_tests import webkit
-    left = [*failures, None]
-
-    def play():
-        words = left.pop(0)
-        if words is not None:
-            raise exceptions.WebDriverException(words)
-
-    with contextlib.suppress(exceptions.WebDriverException):
-        webkit.twice_at_most(play)
-        return len(failures) + 1 - len(left), True
-    return len(failures) + 1 - len(left), False
-
-
-def test_a_day_whose_browser_ended_by_itself_is_played_once_more():
+@pytest.mark.parametrize("failures, plays", [([], 1), ([""], 2), (["", ""], 2), (["move target out of bounds"], 1)])
+def test_a_day_whose_driver_fails_without_a_word_is_played_once_more(failures, plays):
     """And no other: neither one whose driver says why it failed, nor for a third time."""
     exceptions = pytest.importorskip("selenium.common.exceptions", reason="python3-selenium isn't there")
-    assert played(exceptions) == (1, True)
-    assert played(exceptions, "") == (2, True)
-    assert played(exceptions, "", "") == (2, False)
-    assert played(exceptions, "move target out of bounds") == (1, False)
+    from page_tests import webkit
+    begun = []
+
+    def play():
+        begun.append(None)
+        if len(begun) <= len(failures):
+            raise exceptions.WebDriverException(failures[len(begun) - 1])
+
+    to_its_end = len(failures) < plays
+    with contextlib.nullcontext() if to_its_end else pytest.raises(exceptions.WebDriverException):
+        webkit.twice_at_most(play)
+    assert len(begun) == plays

@@ -26,23 +26,23 @@ BROWSERS = "/usr/lib/*/webkit2gtk-4.*/MiniBrowser"
 def trial(program, pictures):
     if lacking():
         pytest.skip(f"not installed: {', '.join(lacking())}")
-    twice_at_most(page_of, program, pictures)
+    twice_at_most(play_page, program, pictures)
 
 
-def page_of(program, pictures):
+def play_page(program, pictures):
     with Place(program) as place, WebKit(pictures) as browser:
         play(program, place, browser)
 
 
 def twice_at_most(play_all, *words):
-    """Plays it, from its start once more where the driver fails and can't say why: then its browser ended by itself, as
-    MiniBrowser does in some hundred hours, and nothing was told of the page. What a page does wrong has a reason."""
+    """Plays it, and from its start once more where a browser's driver fails and can't say why, as WebKit's did once in
+    the midst of a day: that tells nothing of the page. What a page does wrong has a reason."""
     try:
         return play_all(*words)
     except WebDriverException as error:
         if type(error) is not WebDriverException or error.msg:
             raise
-        tell("a browser of WebKit ended by itself: what it played is played once more")
+        tell("a browser's driver failed and didn't say why: all is played once more")
         return play_all(*words)
 
 
